@@ -1,0 +1,13 @@
+//! The words in which every other crate speaks of the instruction set: security states, sizes of
+//! accesses, shifts, codes, and the instructions of Armv8-M Mainline without floating point and DSP.
+//!
+//! Nothing here runs an instruction; it only names them.
+#![tactic(auto)]
+
+mod instruction;
+mod units;
+
+pub use instruction::{
+    Address, BarrierOp, DataOp, ExtendOp, FieldOp, Flags, Insn, LongOp, MultiplyOp, ReverseOp,
+};
+pub use units::{Code, Shift, Side, Size, Width};
