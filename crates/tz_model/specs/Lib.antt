@@ -1,0 +1,9 @@
+pub mod Board
+pub mod Image
+pub mod Outside
+pub mod Memory
+pub mod Attribution
+pub mod Access
+pub mod Fetch
+pub mod State
+pub mod Shelves

@@ -1,0 +1,26 @@
+//! The machine's model: boards, images and reports as values, the traits of the outside with their
+//! meanings, and the definitions of state, attribution, access and fetch.
+//!
+//! The definitions stand in `specs/`; the code here only holds values, and the doubles of the outside
+//! that tests use.
+#![tactic(auto)]
+
+mod board;
+mod image;
+mod outside;
+mod report;
+mod shelf_double;
+mod sink_double;
+
+pub use board::{Board, Profile, Region, RegionKind, RegionSide, SauRegion};
+pub use image::{Image, Segment};
+pub use outside::{Shelf, ShelfError, Sink, SinkError};
+pub use report::{
+    Before, Change, CrossKind, Fault, Outcome, Report, ScriptEvent, Slot, StepKind, Store, Way,
+};
+pub use shelf_double::{FailingShelf, File, MemoryShelf};
+pub use sink_double::{FailingSink, MemorySink};
+pub use tz_table::{
+    Address, BarrierOp, Code, DataOp, ExtendOp, FieldOp, Flags, Insn, LongOp, MultiplyOp,
+    ReverseOp, Shift, Side, Size, Width,
+};
