@@ -1,0 +1,4 @@
+pub mod Words
+pub mod Sums
+pub mod Shifts
+pub mod Constants
