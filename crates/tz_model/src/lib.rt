@@ -16,7 +16,7 @@ pub use board::{Board, Profile, Region, RegionKind, RegionSide, SauRegion};
 pub use image::{Image, Segment};
 pub use outside::{Shelf, ShelfError, Sink, SinkError};
 pub use report::{
-    Before, Change, CrossKind, Fault, Outcome, Report, ScriptEvent, Slot, StepKind, Store, Way,
+    Before, Change, CrossKind, Fault, Outcome, Report, ScriptEvent, Slot, StepKind, Store, View, Way,
 };
 pub use shelf_double::{FailingShelf, File, MemoryShelf};
 pub use sink_double::{FailingSink, MemorySink};

@@ -133,6 +133,13 @@ impl Default for Store {
     }
 }
 
+/// What a trace shows of a step: what Non-secure code sees of it, or all.
+#[derive(Clone, Copy)]
+pub enum View {
+    Ns,
+    All,
+}
+
 /// What a report needs of the state before an instruction.
 #[derive(Clone, Copy)]
 pub struct Before {

@@ -1,0 +1,6 @@
+pub mod Decode
+pub mod Exec
+pub mod Step
+pub mod Boot
+pub mod Seen
+pub mod Text

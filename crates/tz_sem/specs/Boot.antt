@@ -1,0 +1,62 @@
+-- The state in which the machine starts (DDI0553, `TakeReset`).
+use Rattle.std.specs.Prelude.{ℕ, ◌+◌, ◌*◌, ◌/◌, ◌%◌, ◌==◌, Bool, true, false, ◌&&◌, if◌then◌else◌, List, [], ◌∷◌, ◌++◌, replicate}
+use Rattle.std.specs.FinMap.{from_entries}
+use Rattle.tz_table.specs.declared.units.Side.TheVariants.{Secure}
+use Rattle.tz_table.specs.declared.units.Size.TheVariants.{Word}
+use Rattle.tz_model.specs.declared.board.Region.{Region}
+use Rattle.tz_model.specs.Board.{BoardValue}
+use Rattle.tz_model.specs.Image.{SegmentValue, ImageValue}
+use Rattle.tz_model.specs.Memory.{Memory, wrap, every, word_at, entries_from, with_bytes}
+use Rattle.tz_model.specs.Access.{is_mapped}
+use Rattle.tz_model.specs.State.{State}
+
+-- zeros at each address of the regions
+abbrev pub zero_entries : List Region → List (ℕ × ℕ)
+zero_entries [] = []
+zero_entries (r ∷ rs) = entries_from r.base (replicate r.size 0) ++ zero_entries rs
+
+unfoldable pub zero_memory : List Region → Memory
+zero_memory rs = from_entries (zero_entries rs)
+
+-- the bytes of segments put into memory, one segment after the other
+unfoldable pub with_segments : Memory → List SegmentValue → Memory
+with_segments m [] = m
+with_segments m (s ∷ more) = with_segments (with_bytes m s.base s.bytes) more
+
+-- memory is zero but for the two images
+abbrev pub boot_memory : BoardValue → ImageValue → ImageValue → Memory
+boot_memory b secure nonsecure = with_segments (with_segments (zero_memory b.regions) secure.segments) nonsecure.segments
+
+-- the values of a reset, with this memory, stack pointer and start
+abbrev pub reset : BoardValue → Memory → ℕ → ℕ → Bool → State
+reset b m sp start locked =
+    record {
+      side = Secure;
+      locked = locked;
+      regs = replicate 13 0;
+      lr = 0xFFFFFFFF;
+      pc = start / 2 * 2;
+      n = false;
+      z = false;
+      c = false;
+      v = false;
+      t = start % 2 == 1;
+      ipsr = 0;
+      msp_s = sp / 4 * 4;
+      msp_ns = 0;
+      memory = m;
+      board = b;
+    }
+
+-- both words at the start of the Secure vector table are in memory
+abbrev pub has_vectors : BoardValue → Bool
+has_vectors b = every (is_mapped b.regions) b.secure_vtor Word && every (is_mapped b.regions) (wrap (b.secure_vtor + 4)) Word
+
+abbrev pub start_from : BoardValue → Memory → State
+start_from b m =
+    if has_vectors b then reset b m (word_at m b.secure_vtor) (word_at m (wrap (b.secure_vtor + 4))) false
+    else reset b m 0 0 true
+
+-- the start of a board with a Secure and a Non-secure image
+unfoldable pub boot : BoardValue → ImageValue → ImageValue → State
+boot b secure nonsecure = start_from b (boot_memory b secure nonsecure)
