@@ -1,0 +1,6 @@
+//! The machine.
+#![tactic(auto)]
+
+mod code;
+
+pub use code::decode;

@@ -1,0 +1,2 @@
+//! Bytes of the board's regions.
+#![tactic(auto)]
