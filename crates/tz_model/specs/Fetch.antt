@@ -6,20 +6,12 @@ use Rattle.tz_table.specs.declared.units.Size.TheVariants.{Half}
 use Rattle.tz_table.specs.declared.units.Code.{Code}
 use Rattle.tz_model.specs.declared.report.Fault.{Fault}
 use Rattle.tz_model.specs.declared.report.Fault.TheVariants.{Transition, EntryPoint, Exec, ExecBus}
+use Rattle.tz_model.specs.declared.fetch.Fetched.{Fetched}
+use Rattle.tz_model.specs.declared.fetch.FetchAnswer.{FetchAnswer}
 use Rattle.tz_model.specs.Memory.{Memory, wrap, every, half_at}
 use Rattle.tz_model.specs.Board.{BoardValue, within}
 use Rattle.tz_model.specs.Attribution.{is_nonsecure, is_callable, fetch_attribution}
 use Rattle.tz_model.specs.Access.{is_mapped}
-
--- what a fetch gives: a code, and whether it is the gateway, reached from Non-secure state
-pub record Fetched : Type 0 where
-  pub code : Code
-  pub gateway : Bool
-
--- a fetch: whether it looked at a Secure address for Non-secure code, and its answer
-pub record Fetch : Type 0 where
-  pub touched : Bool
-  pub answer : Result Fetched Fault
 
 -- the default map lets code run everywhere but here
 abbrev pub is_executable : ℕ → Bool
@@ -95,11 +87,11 @@ is_entry_fault (Ok fetched) = false
 is_entry_fault (Err EntryPoint) = true
 is_entry_fault (Err fault) = false
 
-abbrev pub own_touch : Result Fetched Fault → Fetch
+abbrev pub own_touch : Result Fetched Fault → FetchAnswer
 own_touch answer = record { touched = is_entry_fault answer; answer = answer }
 
 -- the fetch of the instruction at PC
-unfoldable pub fetch : BoardValue → Side → Memory → ℕ → Fetch
+unfoldable pub fetch : BoardValue → Side → Memory → ℕ → FetchAnswer
 fetch b Secure m pc = record { touched = true; answer = own_fetch b Secure m pc }
 fetch b NonSecure m pc =
     if is_own_fetch b NonSecure pc then own_touch (own_fetch b NonSecure m pc)

@@ -2,6 +2,7 @@ pub mod Board
 pub mod Image
 pub mod Outside
 pub mod Memory
+pub mod Zeros
 pub mod Attribution
 pub mod Access
 pub mod Fetch

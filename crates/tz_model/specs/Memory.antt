@@ -66,7 +66,7 @@ abbrev pub entries_from : ℕ → List ℕ → List (ℕ × ℕ)
 entries_from base [] = []
 entries_from base (b ∷ bs) = (base, b) ∷ entries_from (base + 1) bs
 
--- bytes put from an address on
+-- bytes put from an address on; an image's segments never wrap
 unfoldable pub with_bytes : Memory → ℕ → List ℕ → Memory
 with_bytes m a [] = m
-with_bytes m a (b ∷ bs) = with_bytes (with_byte m a b) (a + 1) bs
+with_bytes m a (b ∷ bs) = with_bytes (with_byte m a b) (wrap (a + 1)) bs

@@ -6,6 +6,7 @@
 #![tactic(auto)]
 
 mod board;
+mod fetch;
 mod image;
 mod outside;
 mod report;
@@ -13,6 +14,7 @@ mod shelf_double;
 mod sink_double;
 
 pub use board::{Board, Profile, Region, RegionKind, RegionSide, SauRegion};
+pub use fetch::{FetchAnswer, Fetched};
 pub use image::{Image, Segment};
 pub use outside::{Shelf, ShelfError, Sink, SinkError};
 pub use report::{

@@ -1,22 +1,13 @@
 -- The state in which the machine starts (DDI0553, `TakeReset`).
-use Rattle.std.specs.Prelude.{ℕ, ◌+◌, ◌*◌, ◌/◌, ◌%◌, ◌==◌, Bool, true, false, ◌&&◌, if◌then◌else◌, List, [], ◌∷◌, ◌++◌, replicate}
-use Rattle.std.specs.FinMap.{from_entries}
+use Rattle.std.specs.Prelude.{ℕ, ◌+◌, ◌*◌, ◌/◌, ◌%◌, ◌==◌, Bool, true, false, ◌&&◌, if◌then◌else◌, List, [], ◌∷◌, replicate}
 use Rattle.tz_table.specs.declared.units.Side.TheVariants.{Secure}
 use Rattle.tz_table.specs.declared.units.Size.TheVariants.{Word}
-use Rattle.tz_model.specs.declared.board.Region.{Region}
 use Rattle.tz_model.specs.Board.{BoardValue}
 use Rattle.tz_model.specs.Image.{SegmentValue, ImageValue}
-use Rattle.tz_model.specs.Memory.{Memory, wrap, every, word_at, entries_from, with_bytes}
+use Rattle.tz_model.specs.Memory.{Memory, wrap, every, word_at, with_bytes}
+use Rattle.tz_model.specs.Zeros.{zero_memory}
 use Rattle.tz_model.specs.Access.{is_mapped}
 use Rattle.tz_model.specs.State.{State}
-
--- zeros at each address of the regions
-abbrev pub zero_entries : List Region → List (ℕ × ℕ)
-zero_entries [] = []
-zero_entries (r ∷ rs) = entries_from r.base (replicate r.size 0) ++ zero_entries rs
-
-unfoldable pub zero_memory : List Region → Memory
-zero_memory rs = from_entries (zero_entries rs)
 
 -- the bytes of segments put into memory, one segment after the other
 unfoldable pub with_segments : Memory → List SegmentValue → Memory

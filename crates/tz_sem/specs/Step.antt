@@ -16,7 +16,9 @@ use Rattle.tz_model.specs.declared.report.Before.{Before}
 use Rattle.tz_model.specs.declared.report.Report.{Report}
 use Rattle.tz_model.specs.Memory.{wrap}
 use Rattle.tz_model.specs.Access.{Answers, accesses}
-use Rattle.tz_model.specs.Fetch.{Fetched, Fetch, fetch, is_own_fetch, wide, sg_half}
+use Rattle.tz_model.specs.declared.fetch.Fetched.{Fetched}
+use Rattle.tz_model.specs.declared.fetch.FetchAnswer.{FetchAnswer}
+use Rattle.tz_model.specs.Fetch.{fetch, is_own_fetch, wide, sg_half}
 use Rattle.tz_model.specs.State.{State}
 use Rattle.tz_sem.specs.Decode.{decode}
 use Rattle.tz_sem.specs.Exec.{Local, Finished, even_of, plan, finish, stores_in}
@@ -162,7 +164,7 @@ abbrev pub fetched : State → Bool → Result Fetched Fault → Stepped
 fetched s touched (Err fault) = locks s touched
 fetched s touched (Ok f) = if f.gateway then enters s else decoded s touched f.code (decode f.code)
 
-abbrev pub fetches : State → Fetch → Stepped
+abbrev pub fetches : State → FetchAnswer → Stepped
 fetches s f = fetched s f.touched f.answer
 
 -- a step that fetches nothing looks at Secure state where it starts Secure, or at a Secure address
