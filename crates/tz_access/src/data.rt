@@ -1,6 +1,7 @@
 //! Data accesses: alignment, attribution, map.
 
 ghost use Rattle.std.specs.Prelude.{◌≡◌};
+ghost use Rattle.tz_table.specs.declared.units.Size.TheVariants.{Word};
 ghost use Rattle.tz_model.specs.Memory.{every};
 ghost use Rattle.tz_model.specs.Attribution.{is_open};
 ghost use Rattle.tz_model.specs.Access.{is_aligned, is_mapped, is_writable, may_touch, is_crooked, verdict, load_verdict, store_verdict};
@@ -58,6 +59,13 @@ pub fn all_mapped(regions: &[Region], addr: u32, size: Size) -> bool
                 && is_mapped(regions, addr.wrapping_add(3))
         }
     }
+}
+
+/// Whether regions of a board hold each byte of a word.
+pub fn is_word_mapped(board: &Board, addr: u32) -> bool
+    ensures { result ≡ every (is_mapped board.now.regions) addr Word }
+{
+    all_mapped(&board.regions, addr, Size::Word)
 }
 
 /// Whether each byte of an access takes writes.

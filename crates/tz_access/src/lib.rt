@@ -7,5 +7,5 @@
 mod data;
 mod fetch;
 
-pub use data::{load_verdict, store_verdict};
+pub use data::{is_word_mapped, load_verdict, store_verdict};
 pub use fetch::{fetch_at, is_own_fetch};

@@ -1,6 +1,14 @@
-//! The machine.
+//! The machine: a board with two images in its memory, and its steps.
+//!
+//! `Machine` stands for a `State`, and `step` for the step relation. The order of a step is here; what
+//! memory holds, how addresses are attributed and which check fails first is decided below.
 #![tactic(auto)]
 
+mod changes;
 mod code;
+mod execute;
+mod running;
+mod start;
 
 pub use code::decode;
+pub use running::Machine;

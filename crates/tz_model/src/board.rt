@@ -3,6 +3,9 @@
 //!
 //! A `Board` always meets the ranges of the board file: `IsBoard` says which they are.
 
+ghost use Rattle.std.specs.Prelude.{◌≡◌, IfOk};
+
+use std::alloc::{AllocError, Global};
 use std::marker::Model;
 
 /// What a region takes.
@@ -95,4 +98,25 @@ impl Model for Board {
       regions = b.regions.items;
       sau = b.sau.items;
     }) };
+}
+
+impl Board {
+    /// A board that is equal to this one.
+    pub fn duplicate(&self, alloc: Global) -> Result<Board, AllocError>
+        ensures { IfOk result (λ b. b ≡ self.now) }
+    {
+        let regions = Vec::from_slice(alloc, &self.regions)?;
+        let sau = Vec::from_slice(alloc, &self.sau)?;
+        Ok(Board {
+            secure_vtor: self.secure_vtor,
+            nonsecure_vtor: self.nonsecure_vtor,
+            interrupts: self.interrupts,
+            sau_regions: self.sau_regions,
+            mpu_secure: self.mpu_secure,
+            mpu_nonsecure: self.mpu_nonsecure,
+            profile: self.profile,
+            regions,
+            sau,
+        })
+    }
 }

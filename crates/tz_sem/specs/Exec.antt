@@ -20,14 +20,13 @@ use Rattle.tz_model.specs.declared.report.Store as stores
 use Rattle.tz_model.specs.Memory.{wrap}
 use Rattle.tz_model.specs.Access.{Access, Load, Store}
 
--- the registers of the running code, with its own stack pointer and the next instruction's address
+-- the registers of the running code, with its own stack pointer
 pub record Local : Type 0 where
   pub side : Side
   pub regs : List ℕ
   pub sp : ℕ
   pub lr : ℕ
   pub pc : ℕ
-  pub next : ℕ
   pub n : Bool
   pub z : Bool
   pub c : Bool
@@ -87,9 +86,9 @@ abbrev pub exchange_ns : Side → Local → ℕ → Finished
 exchange_ns Secure l target = Ok (l, Exchange target true)
 exchange_ns NonSecure l target = Err Undef
 
--- BLX: LR is the next instruction's address with bit 0 set, T is bit 0 of the target
+-- BLX, of two bytes: LR is the next instruction's address with bit 0 set, T is bit 0 of the target
 abbrev pub called : Local → ℕ → Local × Outcome
-called l target = (record l { lr = even_of l.next + 1; t = target % 2 == 1 }, Jump (even_of target))
+called l target = (record l { lr = even_of (wrap (l.pc + 2)) + 1; t = target % 2 == 1 }, Jump (even_of target))
 
 -- what an instruction leaves, after its accesses gave these words, and how it goes on; an
 -- instruction that isn't built is undefined

@@ -41,9 +41,9 @@ abbrev pub length_of : Code → ℕ
 length_of code = length_with code.second
 
 -- what the running code has
-abbrev pub local_of : State → ℕ → Local
-local_of s next =
-    record { side = s.side; regs = s.regs; sp = sp_of s.side s; lr = s.lr; pc = s.pc; next = next; n = s.n; z = s.z; c = s.c; v = s.v; t = s.t }
+abbrev pub local_of : State → Local
+local_of s =
+    record { side = s.side; regs = s.regs; sp = sp_of s.side s; lr = s.lr; pc = s.pc; n = s.n; z = s.z; c = s.c; v = s.v; t = s.t }
 
 -- what it leaves; no instruction that is built writes the stack pointer or PC
 abbrev pub with_local : State → Local → State
@@ -108,24 +108,24 @@ abbrev pub return_way : State → Option Way
 return_way s = Some (record { kind = Return; number = s.ipsr; lr = None })
 
 -- BXNS in Secure state: where bit 0 of the target is 0, Non-secure code runs on
-abbrev pub branch_ns : Before → Code → ℕ → State → Stepped
-branch_ns b code target s =
+abbrev pub branch_ns : Before → Code → List Store → ℕ → State → Stepped
+branch_ns b code stores target s =
     if target % 2 == 0
-    then ran b code (return_way s) [] (record s { pc = even_of target; t = true; side = NonSecure })
-    else ran b code None [] (record s { pc = even_of target; t = true })
+    then ran b code (return_way s) stores (record s { pc = even_of target; t = true; side = NonSecure })
+    else ran b code None stores (record s { pc = even_of target; t = true })
 
 -- BX and BXNS; a return to Secure code that was called is not built, and faults
-abbrev pub exchanged : Before → Code → ℕ → Bool → State → Stepped
-exchanged b code target ns s =
+abbrev pub exchanged : Before → Code → List Store → ℕ → Bool → State → Stepped
+exchanged b code stores target ns s =
     if is_fnc_return target then locks s true
-    else if ns then branch_ns b code target s
-    else ran b code None [] (record s { pc = even_of target; t = target % 2 == 1 })
+    else if ns then branch_ns b code stores target s
+    else ran b code None stores (record s { pc = even_of target; t = target % 2 == 1 })
 
 -- how a step goes on after its instruction
 abbrev pub goes_on : Before → Code → List Store → State → Outcome → Stepped
 goes_on b code stores s Next = ran b code None stores (record s { pc = wrap (b.pc + length_of code) })
 goes_on b code stores s (Jump to) = ran b code None stores (record s { pc = to })
-goes_on b code stores s (Exchange target ns) = exchanged b code target ns s
+goes_on b code stores s (Exchange target ns) = exchanged b code stores target ns s
 goes_on b code stores s (Sleep event) = ran b code None stores (record s { pc = wrap (b.pc + length_of code) })
 
 -- what an instruction leaves: its words are read, and its own case applies
@@ -133,16 +133,13 @@ abbrev pub finished : State → Finished → State × Result Outcome Fault
 finished s (Ok f) = (with_local s f.0, Ok f.1)
 finished s (Err fault) = (s, Err fault)
 
-abbrev pub executed_with : State → ℕ → Insn → Answers → State × Result Outcome Fault
-executed_with s next i (m, Ok words) = finished (record s { memory = m }) (finish i (local_of s next) words)
-executed_with s next i (m, Err fault) = (record s { memory = m }, Err fault)
+abbrev pub executed_with : State → Insn → Answers → State × Result Outcome Fault
+executed_with s i (m, Ok words) = finished (record s { memory = m }) (finish i (local_of s) words)
+executed_with s i (m, Err fault) = (record s { memory = m }, Err fault)
 
 -- the state after an instruction but for PC, and how it goes on or its fault
-abbrev pub executed : State → ℕ → Insn → State × Result Outcome Fault
-executed s next i = executed_with s next i (accesses s.board s.side s.memory (plan i (local_of s next)))
-
-abbrev pub next_of : State → Code → ℕ
-next_of s code = wrap (s.pc + length_of code)
+abbrev pub executed : State → Insn → State × Result Outcome Fault
+executed s i = executed_with s i (accesses s.board s.side s.memory (plan i (local_of s)))
 
 -- each fault locks the machine
 abbrev pub executes : State → Bool → Code → List Store → State × Result Outcome Fault → Stepped
@@ -152,7 +149,7 @@ executes s touched code stores (s', Err fault) = locks s' touched
 abbrev pub decoded : State → Bool → Code → Option Insn → Stepped
 decoded s touched code None = locks s touched
 decoded s touched code (Some i) =
-    executes s touched code (stores_in (plan i (local_of s (next_of s code)))) (executed s (next_of s code) i)
+    executes s touched code (stores_in (plan i (local_of s))) (executed s i)
 
 -- SG reached from Non-secure state: bit 0 of LR is cleared, and Secure code runs on
 abbrev pub enters : State → Stepped
