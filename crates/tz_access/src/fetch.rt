@@ -1,7 +1,7 @@
 //! Fetches (DDI0553, `GetInstr`).
 
 ghost use Rattle.std.specs.Prelude.{◌≡◌};
-ghost use Rattle.tz_model.specs.Fetch.{is_executable, is_half_mapped, is_own_fetch, wrong_side, half_verdict, with_first, own_fetch, is_entry, gateway_fetch, is_entry_fault, fetch};
+ghost use Rattle.tz_model.specs.Fetch.{is_executable, is_half_mapped, is_own_byte, is_own_fetch, wrong_side, half_verdict, with_first, own_fetch, is_entry, gateway_fetch, is_entry_fault, fetch};
 
 use crate::data::all_mapped;
 use tz_mem::Memory;
@@ -22,15 +22,22 @@ fn is_half_mapped(board: &Board, addr: u32) -> bool
 }
 
 /// Whether an address is of the side that fetches from it.
-#[tactic(auto, unfolding(tz_model::specs::Fetch::is_own_fetch))]
-pub fn is_own_fetch(board: &Board, side: Side, addr: u32) -> bool
-    ensures { result ≡ is_own_fetch board.now side addr }
+fn is_own_byte(board: &Board, side: Side, addr: u32) -> bool
+    ensures { result ≡ is_own_byte board.now side addr }
 {
     let nonsecure = fetch_attribution(board, side, addr) == RegionSide::NonSecure;
     match side {
         Side::Secure => !nonsecure,
         Side::NonSecure => nonsecure,
     }
+}
+
+/// Whether both bytes of a halfword are of the side that fetches them.
+#[tactic(auto, unfolding(tz_model::specs::Fetch::is_own_fetch))]
+pub fn is_own_fetch(board: &Board, side: Side, addr: u32) -> bool
+    ensures { result ≡ is_own_fetch board.now side addr }
+{
+    is_own_byte(board, side, addr) && is_own_byte(board, side, addr.wrapping_add(1))
 }
 
 fn wrong_side(side: Side) -> Fault

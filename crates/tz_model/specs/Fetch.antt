@@ -25,10 +25,15 @@ needs_second first = nat_le 0xE800 first
 abbrev pub is_half_mapped : BoardValue → ℕ → Bool
 is_half_mapped b a = every (is_mapped b.regions) a Half
 
--- the halfword's address is of the side that fetches
+-- an address is of the side that fetches from it
+abbrev pub is_own_byte : BoardValue → Side → ℕ → Bool
+is_own_byte b Secure a = not (is_nonsecure (fetch_attribution b Secure a))
+is_own_byte b NonSecure a = is_nonsecure (fetch_attribution b NonSecure a)
+
+-- both bytes of a halfword are of the side that fetches; they always agree, since PC is even and
+-- attribution goes by blocks of 32 bytes
 unfoldable pub is_own_fetch : BoardValue → Side → ℕ → Bool
-is_own_fetch b Secure a = not (is_nonsecure (fetch_attribution b Secure a))
-is_own_fetch b NonSecure a = is_nonsecure (fetch_attribution b NonSecure a)
+is_own_fetch b side a = every (is_own_byte b side) a Half
 
 -- the fault of a fetch from the other side's memory
 abbrev pub wrong_side : Side → Fault

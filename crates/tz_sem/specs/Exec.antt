@@ -1,6 +1,6 @@
 -- The operation of each instruction that is built (DDI0553, chapter C2), over what the running code
 -- has: the accesses that it makes, and what it leaves once these gave their words.
-use Rattle.std.specs.Prelude.{ℕ, ◌+◌, ◌-◌, ◌*◌, ◌/◌, ◌%◌, ◌^◌, ◌==◌, nat_le, Bool, true, false, if◌then◌else◌, List, [], ◌∷◌, ◌++◌, slice_index, slice_set, Result, Ok, Err, ℤ}
+use Rattle.std.specs.Prelude.{ℕ, ◌+◌, ◌-◌, ◌*◌, ◌/◌, ◌%◌, ◌^◌, ◌==◌, nat_le, Bool, true, false, if◌then◌else◌, List, [], ◌∷◌, slice_index, slice_set, Result, Ok, Err, ℤ}
 use Rattle.std.specs.Int.{w32, cast_unsigned}
 use Rattle.tz_bits.specs.Sums.{sum_of, carry_out, overflow_of}
 use Rattle.tz_table.specs.declared.units.Side.{Side}

@@ -1,5 +1,5 @@
 -- One step of the machine, with its report.
-use Rattle.std.specs.Prelude.{ℕ, ◌+◌, ◌*◌, ◌/◌, ◌%◌, ◌^◌, ◌==◌, Bool, true, false, ◌||◌, not, if◌then◌else◌, List, [], ◌∷◌, ◌++◌, Option, Some, None, Result, Ok, Err}
+use Rattle.std.specs.Prelude.{ℕ, ◌+◌, ◌%◌, ◌^◌, ◌==◌, Bool, true, ◌||◌, not, if◌then◌else◌, List, [], ◌∷◌, ◌++◌, Option, Some, None, Result, Ok, Err}
 use Rattle.tz_table.specs.declared.units.Side.{Side}
 use Rattle.tz_table.specs.declared.units.Side.TheVariants.{Secure, NonSecure}
 use Rattle.tz_table.specs.declared.units.Code.{Code}
@@ -94,8 +94,13 @@ ran b code way stores s =
     record {
       state = s;
       report = record {
-        start = b.side; end = side_of s; touched = b.touched; way = way; kind = Ran b.pc code;
-        changes = record { items = changes_of b s }; stores = record { items = stores };
+        start = b.side;
+        end = side_of s;
+        touched = b.touched;
+        way = way;
+        kind = Ran b.pc code;
+        changes = record { items = changes_of b s };
+        stores = record { items = stores };
       };
     }
 
