@@ -65,30 +65,68 @@ fn push_insn(text: &mut Line, pc: u32, insn: Insn)
     ensures len { array_string_len text.new ≤ array_string_len text.old + 30 }
 {
     match insn {
-        Insn::DataImm { op: DataOp::Mov, flags: Flags::OutsideIt, rd, rn: _, imm12 } => {
+        Insn::DataImm {
+            op: DataOp::Mov,
+            flags: Flags::OutsideIt,
+            rd,
+            rn: _,
+            imm12,
+        } => {
             text.push_str("movs ");
             push_register(text, rd);
             text.push_str(", #");
             push_decimal(text, u32::from(imm12));
         }
-        Insn::DataImm { op: DataOp::Add, flags: Flags::OutsideIt, rd, rn, imm12 } => {
+        Insn::DataImm {
+            op: DataOp::Add,
+            flags: Flags::OutsideIt,
+            rd,
+            rn,
+            imm12,
+        } => {
             push_constant(text, "adds ", rd, rn, imm12);
         }
-        Insn::DataImm { op: DataOp::Sub, flags: Flags::OutsideIt, rd, rn, imm12 } => {
+        Insn::DataImm {
+            op: DataOp::Sub,
+            flags: Flags::OutsideIt,
+            rd,
+            rn,
+            imm12,
+        } => {
             push_constant(text, "subs ", rd, rn, imm12);
         }
-        Insn::Load { size: Size::Word, signed: false, rt, address: Address::Literal { offset }, user: false } => {
+        Insn::Load {
+            size: Size::Word,
+            signed: false,
+            rt,
+            address: Address::Literal { offset },
+            user: false,
+        } => {
             push_access(text, "ldr ", rt, 15, offset);
         }
-        Insn::Load { size: Size::Word, signed: false, rt, address: Address::Offset { rn, offset }, user: false } => {
+        Insn::Load {
+            size: Size::Word,
+            signed: false,
+            rt,
+            address: Address::Offset { rn, offset },
+            user: false,
+        } => {
             push_access(text, "ldr ", rt, rn, offset);
         }
-        Insn::Store { size: Size::Word, rt, address: Address::Offset { rn, offset }, user: false } => {
+        Insn::Store {
+            size: Size::Word,
+            rt,
+            address: Address::Offset { rn, offset },
+            user: false,
+        } => {
             push_access(text, "str ", rt, rn, offset);
         }
         Insn::Branch { offset } => {
             text.push_str("b 0x");
-            push_hex_word(text, pc.wrapping_add(4).wrapping_add(offset.cast_unsigned()));
+            push_hex_word(
+                text,
+                pc.wrapping_add(4).wrapping_add(offset.cast_unsigned()),
+            );
         }
         Insn::BranchExchange { rm, ns } => {
             text.push_str(if ns { "bxns " } else { "bx " });

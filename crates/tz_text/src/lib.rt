@@ -7,6 +7,8 @@
 mod digits;
 mod instructions;
 mod lines;
+#[cfg(test)]
+mod tests;
 
 pub use digits::Line;
 pub use lines::line;
