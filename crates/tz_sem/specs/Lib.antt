@@ -1,6 +1,7 @@
 pub mod Decode
 pub mod Exec
 pub mod Step
+pub mod Run
 pub mod Boot
 pub mod Seen
 pub mod Text

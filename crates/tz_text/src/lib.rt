@@ -1,0 +1,15 @@
+//! The lines of the trace: what a step did, as one line of text.
+//!
+//! A line is exactly what the definition `line` says, for every report and both views. It is built in
+//! the value that is returned and takes no memory. Of the machine it knows nothing but reports.
+#![tactic(auto)]
+
+mod digits;
+mod instructions;
+mod lines;
+#[cfg(test)]
+mod tests;
+
+pub use digits::Line;
+pub use lines::line;
+pub use tz_model::View;
