@@ -6,5 +6,9 @@
 #![tactic(auto)]
 
 mod demo;
+mod error;
+mod keys;
+mod tables;
 
 pub use demo::demo_board;
+pub use error::{BoardError, Key, Place};
