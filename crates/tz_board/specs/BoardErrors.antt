@@ -1,6 +1,8 @@
 -- The errors of the board reader beside the refusals of the grammar.
-use Rattle.std.specs.Prelude.{◌≡◌, Option, Some, None, Err}
-use Rattle.tz_sem.specs.Boards.{Key as FileKey, SecureVtor, NonsecureVtor, Interrupts, SauRegions, MpuSecure, MpuNonsecure, Profile, Region, Base, Size, Kind, Side, Sau, Limit, Nsc, Place as FilePlace, Top, InRegion, InSau, BoardRefusal, NotToml, Missing, WrongKind, Range, TooMany, Overlap, Read}
+use Rattle.std.specs.Prelude.{◌≡◌, ◌≤◌, IsTrue, Option, Some, None, Err}
+use Rattle.tz_model.specs.Board.{is_vtor, within}
+use Rattle.tz_sem.specs.Boards.{Key as FileKey, SecureVtor, NonsecureVtor, Interrupts, SauRegions, MpuSecure, MpuNonsecure, Profile, Region, Base, Size, Kind, Side, Sau, Limit, Nsc, Place as FilePlace, Top, InRegion, InSau, BoardRefusal, NotToml, Missing, WrongKind, Range, TooMany, Overlap, Read, Numbers as NumbersValue}
+use Rattle.tz_board.specs.declared.board.Numbers.{Numbers}
 use Rattle.tz_board.specs.declared.error.Key.{Key}
 use Rattle.tz_board.specs.declared.error.Key.TheVariants as keys
 use Rattle.tz_board.specs.declared.error.Place.{Place}
@@ -47,3 +49,23 @@ IsTold (Some refusal) read = read ≡ Err refusal
 -- the error is the refusal of what was read, or want of memory
 abbrev pub IsRefusal : {A : Type 0} → BoardError → Read A → Type 0
 IsRefusal e read = IsTold (refusal_of e) read
+
+-- the numbers of a board file as its grammar has them
+abbrev pub numbers_of : Numbers → NumbersValue
+numbers_of n = record {
+  secure_vtor = n.secure_vtor;
+  nonsecure_vtor = n.nonsecure_vtor;
+  interrupts = n.interrupts;
+  sau_regions = n.sau_regions;
+  mpu_secure = n.mpu_secure;
+  mpu_nonsecure = n.mpu_nonsecure;
+}
+
+-- the numbers are within their ranges
+pub record AreWithin (n : Numbers) : Type 0 where
+  pub secure_vtor : IsTrue (is_vtor n.secure_vtor)
+  pub nonsecure_vtor : IsTrue (is_vtor n.nonsecure_vtor)
+  pub interrupts : IsTrue (within 1 240 n.interrupts)
+  pub sau_regions : n.sau_regions ≤ 8
+  pub mpu_secure : n.mpu_secure ≤ 16
+  pub mpu_nonsecure : n.mpu_nonsecure ≤ 16

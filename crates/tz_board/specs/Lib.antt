@@ -1,1 +1,2 @@
 pub mod BoardErrors
+pub mod Tables

@@ -1,14 +1,13 @@
 //! The values at the keys of a board file, one key at a time: absent, of a wrong kind, out of range.
 
-ghost use Rattle.std.specs.Prelude.{◌≡◌, ◌<◌, ◌≤◌, IfOk, IfErr, Ok, option_map};
+ghost use Rattle.std.specs.Prelude.{◌≡◌, ◌<◌, ◌≤◌, ◌%◌, IfOk, IfErr, Ok, option_map};
 ghost use Rattle.toml.specs.View.{table_view, view};
 ghost use Rattle.tz_sem.specs.Boards.{found_at, flag_at, in_range, kind_at, number_at, profile_at, profile_named, side_at, text_at};
 ghost use Rattle.tz_board.specs.BoardErrors.{IsRefusal, place_of};
 
+use crate::error::{BoardError, Place};
 use toml::{Table, Value};
 use tz_model::{Profile, RegionKind, RegionSide};
-
-use crate::error::{BoardError, Place};
 
 /// What the table holds at the key of a place.
 pub fn value_at<'a>(table: &'a Table, place: Place) -> Option<&'a Value>
@@ -18,16 +17,11 @@ pub fn value_at<'a>(table: &'a Table, place: Place) -> Option<&'a Value>
 }
 
 /// The number, if it is from `low` to `high` and a multiple of `unit`.
-fn in_range(
-    place: Place,
-    number: i64,
-    low: u32,
-    high: u32,
-    unit: u32,
-) -> Result<u32, BoardError>
+fn in_range(place: Place, number: i64, low: u32, high: u32, unit: u32) -> Result<u32, BoardError>
     requires { 0 < unit }
     ensures ok { IfOk result (λ n. in_range (place_of place) low high unit number ≡ Ok n) }
     ensures err { IfErr result (λ e. IsRefusal e (in_range (place_of place) low high unit number)) }
+    ensures within { IfOk result (λ n. (low ≤ n) × (n ≤ high) × (n % unit ≡ 0)) }
 {
     let Ok(n) = u32::try_from(number) else {
         return Err(BoardError::Range(place));
@@ -50,6 +44,7 @@ pub fn number(
     requires { 0 < unit }
     ensures ok { IfOk result (λ n. number_at (place_of place) low high unit (table_view table.now) ≡ Ok n) }
     ensures err { IfErr result (λ e. IsRefusal e (number_at (place_of place) low high unit (table_view table.now))) }
+    ensures within { IfOk result (λ n. (low ≤ n) × (n ≤ high) × (n % unit ≡ 0)) }
 {
     match value_at(table, place) {
         None => Err(BoardError::Missing(place)),

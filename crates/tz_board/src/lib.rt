@@ -5,10 +5,13 @@
 //! toml's own word.
 #![tactic(auto)]
 
+mod board;
 mod demo;
 mod error;
 mod keys;
+mod limits;
 mod tables;
 
+pub use board::read_board;
 pub use demo::demo_board;
 pub use error::{BoardError, Key, Place};

@@ -185,18 +185,24 @@ abbrev pub some_table : List Members → Read (List Members)
 some_table [] = Err (Missing (Top Region))
 some_table (table ∷ more) = Ok (table ∷ more)
 
--- the regions, of which there is at least one
-abbrev pub regions_at : Members → Read (List RegionValue)
-regions_at ms = do
-  d ← required (Top Region) (found_at (Top Region) ms)
+-- the regions of a list of tables, of which there is at least one
+abbrev pub regions_listed : Data → Read (List RegionValue)
+regions_listed d = do
   tables ← tables_in (Top Region) d
   tables ← some_table tables
   each region_in 0 tables
 
+abbrev pub regions_at : Members → Read (List RegionValue)
+regions_at ms = required (Top Region) (found_at (Top Region) ms) >>= regions_listed
+
+-- the SAU regions of a list of tables
+abbrev pub sau_listed : Data → Read (List SauRegion)
+sau_listed d = tables_in (Top Sau) d >>= each sau_region_in 0
+
 -- the SAU regions, of which there may be none
 abbrev pub sau_in : Option Data → Read (List SauRegion)
 sau_in None = Ok []
-sau_in (Some d) = tables_in (Top Sau) d >>= each sau_region_in 0
+sau_in (Some d) = sau_listed d
 
 abbrev pub sau_at : Members → Read (List SauRegion)
 sau_at ms = sau_in (found_at (Top Sau) ms)
