@@ -5,3 +5,4 @@ pub mod Run
 pub mod Boot
 pub mod Seen
 pub mod Text
+pub mod Demo

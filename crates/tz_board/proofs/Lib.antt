@@ -1,0 +1,4 @@
+pub mod Lists
+pub mod Overlaps
+pub mod Accepted
+pub mod Documents

@@ -1,0 +1,17 @@
+//! Boards and scripts: what the program reads beside images.
+//!
+//! The grammars of both files, with the order of their refusals, are definitions of tz_sem; the
+//! readers here answer exactly the value or the refusal that those give. Whether bytes are TOML is
+//! toml's own word.
+#![tactic(auto)]
+
+mod board;
+mod demo;
+mod error;
+mod keys;
+mod limits;
+mod tables;
+
+pub use board::read_board;
+pub use demo::demo_board;
+pub use error::{BoardError, Key, Place};
