@@ -4,3 +4,6 @@ pub mod Step
 pub mod Boot
 pub mod Seen
 pub mod Text
+pub mod Placement
+pub mod PlainImage
+pub mod Images
