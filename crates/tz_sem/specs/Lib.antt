@@ -6,3 +6,6 @@ pub mod Boot
 pub mod Seen
 pub mod Text
 pub mod Demo
+pub mod Placement
+pub mod PlainImage
+pub mod Images
