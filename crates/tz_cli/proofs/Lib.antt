@@ -1,0 +1,3 @@
+pub mod Exits
+pub mod Names
+pub mod Clauses

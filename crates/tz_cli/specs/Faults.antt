@@ -1,0 +1,96 @@
+-- What a fault of the files says of the outside and of what is settled.
+use Rattle.std.specs.Prelude.{◌≡◌, ℕ, Bool, List, [], Option, Some, None, IsTrue, codes}
+use Rattle.tz_model.specs.declared.outside.ShelfError.{ShelfError}
+use Rattle.tz_model.specs.declared.outside.ShelfError.TheVariants as shelf_errors
+use Rattle.tz_model.specs.Outside.{Held, Absent, Rose}
+use Rattle.tz_sem.specs.Images.{Refusal}
+use Rattle.tz_sem.specs.Images as refusals
+use Rattle.tz_board.specs.BoardErrors.{refusal_of}
+use Rattle.tz_elf.specs.declared.error.ElfError.{ElfError}
+use Rattle.tz_elf.specs.declared.error.ElfError.TheVariants as errors
+use Rattle.tz_cli.specs.declared.stops.File.{File}
+use Rattle.tz_cli.specs.declared.stops.Fault.{Fault}
+use Rattle.tz_cli.specs.declared.stops.Fault.TheVariants.{Unread, Long, Board, Image, Memory}
+use Rattle.tz_cli.specs.declared.files.Files.{Files}
+use Rattle.tz_cli.specs.Words.{RunWords}
+use Rattle.tz_cli.specs.Lines.{line_of, status_of}
+use Rattle.tz_cli.specs.Told as stops
+use Rattle.tz_cli.specs.Told.{Stop, Told, Start, TooLong, BadBoard, BadImage}
+use Rattle.tz_cli.specs.Answer.{AllowsStop, IsReached, IsUnread, name_in}
+
+-- the refusal that an error tells; want of memory tells none
+abbrev pub image_refusal : ElfError → Option Refusal
+image_refusal errors.Magic = Some refusals.Magic
+image_refusal errors.ClassOrOrder = Some refusals.ClassOrOrder
+image_refusal errors.TypeOrMachine = Some refusals.TypeOrMachine
+image_refusal errors.HeaderCut = Some refusals.HeaderCut
+image_refusal (errors.SegmentCut index) = Some (refusals.SegmentCut index)
+image_refusal (errors.Outside index) = Some (refusals.Outside index)
+image_refusal (errors.WrongSide index) = Some (refusals.WrongSide index)
+image_refusal (errors.Overlap earlier index) = Some (refusals.Overlap earlier index)
+image_refusal (errors.Hex line) = Some (refusals.Hex line)
+image_refusal errors.Memory = None
+
+-- a refusal is what is settled; no refusal says nothing
+abbrev pub AllowsRefusal : {A E : Type 0} → Told A → (E → Stop) → Option E → Type 0
+AllowsRefusal told stop None = Unit {0}
+AllowsRefusal told stop (Some refusal) = AllowsStop told (stop refusal)
+
+-- the shelf's word and counts in a call
+pub record Shelved : Type 0 where
+  pub held : List ℕ → Held
+  pub sound : Bool
+  pub before : ℕ
+  pub now : ℕ
+
+-- the fault of a file that a shelf doesn't give
+abbrev pub unread_in : File → ShelfError → Fault
+unread_in file shelf_errors.Failed = Unread file
+unread_in file shelf_errors.Long = Long file
+unread_in file shelf_errors.Memory = Memory
+
+-- a fault of one file
+abbrev pub IsStageFault : {A : Type 0} → Shelved → RunWords → File → Told A → Fault → Type 0
+IsStageFault s r file told (Unread f) = (f ≡ file) × Rose s.before s.now × (IsTrue s.sound → s.held (name_in r file) ≡ Absent)
+IsStageFault s r file told (Long f) = AllowsStop told (TooLong (name_in r f))
+IsStageFault s r file told (Board e) = AllowsRefusal told (BadBoard r.board) (refusal_of e)
+IsStageFault s r file told (Image f e) = AllowsRefusal told (BadImage (name_in r f)) (image_refusal e)
+IsStageFault s r file told Memory = Unit {0}
+
+-- a fault of the files of a run
+abbrev pub IsFault : {A : Type 0} → Shelved → RunWords → Told A → Fault → Type 0
+IsFault s r told (Unread f) = IsUnread s.held s.sound s.before s.now r f
+IsFault s r told (Long f) = AllowsStop told (TooLong (name_in r f))
+IsFault s r told (Board e) = AllowsRefusal told (BadBoard r.board) (refusal_of e)
+IsFault s r told (Image f e) = AllowsRefusal told (BadImage (name_in r f)) (image_refusal e)
+IsFault s r told Memory = Unit {0}
+
+-- the stop that a fault tells; want of memory tells none
+abbrev pub stop_with : {E : Type 0} → (E → Stop) → Option E → Option Stop
+stop_with stop None = None
+stop_with stop (Some refusal) = Some (stop refusal)
+
+abbrev pub stop_of : RunWords → Fault → Option Stop
+stop_of r (Unread f) = Some (stops.Unread (name_in r f))
+stop_of r (Long f) = Some (TooLong (name_in r f))
+stop_of r (Board e) = stop_with (BadBoard r.board) (refusal_of e)
+stop_of r (Image f e) = stop_with (BadImage (name_in r f)) (image_refusal e)
+stop_of r Memory = None
+
+-- the code of a refusal; want of memory has none
+abbrev pub code_with : {E : Type 0} → (E → List ℕ) → Option E → List ℕ
+code_with code None = []
+code_with code (Some refusal) = code refusal
+
+-- the line of a fault, and its status
+abbrev pub line_with : Option Stop → List ℕ
+line_with None = codes "no memory\n"
+line_with (Some stop) = line_of stop
+
+abbrev pub status_with : Option Stop → ℕ
+status_with None = 7
+status_with (Some stop) = status_of stop
+
+-- the files as a start
+abbrev pub start_in : Files → Start
+start_in f = record { board = f.board; secure = f.secure; nonsecure = f.nonsecure }

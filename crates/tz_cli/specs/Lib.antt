@@ -1,0 +1,5 @@
+pub mod Words
+pub mod Told
+pub mod Lines
+pub mod Answer
+pub mod Faults

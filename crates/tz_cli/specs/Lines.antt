@@ -1,0 +1,57 @@
+-- The lines on standard error, and the statuses that go with them.
+use Rattle.std.specs.Prelude.{ℕ, List, ◌++◌, codes, decimal}
+use Rattle.tz_sem.specs.Images.{Refusal, Magic, ClassOrOrder, TypeOrMachine, HeaderCut, SegmentCut, Outside, WrongSide, Hex}
+use Rattle.tz_sem.specs.Images as images
+use Rattle.tz_board.specs.Boards.{BoardRefusal, NotToml, Missing, WrongKind, Range, TooMany, Place, Top, InRegion, InSau, key_text}
+use Rattle.tz_board.specs.Boards as boards
+use Rattle.tz_cli.specs.Told.{Stop, BadWords, TooManySteps, Unread, TooLong, BadBoard, BadImage}
+
+abbrev pub image_code : Refusal → List ℕ
+image_code Magic = codes "L1"
+image_code ClassOrOrder = codes "L2"
+image_code TypeOrMachine = codes "L3"
+image_code HeaderCut = codes "L4"
+image_code (SegmentCut index) = codes "L5 " ++ decimal index
+image_code (Outside index) = codes "L6 " ++ decimal index
+image_code (WrongSide index) = codes "L7 " ++ decimal index
+image_code (images.Overlap earlier index) = codes "L8 " ++ decimal earlier ++ codes " " ++ decimal index
+image_code (Hex line) = codes "L9 " ++ decimal line
+
+abbrev pub place_text : Place → List ℕ
+place_text (Top key) = key_text key
+place_text (InRegion index key) = codes "region " ++ decimal index ++ codes " " ++ key_text key
+place_text (InSau index key) = codes "sau " ++ decimal index ++ codes " " ++ key_text key
+
+abbrev pub board_code : BoardRefusal → List ℕ
+board_code NotToml = codes "B1"
+board_code (Missing place) = codes "B2 " ++ place_text place
+board_code (WrongKind place) = codes "B3 " ++ place_text place
+board_code (Range place) = codes "B4 " ++ place_text place
+board_code (boards.Overlap i j) = codes "B5 " ++ decimal i ++ codes " " ++ decimal j
+board_code TooMany = codes "B6"
+
+-- a refused file: its name, and the code with its place
+abbrev pub refused_line : List ℕ → List ℕ → List ℕ
+refused_line name code = name ++ codes ": " ++ code ++ codes "\n"
+
+abbrev pub unread_line : List ℕ → List ℕ
+unread_line name = codes "cannot read " ++ name ++ codes "\n"
+
+abbrev pub limit_line : List ℕ → List ℕ
+limit_line name = codes "limit " ++ name ++ codes "\n"
+
+abbrev pub line_of : Stop → List ℕ
+line_of BadWords = codes "usage\n"
+line_of TooManySteps = codes "limit steps\n"
+line_of (Unread name) = unread_line name
+line_of (TooLong name) = limit_line name
+line_of (BadBoard name refusal) = refused_line name (board_code refusal)
+line_of (BadImage name refusal) = refused_line name (image_code refusal)
+
+abbrev pub status_of : Stop → ℕ
+status_of BadWords = 2
+status_of TooManySteps = 6
+status_of (Unread name) = 3
+status_of (TooLong name) = 6
+status_of (BadBoard name refusal) = 5
+status_of (BadImage name refusal) = 5

@@ -1,0 +1,103 @@
+-- What the words and a shelf's word settle: that a command stops, and why, or what it begins with.
+use Rattle.std.specs.Prelude.{◌≡◌, ℕ, nat_lt, Bool, true, false, if◌then◌else◌, List, [], length, codes, Option, Some, None, Result, Ok, Err}
+use Rattle.std.specs.Str.{bytes_eq}
+use Rattle.tz_table.specs.declared.units.Side.{Side}
+use Rattle.tz_table.specs.declared.units.Side.TheVariants.{Secure, NonSecure}
+use Rattle.tz_model.specs.Board.{BoardValue}
+use Rattle.tz_model.specs.Image.{ImageValue}
+use Rattle.tz_model.specs.Outside.{Held, Untold, Absent, Holds}
+use Rattle.tz_model.specs.State.{State}
+use Rattle.tz_sem.specs.Boot.{boot}
+use Rattle.tz_sem.specs.Demo.{demo}
+use Rattle.tz_sem.specs.Images.{Refusal, image_of}
+use Rattle.tz_sem.specs.Text.{text_from}
+use Rattle.tz_board.specs.Boards.{BoardRefusal, board_of}
+use Rattle.tz_cli.specs.Words.{RunWords}
+
+-- why a command stops before it begins
+pub data Stop : Type 0 where
+  BadWords : Stop
+  TooManySteps : Stop
+  Unread : (name : List ℕ) → Stop
+  TooLong : (name : List ℕ) → Stop
+  BadBoard : (name : List ℕ) (refusal : BoardRefusal) → Stop
+  BadImage : (name : List ℕ) (refusal : Refusal) → Stop
+
+-- what is settled: nothing, where the shelf doesn't tell; that the command stops; or a value
+pub data Told (A : Type 0) : Type 0 where
+  Unknown : Told A
+  Stops : Stop → Told A
+  Gives : A → Told A
+
+-- one thing is settled after another
+abbrev pub told_then : {A B : Type 0} → Told A → (A → Told B) → Told B
+told_then Unknown next = Unknown
+told_then (Stops stop) next = Stops stop
+told_then (Gives x) next = next x
+
+-- limits of files, in bytes: 64 KiB and 8 MiB
+abbrev pub board_limit : ℕ
+board_limit = 65536
+
+abbrev pub image_limit : ℕ
+image_limit = 8388608
+
+abbrev pub step_limit : ℕ
+step_limit = 10000000
+
+-- the bytes of a file of at most so many bytes
+abbrev pub file_with : List ℕ → ℕ → Held → Told (List ℕ)
+file_with name limit Untold = Unknown
+file_with name limit Absent = Stops (Unread name)
+file_with name limit (Holds bytes) = if nat_lt limit (length bytes) then Stops (TooLong name) else Gives bytes
+
+-- what a grammar makes of bytes
+abbrev pub graded : {A E : Type 0} → (E → Stop) → Result A E → Told A
+graded stop (Ok x) = Gives x
+graded stop (Err refusal) = Stops (stop refusal)
+
+-- the built-in board, which is no file
+abbrev pub is_demo : List ℕ → Bool
+is_demo name = bytes_eq name (codes "@demo")
+
+unfoldable pub board_file : (List ℕ → Held) → List ℕ → Told BoardValue
+board_file held name = told_then (file_with name board_limit (held name)) (λ bytes. graded (BadBoard name) (board_of bytes))
+
+unfoldable pub board_told : (List ℕ → Held) → List ℕ → Told BoardValue
+board_told held name = if is_demo name then Gives demo else board_file held name
+
+unfoldable pub image_told : (List ℕ → Held) → BoardValue → Side → List ℕ → Told ImageValue
+image_told held b side name = told_then (file_with name image_limit (held name)) (λ bytes. graded (BadImage name) (image_of bytes b side))
+
+-- a board with its two images
+pub record Start : Type 0 where
+  pub board : BoardValue
+  pub secure : ImageValue
+  pub nonsecure : ImageValue
+
+abbrev pub secure_told : (List ℕ → Held) → RunWords → Told Start
+secure_told held r =
+    told_then (board_told held r.board) (λ b. told_then (image_told held b Secure r.secure) (λ s. Gives (record { board = b; secure = s; nonsecure = record { segments = [] } })))
+
+-- the files of a run, in the order of its words
+abbrev pub start_told : (List ℕ → Held) → RunWords → Told Start
+start_told held r =
+    told_then (secure_told held r) (λ p. told_then (image_told held p.board NonSecure r.nonsecure) (λ n. Gives (record p { nonsecure = n })))
+
+-- a run with what it begins with
+pub record Job : Type 0 where
+  pub words : RunWords
+  pub start : Start
+
+abbrev pub job_with : (List ℕ → Held) → Option RunWords → Told Job
+job_with held None = Stops BadWords
+job_with held (Some r) =
+    if nat_lt step_limit r.steps then Stops TooManySteps
+    else told_then (start_told held r) (λ start. Gives (record { words = r; start = start }))
+
+abbrev pub state_of : Start → State
+state_of start = boot start.board start.secure start.nonsecure
+
+-- the trace of a run
+abbrev pub text_of : Job → List ℕ
+text_of job = text_from job.words.view 0 (state_of job.start) job.words.steps

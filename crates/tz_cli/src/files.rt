@@ -1,0 +1,169 @@
+//! The files of a run: each is read, then its length, then its form, in the order of the words.
+
+ghost use Rattle.std.specs.Prelude.{◌≡◌, ◌≤◌, ◌<◌, ◌^◌, ℕ, List, length, IfOk, IfErr, IsErrOf, IsTrue, false};
+ghost use Rattle.std.specs.Str.{bytes_eq};
+ghost use Rattle.tz_model.specs.Outside.{Held, Absent, Rose};
+ghost use Rattle.tz_cli.specs.declared.stops.File.TheVariants as files;
+ghost use Rattle.tz_cli.specs.declared.stops.Fault.TheVariants as faults;
+ghost use Rattle.tz_cli.specs.Words.{run_in};
+ghost use Rattle.tz_cli.specs.Told.{file_with, board_told, image_told, secure_told, start_told, is_demo, TooLong};
+ghost use Rattle.tz_cli.specs.Answer.{Allows, AllowsStop, name_in};
+ghost use Rattle.tz_cli.specs.Faults.{unread_in, IsStageFault, IsFault, start_in};
+
+use crate::stops::{Fault, File};
+use crate::words::RunWords;
+use std::alloc::{AllocError, Global};
+use tz_board::{demo_board, read_board};
+use tz_elf::read_image;
+use tz_model::{Board, Image, Shelf, ShelfError, Side};
+
+/// What the files of a run give.
+#[derive(Drop)]
+pub struct Files {
+    pub board: Board,
+    pub secure: Image,
+    pub nonsecure: Image,
+}
+
+/// The most bytes of a board file.
+const BOARD_LIMIT: usize = 65_536;
+
+/// The most bytes of an image file.
+const IMAGE_LIMIT: usize = 8_388_608;
+
+/// The name of a file in the words.
+pub fn name_of<'a>(words: &RunWords<'a>, file: File) -> &'a str
+    ensures { result.now ≡ name_in (run_in words.now) file }
+{
+    match file {
+        File::Board => words.board,
+        File::Secure => words.secure,
+        File::Nonsecure => words.nonsecure,
+    }
+}
+
+/// The bytes of a file of at most `limit` bytes.
+fn read<H: Shelf>(
+    alloc: Global,
+    shelf: &mut H,
+    name: &str,
+    limit: usize,
+) -> Result<Vec<u8>, ShelfError>
+    requires { limit < 2 ^ 31 }
+    ensures ok { IfOk result (λ v. Allows (file_with name.now limit (H.held shelf.old name.now)) v.items) }
+    ensures short { IfOk result (λ v. length v.items ≤ limit) }
+    ensures long { IsErrOf result ShelfError.Long → AllowsStop (file_with name.now limit (H.held shelf.old name.now)) (TooLong name.now) }
+    ensures failed { IsErrOf result ShelfError.Failed → Rose (H.faults shelf.old) (H.faults shelf.new) }
+    ensures absent { IsTrue (H.sound shelf.old) → IsErrOf result ShelfError.Failed → H.held shelf.old name.now ≡ Absent }
+    ensures later { H.faults shelf.old ≤ H.faults shelf.new }
+    ensures sound { H.sound shelf.new ≡ H.sound shelf.old }
+    ensures held { H.held shelf.new ≡ H.held shelf.old }
+{
+    let mut bytes = Vec::new(alloc);
+    match shelf.get(name, limit, &mut bytes) {
+        Ok(()) => Ok(bytes),
+        Err(error) => Err(error),
+    }
+}
+
+/// The fault of a file that isn't read.
+fn unread(file: File, error: ShelfError) -> Fault
+    ensures { result ≡ unread_in file error }
+{
+    match error {
+        ShelfError::Failed => Fault::Unread(file),
+        ShelfError::Long => Fault::Long(file),
+        ShelfError::Memory => Fault::Memory,
+    }
+}
+
+/// The board that the words name: the built-in one, or a file.
+#[tactic(auto, unfolding(crate::specs::Told::board_told, crate::specs::Told::board_file))]
+fn load_board<H: Shelf>(
+    alloc: Global,
+    shelf: &mut H,
+    words: &RunWords<'_>,
+) -> Result<Board, Fault>
+    ensures ok { IfOk result (λ b. Allows (board_told (H.held shelf.old) words.now.board.now) b) }
+    ensures err { IfErr result (λ e. IsStageFault (record { held = H.held shelf.old; sound = H.sound shelf.old; before = H.faults shelf.old; now = H.faults shelf.new }) (run_in words.now) files.Board (board_told (H.held shelf.old) words.now.board.now) e) }
+    ensures named { IfErr result (λ e. e ≡ faults.Unread files.Board → is_demo words.now.board.now ≡ false) }
+    ensures later { H.faults shelf.old ≤ H.faults shelf.new }
+    ensures sound { H.sound shelf.new ≡ H.sound shelf.old }
+    ensures held { H.held shelf.new ≡ H.held shelf.old }
+{
+    if words.board == "@demo" {
+        return match demo_board(alloc) {
+            Ok(board) => Ok(board),
+            Err(_) => Err(Fault::Memory),
+        };
+    }
+    let bytes = match read(alloc, shelf, words.board, BOARD_LIMIT) {
+        Ok(bytes) => bytes,
+        Err(error) => return Err(unread(File::Board, error)),
+    };
+    match read_board(alloc, &bytes) {
+        Ok(board) => Ok(board),
+        Err(error) => Err(Fault::Board(error)),
+    }
+}
+
+/// An image that the words name, for a side of a board.
+#[tactic(auto, unfolding(crate::specs::Told::image_told))]
+fn load_image<H: Shelf>(
+    alloc: Global,
+    shelf: &mut H,
+    words: &RunWords<'_>,
+    file: File,
+    board: &Board,
+    side: Side,
+) -> Result<Image, Fault>
+    ensures ok { IfOk result (λ i. Allows (image_told (H.held shelf.old) board.now side (name_in (run_in words.now) file)) i) }
+    ensures err { IfErr result (λ e. IsStageFault (record { held = H.held shelf.old; sound = H.sound shelf.old; before = H.faults shelf.old; now = H.faults shelf.new }) (run_in words.now) file (image_told (H.held shelf.old) board.now side (name_in (run_in words.now) file)) e) }
+    ensures later { H.faults shelf.old ≤ H.faults shelf.new }
+    ensures sound { H.sound shelf.new ≡ H.sound shelf.old }
+    ensures held { H.held shelf.new ≡ H.held shelf.old }
+{
+    let bytes = match read(alloc, shelf, name_of(words, file), IMAGE_LIMIT) {
+        Ok(bytes) => bytes,
+        Err(error) => return Err(unread(file, error)),
+    };
+    match read_image(alloc, &bytes, board, side) {
+        Ok(image) => Ok(image),
+        Err(error) => Err(Fault::Image(file, error)),
+    }
+}
+
+/// The files of a run, in the order of its words.
+pub fn load<H: Shelf>(
+    alloc: Global,
+    shelf: &mut H,
+    words: &RunWords<'_>,
+) -> Result<Files, Fault>
+    ensures ok { IfOk result (λ f. Allows (start_told (H.held shelf.old) (run_in words.now)) (start_in f)) }
+    ensures err { IfErr result (λ e. IsFault (record { held = H.held shelf.old; sound = H.sound shelf.old; before = H.faults shelf.old; now = H.faults shelf.new }) (run_in words.now) (start_told (H.held shelf.old) (run_in words.now)) e) }
+    ensures later { H.faults shelf.old ≤ H.faults shelf.new }
+{
+    let board = match load_board(alloc, shelf, words) {
+        Ok(board) => board,
+        Err(fault) => return Err(fault),
+    };
+    let secure = match load_image(alloc, shelf, words, File::Secure, &board, Side::Secure) {
+        Ok(image) => image,
+        Err(fault) => return Err(fault),
+    };
+    match load_image(
+        alloc,
+        shelf,
+        words,
+        File::Nonsecure,
+        &board,
+        Side::NonSecure,
+    ) {
+        Ok(nonsecure) => Ok(Files {
+            board,
+            secure,
+            nonsecure,
+        }),
+        Err(fault) => Err(fault),
+    }
+}

@@ -1,0 +1,188 @@
+//! The lines on standard error.
+//!
+//! A line is built whole and goes out as one put. Its text is exactly the definition's.
+
+ghost use Rattle.std.specs.Prelude.{◌≡◌, ◌≤◌, ◌+◌, ◌++◌, IfOk, OnOk, decimal, length, vec_len};
+ghost use Rattle.tz_cli.specs.Answer.{most_name};
+ghost use Rattle.tz_cli.specs.declared.stops.Fault.TheVariants as faults;
+ghost use Rattle.tz_sem.specs.Images.{Refusal};
+ghost use Rattle.tz_board.specs.BoardErrors.{refusal_of, place_of};
+ghost use Rattle.tz_cli.specs.Words.{run_in};
+ghost use Rattle.tz_cli.specs.Lines.{board_code, image_code, place_text, refused_line, unread_line, limit_line};
+ghost use Rattle.tz_cli.specs.Faults.{image_refusal, line_with, status_with, stop_of, code_with};
+
+use crate::files::name_of;
+use crate::stops::Fault;
+use crate::words::RunWords;
+use itoa::Buffer;
+use std::alloc::{AllocError, Global};
+use tz_board::{BoardError, Place};
+use tz_elf::ElfError;
+
+/// Appends a text.
+fn push_text(line: &mut Vec<u8>, text: &str) -> Result<(), AllocError>
+    ensures bytes { OnOk result (line.new.items ≡ line.old.items ++ text.now) }
+    ensures len { OnOk result (vec_len line.new ≤ vec_len line.old + length text.now) }
+{
+    line.extend_from_slice(text.as_bytes())
+}
+
+/// Appends a number in decimal digits.
+fn push_number(line: &mut Vec<u8>, number: u32) -> Result<(), AllocError>
+    ensures bytes { OnOk result (line.new.items ≡ line.old.items ++ decimal number) }
+    ensures len { OnOk result (vec_len line.new ≤ vec_len line.old + 10) }
+{
+    let mut buffer = Buffer::new();
+    push_text(line, buffer.format(number))
+}
+
+/// Appends a place of a board file.
+fn push_place(line: &mut Vec<u8>, place: Place) -> Result<(), AllocError>
+    ensures bytes { OnOk result (line.new.items ≡ line.old.items ++ place_text (place_of place)) }
+    ensures len { OnOk result (vec_len line.new ≤ vec_len line.old + 32) }
+{
+    match place {
+        Place::Top(_) => {}
+        Place::Region(index, _) => {
+            push_text(line, "region ")?;
+            push_number(line, index)?;
+            push_text(line, " ")?;
+        }
+        Place::Sau(index, _) => {
+            push_text(line, "sau ")?;
+            push_number(line, index)?;
+            push_text(line, " ")?;
+        }
+    }
+    push_text(line, place.key().text())
+}
+
+/// Appends a code and a number.
+fn push_code(line: &mut Vec<u8>, code: &str, number: u32) -> Result<(), AllocError>
+    ensures bytes { OnOk result (line.new.items ≡ line.old.items ++ (code.now ++ decimal number)) }
+    ensures len { OnOk result (vec_len line.new ≤ vec_len line.old + length code.now + 10) }
+{
+    push_text(line, code)?;
+    push_number(line, number)
+}
+
+/// Appends the code of an image's refusal with its place; of want of memory nothing.
+fn push_image_error(line: &mut Vec<u8>, error: ElfError) -> Result<(), AllocError>
+    ensures bytes { OnOk result (line.new.items ≡ line.old.items ++ code_with image_code (image_refusal error)) }
+    ensures len { OnOk result (vec_len line.new ≤ vec_len line.old + 24) }
+{
+    match error {
+        ElfError::Magic => push_text(line, "L1"),
+        ElfError::ClassOrOrder => push_text(line, "L2"),
+        ElfError::TypeOrMachine => push_text(line, "L3"),
+        ElfError::HeaderCut => push_text(line, "L4"),
+        ElfError::SegmentCut(index) => push_code(line, "L5 ", index),
+        ElfError::Outside(index) => push_code(line, "L6 ", index),
+        ElfError::WrongSide(index) => push_code(line, "L7 ", index),
+        ElfError::Overlap(earlier, index) => {
+            push_code(line, "L8 ", earlier)?;
+            push_code(line, " ", index)
+        }
+        ElfError::Hex(number) => push_code(line, "L9 ", number),
+        ElfError::Memory => Ok(()),
+    }
+}
+
+/// Appends the code of a board's refusal with its place; of want of memory nothing.
+fn push_board_error(line: &mut Vec<u8>, error: BoardError) -> Result<(), AllocError>
+    ensures bytes { OnOk result (line.new.items ≡ line.old.items ++ code_with board_code (refusal_of error)) }
+    ensures len { OnOk result (vec_len line.new ≤ vec_len line.old + 36) }
+{
+    match error {
+        BoardError::NotToml => push_text(line, "B1"),
+        BoardError::Missing(place) => {
+            push_text(line, "B2 ")?;
+            push_place(line, place)
+        }
+        BoardError::WrongKind(place) => {
+            push_text(line, "B3 ")?;
+            push_place(line, place)
+        }
+        BoardError::Range(place) => {
+            push_text(line, "B4 ")?;
+            push_place(line, place)
+        }
+        BoardError::Overlap(i, j) => {
+            push_code(line, "B5 ", i)?;
+            push_code(line, " ", j)
+        }
+        BoardError::TooMany => push_text(line, "B6"),
+        BoardError::Memory => Ok(()),
+    }
+}
+
+/// The line of a file that can't be read.
+fn unread_line(alloc: Global, name: &str) -> Result<Vec<u8>, AllocError>
+    ensures bytes { IfOk result (λ line. line.items ≡ unread_line name.now) }
+    ensures len { IfOk result (λ line. vec_len line ≤ 64 + length name.now) }
+{
+    let mut line = Vec::new(alloc);
+    push_text(&mut line, "cannot read ")?;
+    push_text(&mut line, name)?;
+    push_text(&mut line, "\n")?;
+    Ok(line)
+}
+
+/// The line of a file that is too long.
+fn limit_line(alloc: Global, name: &str) -> Result<Vec<u8>, AllocError>
+    ensures bytes { IfOk result (λ line. line.items ≡ limit_line name.now) }
+    ensures len { IfOk result (λ line. vec_len line ≤ 64 + length name.now) }
+{
+    let mut line = Vec::new(alloc);
+    push_text(&mut line, "limit ")?;
+    push_text(&mut line, name)?;
+    push_text(&mut line, "\n")?;
+    Ok(line)
+}
+
+/// The line of a board that is refused.
+fn board_line(alloc: Global, name: &str, error: BoardError) -> Result<Vec<u8>, AllocError>
+    ensures bytes { IfOk result (λ line. line.items ≡ refused_line name.now (code_with board_code (refusal_of error))) }
+    ensures len { IfOk result (λ line. vec_len line ≤ 64 + length name.now) }
+{
+    let mut line = Vec::new(alloc);
+    push_text(&mut line, name)?;
+    push_text(&mut line, ": ")?;
+    push_board_error(&mut line, error)?;
+    push_text(&mut line, "\n")?;
+    Ok(line)
+}
+
+/// The line of an image that is refused.
+fn image_line(alloc: Global, name: &str, error: ElfError) -> Result<Vec<u8>, AllocError>
+    ensures bytes { IfOk result (λ line. line.items ≡ refused_line name.now (code_with image_code (image_refusal error))) }
+    ensures len { IfOk result (λ line. vec_len line ≤ 64 + length name.now) }
+{
+    let mut line = Vec::new(alloc);
+    push_text(&mut line, name)?;
+    push_text(&mut line, ": ")?;
+    push_image_error(&mut line, error)?;
+    push_text(&mut line, "\n")?;
+    Ok(line)
+}
+
+/// The line of a fault, and its status: 3, 5, 6, or 7 for want of memory.
+pub fn fault_line(
+    alloc: Global,
+    words: &RunWords<'_>,
+    fault: Fault,
+) -> Result<(Vec<u8>, u8), AllocError>
+    ensures line { IfOk result (λ p. p.0.items ≡ line_with (stop_of (run_in words.now) fault)) }
+    ensures len { IfOk result (λ p. vec_len p.0 ≤ 64 + most_name (run_in words.now)) }
+    ensures status { IfOk result (λ p. p.1 ≡ status_with (stop_of (run_in words.now) fault)) }
+{
+    match fault {
+        Fault::Unread(file) => Ok((unread_line(alloc, name_of(words, file))?, 3)),
+        Fault::Long(file) => Ok((limit_line(alloc, name_of(words, file))?, 6)),
+        Fault::Board(BoardError::Memory) | Fault::Image(_, ElfError::Memory) | Fault::Memory => {
+            Err(AllocError)
+        }
+        Fault::Board(error) => Ok((board_line(alloc, words.board, error)?, 5)),
+        Fault::Image(file, error) => Ok((image_line(alloc, name_of(words, file), error)?, 5)),
+    }
+}

@@ -1,0 +1,10 @@
+//! tzrun.
+#![tactic(auto)]
+
+mod files;
+mod lines;
+mod stops;
+mod program;
+mod words;
+
+fn main() {}

@@ -1,0 +1,22 @@
+//! Why a command stops before it begins.
+
+use tz_board::BoardError;
+use tz_elf::ElfError;
+
+/// A file that the words name.
+#[derive(Clone, Copy)]
+pub enum File {
+    Board,
+    Secure,
+    Nonsecure,
+}
+
+/// Why the files give no start.
+#[derive(Clone, Copy)]
+pub enum Fault {
+    Unread(File),
+    Long(File),
+    Board(BoardError),
+    Image(File, ElfError),
+    Memory,
+}
