@@ -1,0 +1,5 @@
+pub mod Counts
+pub mod WordAnswers
+pub mod WordTurns
+pub mod WordValues
+pub mod WordWalks

@@ -1,0 +1,4 @@
+pub mod Found
+pub mod Leaf
+pub mod Parts
+pub mod Words
