@@ -1,2 +1,4 @@
 pub mod BoardErrors
 pub mod Tables
+pub mod Text
+pub mod Script

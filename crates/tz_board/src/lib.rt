@@ -10,8 +10,11 @@ mod demo;
 mod error;
 mod keys;
 mod limits;
+mod script;
 mod tables;
+mod text;
 
 pub use board::read_board;
 pub use demo::demo_board;
+pub use script::Script;
 pub use error::{BoardError, Key, Place};

@@ -1,0 +1,87 @@
+//! Scripts: the events that are set pending, and when.
+//!
+//! A script keeps the steps that have events in ascending order, each with its events, so that the
+//! events of a step are found by halving.
+
+ghost use Rattle.std.specs.Prelude.{◌≡◌, ℕ, ◌<◌, ◌≤◌, ◌+◌, ◌++◌, [], ◌∷◌, IfOk, IsTrue, ◌≢◌, MatchOption, slice_index, length};
+ghost use Rattle.tz_sem.specs.Scripts.{due_at, last_step, most_events};
+ghost use Rattle.tz_board.specs.Script.{ascend, steps_of};
+
+use std::alloc::{AllocError, Global};
+use std::marker::Model;
+use std::sync::ledger::Ledger;
+use tz_model::ScriptEvent;
+use tz_ready::Steps;
+
+/// A step that has events.
+#[derive(Drop)]
+struct Moment {
+    step: u32,
+    events: Vec<ScriptEvent>,
+}
+
+/// Events with their steps: at most 10,000, and no step is below the one before.
+#[derive(Drop)]
+pub struct Script {
+    moments: Vec<Moment>,
+}
+
+impl Model for Script {
+    ghost use Rattle.std.specs.Prelude.{List};
+    ghost use Rattle.tz_sem.specs.Scripts.{Timed};
+
+    ghost Value = { List Timed };
+
+    ghost use Rattle.tz_board.specs.Script.{IsKept, all_timed};
+
+    ghost view = { λ s. all_timed s.moments.items };
+
+    ghost invariant = { λ s. IsKept s.moments.items };
+}
+
+/// Where a step stands among the moments.
+fn find<L: Ledger>(moments: &[Moment], step: u32, steps: &mut Steps<L>) -> Option<usize>
+    requires ascending { IsTrue (ascend (steps_of moments.now)) }
+    requires few { length moments.now ≤ 10000 }
+    ensures at { MatchOption result ((k : ℕ) → k < length moments.now → slice_index (steps_of moments.now) k ≢ step) (λ i. (i < length moments.now) × (slice_index (steps_of moments.now) i ≡ step)) }
+    ensures looks { (steps.old ≤ steps.new) × (steps.new ≤ steps.old + 14) }
+{
+    let mut low = 0;
+    let mut high = moments.len();
+    while low < high {
+        let middle = low + (high - low) / 2;
+        steps.look();
+        let here = moments[middle].step;
+        if here == step {
+            return Some(middle);
+        }
+        if here < step {
+            low = middle + 1;
+        } else {
+            high = middle;
+        }
+    }
+    None
+}
+
+impl Script {
+    /// The script without events.
+    pub fn none(alloc: Global) -> Script
+        ensures { result ≡ [] }
+    {
+        Script {
+            moments: Vec::new(alloc),
+        }
+    }
+
+    /// The events of a step, in their order. At most 14 steps are looked at.
+    pub fn due<L: Ledger>(&self, step: u32, steps: &mut Steps<L>) -> &[ScriptEvent]
+        ensures events { result.now ≡ due_at step self.now }
+        ensures looks { (steps.old ≤ steps.new) × (steps.new ≤ steps.old + 14) }
+    {
+        match find(&self.moments, step, steps) {
+            Some(index) => &self.moments[index].events,
+            None => &[],
+        }
+    }
+}
