@@ -7,3 +7,4 @@ pub mod Digits
 pub mod Halving
 pub mod Halving
 pub mod Moments
+pub mod Opening

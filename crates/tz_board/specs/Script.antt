@@ -1,5 +1,5 @@
 -- Scripts as they are kept: the steps that have events, ascending, each with its events.
-use Rattle.std.specs.Prelude.{ℕ, ◌<◌, nat_lt, Bool, true, ◌&&◌, List, [], ◌∷◌, ◌++◌, length, map, IsTrue}
+use Rattle.std.specs.Prelude.{◌≡◌, ℕ, nat_lt, Bool, true, ◌&&◌, List, [], ◌∷◌, ◌++◌, length, map, IsTrue}
 use Rattle.tz_sem.specs.Scripts.{IsScript, Timed}
 use Rattle.tz_board.specs.declared.script.Moment.{Moment}
 
@@ -34,3 +34,10 @@ pub record IsKept (moments : List Moment) : Type 0 where
   pub ascending : IsTrue (ascend (steps_of moments))
   pub some_events : IsTrue (have_events moments)
   pub script : IsScript (all_timed moments)
+
+-- a moment of a step that was taken off the end of some moments, or is to come after them
+pub record Opens (old new : List Moment) (step : ℕ) (m : Moment) : Type 0 where
+  pub step_is : m.step ≡ step
+  pub events : all_timed old ≡ all_timed new ++ timed_of m
+  pub ascending : IsTrue (ascend (steps_of new ++ step ∷ []))
+  pub some_events : IsTrue (have_events new)

@@ -5,7 +5,7 @@
 
 ghost use Rattle.std.specs.Prelude.{◌≡◌, ℕ, ◌<◌, ◌≤◌, ◌+◌, ◌++◌, [], ◌∷◌, IfOk, IsTrue, ◌≢◌, MatchOption, slice_index, length};
 ghost use Rattle.tz_sem.specs.Scripts.{due_at, last_step, most_events};
-ghost use Rattle.tz_board.specs.Script.{ascend, steps_of};
+ghost use Rattle.tz_board.specs.Script.{IsKept, Opens, all_timed, ascend, steps_of};
 
 use std::alloc::{AllocError, Global};
 use std::marker::Model;
@@ -64,6 +64,39 @@ fn find<L: Ledger>(moments: &[Moment], step: u32, steps: &mut Steps<L>) -> Optio
     None
 }
 
+/// A moment without events.
+fn new_moment(alloc: Global, step: u32) -> Moment
+    ensures step { result.step ≡ step }
+    ensures events { result.events.items ≡ [] }
+{
+    Moment {
+        step,
+        events: Vec::new(alloc),
+    }
+}
+
+/// The moment of a step, off the end of the moments where it stands there, else without events.
+fn open_moment(
+    alloc: Global,
+    moments: &mut Vec<Moment>,
+    step: u32,
+) -> Result<Moment, AllocError>
+    requires kept { IsKept moments.old.items }
+    requires order { last_step 0 (all_timed moments.old.items) ≤ step }
+    ensures { IfOk result (Opens moments.old.items moments.new.items step) }
+{
+    match moments.pop() {
+        None => Ok(new_moment(alloc, step)),
+        Some(last) => {
+            if last.step == step {
+                return Ok(last);
+            }
+            moments.push(last)?;
+            Ok(new_moment(alloc, step))
+        }
+    }
+}
+
 impl Script {
     /// The script without events.
     pub fn none(alloc: Global) -> Script
@@ -72,6 +105,24 @@ impl Script {
         Script {
             moments: Vec::new(alloc),
         }
+    }
+
+    /// The script with one more event at its end.
+    fn with_event(
+        self,
+        alloc: Global,
+        step: u32,
+        event: ScriptEvent,
+    ) -> Result<Script, AllocError>
+        requires room { length self < most_events }
+        requires order { last_step 0 self ≤ step }
+        ensures { IfOk result (λ s. s ≡ self ++ (step, event) ∷ []) }
+    {
+        let Script { mut moments } = self;
+        let mut last = open_moment(alloc, &mut moments, step)?;
+        last.events.push(event)?;
+        moments.push(last)?;
+        Ok(Script { moments })
     }
 
     /// The events of a step, in their order. At most 14 steps are looked at.
