@@ -1,7 +1,8 @@
 -- One more event at the end of a script.
-use Rattle.std.proofs.Common.{◌≡◌, ◌∙◌, ◌<◌, ◌≤◌, ◌+◌, ℕ, zero, suc, refl, sym, ap, arith, Bool, true, false, ◌&&◌, nat_le, nat_lt, List, [], ◌∷◌, ◌++◌, append_assoc, length, map, IsTrue}
+use Rattle.std.proofs.Common.{◌≡◌, ◌∙◌, ◌<◌, ◌≤◌, ◌+◌, ℕ, zero, suc, refl, sym, ap, arith, Bool, true, false, ◌&&◌, nat_le, nat_lt, List, [], ◌∷◌, ◌++◌, append_assoc, length, map, get_or, take, ◌-◌, IsTrue}
 use Rattle.std.proofs.lemmas.Bool.{and_from, and_parts, le-leb, leb-true, lt-ltb, ltb-true}
-use Rattle.std.proofs.lemmas.List.{length_push}
+use Rattle.std.proofs.lemmas.List.{length_push, nil_from_length, take_more}
+use Rattle.std.proofs.Math.Seq.{take-length}
 use Rattle.tz_model.specs.declared.report.ScriptEvent.{ScriptEvent}
 use Rattle.tz_sem.specs.Scripts.{IsScript, Timed, follow, last_step, most_events}
 use Rattle.tz_board.specs.Script.{IsKept, Opens, all_timed, ascend, have_events, is_below_all, steps_of, timed_of}
@@ -93,15 +94,6 @@ opens_new old ms last m step is kept order other step_is none =
       some_events = kept.some_events;
     }
 
--- there is no moment yet
-pub opens_first : (old : List Moment) (m : Moment) (step : ℕ) → old ≡ [] → m.step ≡ step → m.events.items ≡ [] → Opens old old step m
-opens_first old m step is step_is none = record {
-  step_is = step_is;
-  events = rw (is, none);
-  ascending = rw is;
-  some_events = rw is;
-}
-
 map-push : (s : ℕ) (es : List ScriptEvent) (e : ScriptEvent) → map {B = Timed} (λ x. (s, x)) (es ++ e ∷ []) ≡ map {B = Timed} (λ x. (s, x)) es ++ (s, e) ∷ []
 map-push s [] e = refl
 map-push s (x ∷ es) e = ap (λ (ts : List Timed). (s, x) ∷ ts) (map-push s es e)
@@ -126,3 +118,20 @@ kept_push old new step m n e opens kept room order same more =
         in_order = rw all (follow-last 0 (all_timed old) (step, e) kept.script.in_order order);
       };
     }
+
+-- the last moment of a script has its last step
+pub last_moment : (ms : List Moment) (m : Moment) → IsKept ms → 0 < length ms → m ≡ get_or ms (length ms - 1) m → last_step 0 (all_timed ms) ≡ m.step
+last_moment ms m kept some at =
+    let front : ms ≡ take (length ms - 1) ms ++ m ∷ [] =
+    sym (take-length ms) ∙ ap (λ (k : ℕ). take k ms) (omega arith) ∙ take_more ms (length ms - 1) m (omega arith) ∙ ap (λ (x : Moment). take (length ms - 1) ms ++ x ∷ []) (sym at) in
+    let has = (have_events-last (take (length ms - 1) ms) m (rw front at kept.some_events)).1 in
+    ap (λ (xs : List Moment). last_step 0 (all_timed xs)) front ∙ last_step-last (take (length ms - 1) ms) m has
+
+-- the events before one in order are not after it
+pub follow-at : (d : ℕ) (ts : List Timed) (i : ℕ) (t : Timed) → IsTrue (follow d ts) → i < length ts → last_step d (take i ts) ≤ (get_or ts i t).0
+follow-at d [] i t h lt = absurd (omega arith)
+follow-at d (x ∷ ts) zero t h lt = leb-true d x.0 (and_parts (nat_le d x.0) (follow x.0 ts) h).0
+follow-at d (x ∷ ts) (suc i) t h lt = follow-at x.0 ts i t (and_parts (nat_le d x.0) (follow x.0 ts) h).1 (omega arith)
+
+pub no_moment : (ms : List Moment) → length ms ≤ 0 → last_step 0 (all_timed ms) ≡ 0
+no_moment ms h = let none : ms ≡ [] = nil_from_length ms (omega arith) in rw none

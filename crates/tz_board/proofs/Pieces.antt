@@ -8,7 +8,7 @@ use Rattle.std.specs.List.{position_or_len}
 use lib.Dec.{ltb}
 use Rattle.std.proofs.lemmas.List.Quantifiers.{position-Some}
 use Rattle.tz_sem.specs.Scripts.{is_part, lines_of, parts_of, pieces, without_returns}
-use Rattle.tz_board.specs.Text.{chomp, has, with_part}
+use Rattle.tz_board.specs.Text.{chomp, has}
 use Rattle.tz_board.proofs.Lists.{nothing_left}
 
 -- a text in front of whose index no byte is the separator
@@ -119,15 +119,17 @@ pub lines_of-last : (xs : List ℕ) → has 10 xs ≡ false → lines_of xs ≡ 
 unfolding lines_of
 lines_of-last xs h = rw (without_returns-none xs h) (pieces-none 10 xs h)
 
-pub parts_of-cut : (xs more : List ℕ) → has 32 xs ≡ false → parts_of (xs ++ 32 ∷ more) ≡ with_part xs (parts_of more)
-unfolding parts_of
-parts_of-cut [] more h = ap (filter is_part) (pieces-cut 32 [] more h)
-parts_of-cut (x ∷ xs) more h = ap (filter is_part) (pieces-cut 32 (x ∷ xs) more h)
+part_first : (xs : List ℕ) (ps : List (List ℕ)) → 0 < length xs → filter is_part (xs ∷ ps) ≡ xs ∷ filter is_part ps
+part_first [] ps h = absurd (omega arith)
+part_first (x ∷ xs) ps h = refl
 
-pub parts_of-last : (xs : List ℕ) → has 32 xs ≡ false → parts_of xs ≡ with_part xs (parts_of [])
+pub parts_of-cut : (xs more : List ℕ) → has 32 xs ≡ false → 0 < length xs → parts_of (xs ++ 32 ∷ more) ≡ xs ∷ parts_of more
+unfolding parts_of
+parts_of-cut xs more h some = ap (filter is_part) (pieces-cut 32 xs more h) ∙ part_first xs (pieces 32 more) some
+
+pub parts_of-last : (xs : List ℕ) → has 32 xs ≡ false → 0 < length xs → parts_of xs ≡ xs ∷ parts_of []
 unfolding parts_of pieces
-parts_of-last [] h = refl
-parts_of-last (x ∷ xs) h = ap (filter is_part) (pieces-none 32 (x ∷ xs) h)
+parts_of-last xs h some = ap (filter is_part) (pieces-none 32 xs h) ∙ part_first xs [] some
 
 -- a line that ends in a byte
 pub chomp-ends : (xs : List ℕ) (b : ℕ) → chomp (xs ++ b ∷ []) ≡ (if b == 13 then xs else xs ++ b ∷ [])
@@ -148,7 +150,8 @@ chomp-other xs front b at is = ap chomp at ∙ chomp-ends front b ∙ rw (ne_eqb
 
 -- an empty piece is no part
 pub parts_of-skip : (xs more : List ℕ) → length xs ≡ 0 → parts_of (xs ++ 32 ∷ more) ≡ parts_of more
-parts_of-skip xs more h = rw (nil_from_length xs h) (parts_of-cut [] more refl)
+unfolding parts_of
+parts_of-skip xs more h = rw (nil_from_length xs h) (ap (filter is_part) (pieces-cut 32 [] more refl))
 
 pub parts_of-none : (xs : List ℕ) → length xs ≡ 0 → parts_of xs ≡ []
 unfolding parts_of pieces

@@ -2,3 +2,4 @@ pub mod BoardErrors
 pub mod Tables
 pub mod Text
 pub mod Script
+pub mod ScriptErrors

@@ -11,8 +11,3 @@ unfoldable pub chomp : List ℕ → List ℕ
 chomp [] = []
 chomp (b ∷ []) = if b == 13 then [] else b ∷ []
 chomp (b ∷ c ∷ more) = b ∷ chomp (c ∷ more)
-
--- a part before others, unless it is empty
-abbrev pub with_part : List ℕ → List (List ℕ) → List (List ℕ)
-with_part [] parts = parts
-with_part (b ∷ more) parts = (b ∷ more) ∷ parts

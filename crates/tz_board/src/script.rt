@@ -4,7 +4,7 @@
 //! events of a step are found by halving.
 
 ghost use Rattle.std.specs.Prelude.{◌≡◌, ℕ, ◌<◌, ◌≤◌, ◌+◌, ◌++◌, [], ◌∷◌, IfOk, IsTrue, ◌≢◌, MatchOption, slice_index, length};
-ghost use Rattle.tz_sem.specs.Scripts.{due_at, last_step, most_events};
+ghost use Rattle.tz_sem.specs.Scripts.{IsScript, due_at, last_step, most_events};
 ghost use Rattle.tz_board.specs.Script.{IsKept, Opens, all_timed, ascend, steps_of};
 
 use std::alloc::{AllocError, Global};
@@ -24,6 +24,8 @@ struct Moment {
 #[derive(Drop)]
 pub struct Script {
     moments: Vec<Moment>,
+    /// How many events the moments have together.
+    count: usize,
 }
 
 impl Model for Script {
@@ -32,11 +34,12 @@ impl Model for Script {
 
     ghost Value = { List Timed };
 
+    ghost use Rattle.std.specs.Prelude.{◌≡◌, length};
     ghost use Rattle.tz_board.specs.Script.{IsKept, all_timed};
 
     ghost view = { λ s. all_timed s.moments.items };
 
-    ghost invariant = { λ s. IsKept s.moments.items };
+    ghost invariant = { λ s. IsKept s.moments.items × (s.count ≡ length (all_timed s.moments.items)) };
 }
 
 /// Where a step stands among the moments.
@@ -104,6 +107,36 @@ impl Script {
     {
         Script {
             moments: Vec::new(alloc),
+            count: 0,
+        }
+    }
+
+    /// The script of these events.
+    pub fn of(alloc: Global, events: &[(u32, ScriptEvent)]) -> Result<Script, AllocError>
+        requires { IsScript events.now }
+        ensures { IfOk result (λ s. s ≡ events.now) }
+    {
+        let mut script = Script::none(alloc);
+        for (step, event) in events {
+            script = script.with_event(alloc, *step, *event)?;
+        }
+        Ok(script)
+    }
+
+    /// How many events it has.
+    pub fn len(&self) -> usize
+        ensures { result ≡ length self.now }
+    {
+        self.count
+    }
+
+    /// The step of its last event, 0 where it has none.
+    pub fn last_step(&self) -> u32
+        ensures { result ≡ last_step 0 self.now }
+    {
+        match self.moments.last() {
+            Some(last) => last.step,
+            None => 0,
         }
     }
 
@@ -118,11 +151,14 @@ impl Script {
         requires order { last_step 0 self ≤ step }
         ensures { IfOk result (λ s. s ≡ self ++ (step, event) ∷ []) }
     {
-        let Script { mut moments } = self;
+        let Script { mut moments, count } = self;
         let mut last = open_moment(alloc, &mut moments, step)?;
         last.events.push(event)?;
         moments.push(last)?;
-        Ok(Script { moments })
+        Ok(Script {
+            moments,
+            count: count + 1,
+        })
     }
 
     /// The events of a step, in their order. At most 14 steps are looked at.

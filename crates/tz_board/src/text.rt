@@ -2,7 +2,7 @@
 
 ghost use Rattle.std.specs.Prelude.{◌≡◌, ◌<◌, ◌==◌, ◌++◌, [], ◌∷◌, MatchOption, false, length, position};
 ghost use Rattle.tz_sem.specs.Scripts.{number_of, parts_of};
-ghost use Rattle.tz_board.specs.Text.{chomp, has, with_part};
+ghost use Rattle.tz_board.specs.Text.{chomp, has};
 
 /// Where a separator first stands.
 fn first_of(text: &[u8], separator: u8) -> Option<usize>
@@ -37,19 +37,22 @@ pub fn chomp(line: &[u8]) -> &[u8]
     }
 }
 
-/// The first part of a line, and what follows it. Where there is none, the first part is empty.
-pub fn first_part(line: &[u8]) -> (&[u8], &[u8])
-    ensures parts { parts_of line.now ≡ with_part result.0.now (parts_of result.1.now) }
-    ensures none { length result.0.now ≡ 0 → parts_of line.now ≡ [] }
+/// The first part of a line, and what follows it, where there is one.
+pub fn first_part(line: &[u8]) -> Option<(&[u8], &[u8])>
+    ensures { MatchOption result (parts_of line.now ≡ []) (λ p. (parts_of line.now ≡ p.0.now ∷ parts_of p.1.now) × (0 < length p.0.now)) }
 {
     let mut rest = line;
     while let Some((part, back)) = cut(rest, b' ') {
         if !part.is_empty() {
-            return (part, back);
+            return Some((part, back));
         }
         rest = back;
     }
-    (rest, &[])
+    if rest.is_empty() {
+        None
+    } else {
+        Some((rest, &[]))
+    }
 }
 
 /// The number that 1 to 8 decimal digits make.

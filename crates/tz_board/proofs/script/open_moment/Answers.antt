@@ -1,6 +1,6 @@
 use Rattle.std.proofs.Common.{◌∙◌, ap, sym}
 use Rattle.tz_board.specs.Script.{Opens}
-use Rattle.tz_board.proofs.Opening.{opens_first, opens_last, opens_new}
+use Rattle.tz_board.proofs.Opening.{opens_last, opens_new}
 use Rattle.tz_board.proofs.script.open_moment.Goals as goal
 
 pub returns-then-last-step : goal.returns-then-last-step

@@ -8,15 +8,15 @@ use Rattle.tz_board.proofs.script.Script.due.Goals as goal
 
 pub find-requires-clause-few : goal.find-requires-clause-few
 find-requires-clause-few g c =
-    let few = leb-true (length (all_timed c.self.inside.moments.items)) 10000 c.self.invariant.script.few in
-    omega (arith, moments_few c.self.inside.moments.items c.self.invariant.some_events, c.deref.ensures.len)
+    let few = leb-true (length (all_timed c.self.inside.moments.items)) 10000 c.self.invariant.0.script.few in
+    omega (arith, moments_few c.self.inside.moments.items c.self.invariant.0.some_events, c.deref.ensures.len)
 
 pub returns-in-Some-clause-events : goal.returns-in-Some-clause-events
 returns-in-Some-clause-events g c =
     let at = rw c.deref.ensures.value at c.in-Some.ensures.at in
     c.deref-in-Some.ensures.value
     ∙ ap (λ (m : Moment). m.events.items) c.index.ensures
-    ∙ sym (due_at-found c.args.step c.self.inside.moments.items c.in-Some.index c.index.result.now c.self.invariant.ascending at.0 at.1)
+    ∙ sym (due_at-found c.args.step c.self.inside.moments.items c.in-Some.index c.index.result.now c.self.invariant.0.ascending at.0 at.1)
     ∙ ap (due_at c.args.step) c.self.view_is
 
 pub returns-in-None-clause-events : goal.returns-in-None-clause-events
