@@ -5,6 +5,6 @@ pub mod Documents
 pub mod Pieces
 pub mod Digits
 pub mod Halving
-pub mod Halving
 pub mod Moments
 pub mod Opening
+pub mod ScriptLines

@@ -12,10 +12,12 @@ mod keys;
 mod limits;
 mod line;
 mod script;
+mod script_file;
 mod tables;
 mod text;
 
 pub use board::read_board;
 pub use demo::demo_board;
-pub use script::Script;
 pub use error::{BoardError, Key, Place, ScriptError};
+pub use script::Script;
+pub use script_file::read_script;

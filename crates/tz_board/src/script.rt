@@ -79,11 +79,7 @@ fn new_moment(alloc: Global, step: u32) -> Moment
 }
 
 /// The moment of a step, off the end of the moments where it stands there, else without events.
-fn open_moment(
-    alloc: Global,
-    moments: &mut Vec<Moment>,
-    step: u32,
-) -> Result<Moment, AllocError>
+fn open_moment(alloc: Global, moments: &mut Vec<Moment>, step: u32) -> Result<Moment, AllocError>
     requires kept { IsKept moments.old.items }
     requires order { last_step 0 (all_timed moments.old.items) ≤ step }
     ensures { IfOk result (Opens moments.old.items moments.new.items step) }
@@ -141,7 +137,7 @@ impl Script {
     }
 
     /// The script with one more event at its end.
-    fn with_event(
+    pub fn with_event(
         self,
         alloc: Global,
         step: u32,

@@ -26,13 +26,7 @@ pub fn chomp(line: &[u8]) -> &[u8]
     ensures { result.now ≡ chomp line.now }
 {
     match line.split_last() {
-        Some((last, front)) => {
-            if *last == b'\r' {
-                front
-            } else {
-                line
-            }
-        }
+        Some((last, front)) => { if *last == b'\r' { front } else { line } }
         None => line,
     }
 }

@@ -116,15 +116,19 @@ last_step step (t ∷ more) = last_step t.0 more
 abbrev pub Read : Type 0
 Read = Result (List Timed) ScriptRefusal
 
--- the events of earlier lines, and that of line `number`
-unfoldable pub with_line : ℕ → ℕ → List Timed → Line → Read
-with_line interrupts number events Passed = Ok events
-with_line interrupts number events Bad = Err (BadLine number)
-with_line interrupts number events (Event t) =
+-- some events and one more, of line `number`
+unfoldable pub with_event : ℕ → ℕ → List Timed → Timed → Read
+with_event interrupts number events t =
     if nat_lt t.0 (last_step 0 events) then Err (OutOfOrder number)
     else if exists_on interrupts t.1
     then if nat_lt (length events) most_events then Ok (events ++ t ∷ []) else Err TooMany
     else Err (NoSuchInterrupt number)
+
+-- the events of earlier lines, and that of line `number`
+unfoldable pub with_line : ℕ → ℕ → List Timed → Line → Read
+with_line interrupts number events Passed = Ok events
+with_line interrupts number events Bad = Err (BadLine number)
+with_line interrupts number events (Event t) = with_event interrupts number events t
 
 infixl 10 ◌>>=◌
 abbrev pub ◌>>=◌ : Read → (List Timed → Read) → Read

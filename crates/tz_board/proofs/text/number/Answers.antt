@@ -31,8 +31,8 @@ overflow_add-number c =
 pub loop-b-preserved : goal.loop-b-preserved
 loop-b-preserved c = record {
   read = c.loop-b.invariant.read
-  ∙ one_digit c.args.part.now c.loop-b.b-index c.loop-b.number c.loop-b-test.true (sym c.if-not-is_ascii_digit.ensures.value)
-  ∙ ap (λ (d : ℕ). digits_from (10 * c.loop-b.number + d) (drop (c.loop-b.b-index + 1) c.args.part.now)) (sym c.from.ensures);
+      ∙ one_digit c.args.part.now c.loop-b.b-index c.loop-b.number c.loop-b-test.true (sym c.if-not-is_ascii_digit.ensures.value)
+      ∙ ap (λ (d : ℕ). digits_from (10 * c.loop-b.number + d) (drop (c.loop-b.b-index + 1) c.args.part.now)) (sym c.from.ensures);
   small = longer c.loop-b.number c.loop-b.b-index c.from.result c.loop-b.invariant.small (omega (arith, c.if-not-is_ascii_digit.ensures.cases));
 }
 
