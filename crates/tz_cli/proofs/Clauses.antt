@@ -14,9 +14,9 @@ use Rattle.tz_sem.specs.Seen.{Agree}
 use Rattle.tz_sem.specs.Text.{text_from}
 use Rattle.tz_sem.proofs.TwoRuns.{isolated}
 use Rattle.tz_cli.specs.declared.stops.File.{File}
-use Rattle.tz_cli.specs.declared.stops.File.TheVariants.{Board, Secure, Nonsecure}
+use Rattle.tz_cli.specs.declared.stops.File.TheVariants.{Board, Secure, Nonsecure, Script}
 use Rattle.tz_cli.specs.Words.{RunWords, run_of}
-use Rattle.tz_cli.specs.Told.{Stop, BadWords, TooManySteps, Unread, TooLong, BadBoard, BadImage, Told, Unknown, Stops, Gives, told_then, Start, Job, is_demo, board_told, board_file, image_told, secure_told, start_told, job_with, text_of, state_of, step_limit}
+use Rattle.tz_cli.specs.Told.{Stop, BadWords, TooManySteps, Unread, TooLong, BadBoard, BadImage, BadScript, Told, Unknown, Stops, Gives, told_then, Start, Job, is_demo, is_none_script, board_told, board_file, image_told, script_told, script_file, secure_told, nonsecure_told, start_told, job_with, text_of, state_of, step_limit}
 use Rattle.tz_cli.specs.Lines.{line_of, status_of}
 use Rattle.tz_cli.specs.Answer.{Allows, AllowsStop, IsOfFile, IsRefusal, IsReached, IsUnread, name_in, line_room, Call, told_of, GainsFront, Exceeds, Answer, Done, Broken, Misused, Stopped, Missed, Wanting, Silent, Excused, IsText, IsRefusedBy, NamesUnread, IsStatus}
 
@@ -38,6 +38,7 @@ not_done (Unread name) e = cc
 not_done (TooLong name) e = cc
 not_done (BadBoard name refusal) e = cc
 not_done (BadImage name refusal) e = cc
+not_done (BadScript name refusal) e = cc
 
 not_broken : (stop : Stop) → status_of stop ≢ 4
 not_broken BadWords e = cc
@@ -46,6 +47,7 @@ not_broken (Unread name) e = cc
 not_broken (TooLong name) e = cc
 not_broken (BadBoard name refusal) e = cc
 not_broken (BadImage name refusal) e = cc
+not_broken (BadScript name refusal) e = cc
 
 not_wanting : (stop : Stop) → status_of stop ≢ 7
 not_wanting BadWords e = cc
@@ -54,6 +56,7 @@ not_wanting (Unread name) e = cc
 not_wanting (TooLong name) e = cc
 not_wanting (BadBoard name refusal) e = cc
 not_wanting (BadImage name refusal) e = cc
+not_wanting (BadScript name refusal) e = cc
 
 not_misused : (stop : Stop) → IsRefusal stop → status_of stop ≢ 2
 not_misused BadWords is e = absurd is
@@ -62,6 +65,7 @@ not_misused (Unread name) is e = absurd is
 not_misused (TooLong name) is e = cc
 not_misused (BadBoard name refusal) is e = cc
 not_misused (BadImage name refusal) is e = cc
+not_misused (BadScript name refusal) is e = cc
 
 stop_of_words : (held : List ℕ → Held) (o : Option RunWords) (stop : Stop) → o ≡ None → job_with held o ≡ Stops stop → BadWords ≡ stop
 stop_of_words held None stop none e = cc
@@ -78,6 +82,7 @@ not_missed (Unread name) is e = absurd is
 not_missed (TooLong name) is e = cc
 not_missed (BadBoard name refusal) is e = cc
 not_missed (BadImage name refusal) is e = cc
+not_missed (BadScript name refusal) is e = cc
 
 not_stopped : {A : Type 0} (t : Told A) (x : A) (stop : Stop) → Allows t x → t ≡ Stops stop → ⊥
 not_stopped t x stop h e = let stops : Allows (Stops stop) x = subst (λ y. Allows y x) e h in stops
@@ -281,8 +286,15 @@ absent_image : (held : List ℕ → Held) (b : BoardValue) (side : Side) (name :
 unfolding image_told
 absent_image held b side name e = rw e refl
 
+absent_script : (held : List ℕ → Held) (interrupts : ℕ) (name : List ℕ) → held name ≡ Absent → is_none_script name ≡ false → script_told held interrupts name ≡ Stops (Unread name)
+unfolding script_told script_file
+absent_script held interrupts name e named = rw (named, e) refl
+
+never_nonsecure : (held : List ℕ → Held) (r : RunWords) → NeverGives (nonsecure_told held r) → NeverGives (start_told held r)
+never_nonsecure held r h = never_then (nonsecure_told held r) _ h
+
 never_secure : (held : List ℕ → Held) (r : RunWords) → NeverGives (secure_told held r) → NeverGives (start_told held r)
-never_secure held r h = never_then (secure_told held r) _ h
+never_secure held r h = never_nonsecure held r (never_then (secure_told held r) _ h)
 
 -- an absent file that is read settles no start
 absent_start : (held : List ℕ → Held) (r : RunWords) (file : File) → held (name_in r file) ≡ Absent → IsReached held r file → NeverGives (start_told held r)
@@ -292,9 +304,13 @@ absent_start held r Secure e reached =
     never_secure held r (never_after (board_told held r.board) _ (λ b.
     never_then (image_told held b sides.Secure r.secure) _ (never_stops (image_told held b sides.Secure r.secure) (Unread r.secure) (absent_image held b sides.Secure r.secure e))))
 absent_start held r Nonsecure e reached =
-    never_after (secure_told held r) _ (λ p.
+    never_nonsecure held r (never_after (secure_told held r) _ (λ p.
     never_then (image_told held p.board sides.NonSecure r.nonsecure) _
-    (never_stops (image_told held p.board sides.NonSecure r.nonsecure) (Unread r.nonsecure) (absent_image held p.board sides.NonSecure r.nonsecure e)))
+    (never_stops (image_told held p.board sides.NonSecure r.nonsecure) (Unread r.nonsecure) (absent_image held p.board sides.NonSecure r.nonsecure e))))
+absent_start held r Script e reached =
+    never_after (nonsecure_told held r) _ (λ p.
+    never_then (script_told held p.board.interrupts r.script) _
+    (never_stops (script_told held p.board.interrupts r.script) (Unread r.script) (absent_script held p.board.interrupts r.script e reached.0)))
 
 never_job : (held : List ℕ → Held) (o : Option RunWords) (r : RunWords) → o ≡ Some r → NeverGives (start_told held r) → NeverGives {A = Job} (job_with held o)
 never_job held o r e h = subst (λ (x : Option RunWords). NeverGives {A = Job} (job_with held x)) (sym e) (go (nat_lt step_limit r.steps)) where
@@ -333,6 +349,7 @@ status_of_stop (Unread name) = inr (inr (inl refl))
 status_of_stop (TooLong name) = inr (inr (inr (inr (inr (inl refl)))))
 status_of_stop (BadBoard name refusal) = inr (inr (inr (inr (inl refl))))
 status_of_stop (BadImage name refusal) = inr (inr (inr (inr (inl refl))))
+status_of_stop (BadScript name refusal) = inr (inr (inr (inr (inl refl))))
 
 pub one_status : (c : Call) (result : ℕ) → Answer c result → IsStatus result
 one_status c result (Done job e told out err) = inl e

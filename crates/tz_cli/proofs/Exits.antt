@@ -7,14 +7,15 @@ use Rattle.tz_model.specs.declared.outside.SinkError.TheVariants.{Failed}
 use Rattle.tz_model.specs.Outside.{Held, Rose, Gains, Put}
 use Rattle.tz_cli.specs.declared.stops.File.{File}
 use Rattle.tz_cli.specs.declared.stops.Fault.{Fault}
-use Rattle.tz_cli.specs.declared.stops.Fault.TheVariants.{Unread, Long, Board, Image, Memory}
+use Rattle.tz_cli.specs.declared.stops.Fault.TheVariants.{Unread, Long, Board, Image, Script, Memory}
 use Rattle.tz_cli.specs.Words.{RunWords, run_of}
-use Rattle.tz_cli.specs.Told.{Stop, TooManySteps, TooLong, BadBoard, BadImage, Told, Unknown, Stops, Gives, told_then, Start, Job, start_told, job_with, text_of, step_limit}
+use Rattle.tz_cli.specs.Told.{Stop, TooManySteps, TooLong, BadBoard, BadImage, BadScript, Told, Unknown, Stops, Gives, told_then, Start, Job, start_told, job_with, text_of, step_limit}
 use Rattle.tz_cli.specs.Told as stops
 use Rattle.tz_cli.specs.Lines.{line_of, status_of}
 use Rattle.tz_cli.specs.Answer.{Allows, AllowsStop, IsUnread, IsRefusal, name_in, most_name, longest, line_room, Call, told_of, GainsFront, Exceeds, Answer, Done, Broken, Misused, Stopped, Missed, Wanting, Silent}
 use Rattle.tz_cli.specs.Faults.{AllowsRefusal, Shelved, IsFault, image_refusal, stop_of, stop_with, line_with, status_with}
 use Rattle.tz_board.specs.BoardErrors.{refusal_of}
+use Rattle.tz_board.specs.ScriptErrors.{script_refusal_of}
 
 pub gains_nothing : (w : Option (List ℕ)) → Gains w w []
 gains_nothing None = refl
@@ -109,6 +110,7 @@ answer_fault c result r (Long file) e l told quiet short h =
     answer_stop c result (TooLong (name_in r file)) tt (job_of_stop c.held (run_of c.words) r (TooLong (name_in r file)) e l told) quiet short h
 answer_fault c result r (Board error) e l told quiet short h = answer_refusal c result r (BadBoard r.board) (refusal_of error) (λ x. tt) e l told quiet short h
 answer_fault c result r (Image file error) e l told quiet short h = answer_refusal c result r (BadImage (name_in r file)) (image_refusal error) (λ x. tt) e l told quiet short h
+answer_fault c result r (Script error) e l told quiet short h = answer_refusal c result r (BadScript r.script) (script_refusal_of error) (λ x. tt) e l told quiet short h
 answer_fault c result r Memory e l told quiet short h = answer_memory c result quiet h
 
 -- the same for a line and a status that were built

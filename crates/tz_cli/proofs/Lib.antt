@@ -3,6 +3,7 @@ pub mod WordValues
 pub mod WordWalks
 pub mod WordAnswers
 pub mod Counts
-pub mod Exits
 pub mod Names
+pub mod Stages
+pub mod Exits
 pub mod Clauses

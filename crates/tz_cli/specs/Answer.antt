@@ -2,9 +2,9 @@
 use Rattle.std.specs.Prelude.{◌≡◌, ◌⊎◌, ℕ, ◌+◌, ◌≤◌, nat_le, Bool, true, false, not, List, [], ◌∷◌, ◌++◌, length, codes, Option, Some, None, IsTrue, IfSome, max}
 use Rattle.tz_model.specs.Outside.{Held, Absent, Rose, Gains}
 use Rattle.tz_cli.specs.declared.stops.File.{File}
-use Rattle.tz_cli.specs.declared.stops.File.TheVariants.{Board, Secure, Nonsecure}
+use Rattle.tz_cli.specs.declared.stops.File.TheVariants.{Board, Secure, Nonsecure, Script}
 use Rattle.tz_cli.specs.Words.{RunWords, run_of}
-use Rattle.tz_cli.specs.Told.{Stop, BadWords, TooManySteps, Unread, TooLong, BadBoard, BadImage, Told, Unknown, Stops, Gives, Start, Job, is_demo, board_told, secure_told, job_with, text_of, step_limit}
+use Rattle.tz_cli.specs.Told.{Stop, BadWords, TooManySteps, Unread, TooLong, BadBoard, BadImage, BadScript, Told, Unknown, Stops, Gives, Start, Job, is_demo, is_none_script, board_told, secure_told, nonsecure_told, job_with, text_of, step_limit}
 use Rattle.tz_cli.specs.Lines.{line_of, status_of, unread_line}
 
 -- what is settled allows a value, or a stop
@@ -21,6 +21,7 @@ IsOfFile (Unread name) = Unit {0}
 IsOfFile (TooLong name) = Unit {0}
 IsOfFile (BadBoard name refusal) = Unit {0}
 IsOfFile (BadImage name refusal) = Unit {0}
+IsOfFile (BadScript name refusal) = Unit {0}
 
 abbrev pub AllowsStop : {A : Type 0} → Told A → Stop → Type 0
 AllowsStop Unknown stop = IsOfFile stop
@@ -38,16 +39,18 @@ abbrev pub name_in : RunWords → File → List ℕ
 name_in r Board = r.board
 name_in r Secure = r.secure
 name_in r Nonsecure = r.nonsecure
+name_in r Script = r.script
 
 -- the length of the longest name of a file
 abbrev pub most_name : RunWords → ℕ
-most_name r = max (length r.board) (max (length r.secure) (length r.nonsecure))
+most_name r = max (length r.board) (max (length r.secure) (max (length r.nonsecure) (length r.script)))
 
 -- a file is read: it is one, and no file before it stops the command
 abbrev pub IsReached : (List ℕ → Held) → RunWords → File → Type 0
 IsReached held r Board = is_demo r.board ≡ false
 IsReached held r Secure = goes_on (board_told held r.board) ≡ true
 IsReached held r Nonsecure = goes_on (secure_told held r) ≡ true
+IsReached held r Script = (is_none_script r.script ≡ false) × (goes_on (nonsecure_told held r) ≡ true)
 
 -- a file can't be read: the shelf's count rose, and a sound shelf doesn't hold it
 pub record IsUnread (held : List ℕ → Held) (sound : Bool) (before now : ℕ) (r : RunWords) (file : File) : Type 0 where

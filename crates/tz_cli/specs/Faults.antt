@@ -6,16 +6,17 @@ use Rattle.tz_model.specs.Outside.{Held, Absent, Rose}
 use Rattle.tz_sem.specs.Images.{Refusal}
 use Rattle.tz_sem.specs.Images as refusals
 use Rattle.tz_board.specs.BoardErrors.{refusal_of}
+use Rattle.tz_board.specs.ScriptErrors.{script_refusal_of}
 use Rattle.tz_elf.specs.declared.error.ElfError.{ElfError}
 use Rattle.tz_elf.specs.declared.error.ElfError.TheVariants as errors
 use Rattle.tz_cli.specs.declared.stops.File.{File}
 use Rattle.tz_cli.specs.declared.stops.Fault.{Fault}
-use Rattle.tz_cli.specs.declared.stops.Fault.TheVariants.{Unread, Long, Board, Image, Memory}
+use Rattle.tz_cli.specs.declared.stops.Fault.TheVariants.{Unread, Long, Board, Image, Script, Memory}
 use Rattle.tz_cli.specs.declared.files.Files.{Files}
 use Rattle.tz_cli.specs.Words.{RunWords}
 use Rattle.tz_cli.specs.Lines.{line_of, status_of}
 use Rattle.tz_cli.specs.Told as stops
-use Rattle.tz_cli.specs.Told.{Stop, Told, Start, TooLong, BadBoard, BadImage}
+use Rattle.tz_cli.specs.Told.{Stop, Told, Start, TooLong, BadBoard, BadImage, BadScript}
 use Rattle.tz_cli.specs.Answer.{AllowsStop, IsReached, IsUnread, name_in}
 
 -- the refusal that an error tells; want of memory tells none
@@ -55,6 +56,7 @@ IsStageFault s r file told (Unread f) = (f ≡ file) × Rose s.before s.now × (
 IsStageFault s r file told (Long f) = AllowsStop told (TooLong (name_in r f))
 IsStageFault s r file told (Board e) = AllowsRefusal told (BadBoard r.board) (refusal_of e)
 IsStageFault s r file told (Image f e) = AllowsRefusal told (BadImage (name_in r f)) (image_refusal e)
+IsStageFault s r file told (Script e) = AllowsRefusal told (BadScript r.script) (script_refusal_of e)
 IsStageFault s r file told Memory = Unit {0}
 
 -- a fault of the files of a run
@@ -63,6 +65,7 @@ IsFault s r told (Unread f) = IsUnread s.held s.sound s.before s.now r f
 IsFault s r told (Long f) = AllowsStop told (TooLong (name_in r f))
 IsFault s r told (Board e) = AllowsRefusal told (BadBoard r.board) (refusal_of e)
 IsFault s r told (Image f e) = AllowsRefusal told (BadImage (name_in r f)) (image_refusal e)
+IsFault s r told (Script e) = AllowsRefusal told (BadScript r.script) (script_refusal_of e)
 IsFault s r told Memory = Unit {0}
 
 -- the stop that a fault tells; want of memory tells none
@@ -75,6 +78,7 @@ stop_of r (Unread f) = Some (stops.Unread (name_in r f))
 stop_of r (Long f) = Some (TooLong (name_in r f))
 stop_of r (Board e) = stop_with (BadBoard r.board) (refusal_of e)
 stop_of r (Image f e) = stop_with (BadImage (name_in r f)) (image_refusal e)
+stop_of r (Script e) = stop_with (BadScript r.script) (script_refusal_of e)
 stop_of r Memory = None
 
 -- the code of a refusal; want of memory has none
@@ -93,4 +97,4 @@ status_with (Some stop) = status_of stop
 
 -- the files as a start
 abbrev pub start_in : Files → Start
-start_in f = record { board = f.board; secure = f.secure; nonsecure = f.nonsecure }
+start_in f = record { board = f.board; secure = f.secure; nonsecure = f.nonsecure; script = f.script }

@@ -2,9 +2,11 @@
 use Rattle.std.specs.Prelude.{ℕ, List, ◌++◌, codes, decimal}
 use Rattle.tz_sem.specs.Images.{Refusal, Magic, ClassOrOrder, TypeOrMachine, HeaderCut, SegmentCut, Outside, WrongSide, Hex}
 use Rattle.tz_sem.specs.Images as images
+use Rattle.tz_sem.specs.Scripts.{ScriptRefusal, BadLine, OutOfOrder, NoSuchInterrupt}
+use Rattle.tz_sem.specs.Scripts as scripts
 use Rattle.tz_board.specs.Boards.{BoardRefusal, NotToml, Missing, WrongKind, Range, TooMany, Place, Top, InRegion, InSau, key_text}
 use Rattle.tz_board.specs.Boards as boards
-use Rattle.tz_cli.specs.Told.{Stop, BadWords, TooManySteps, Unread, TooLong, BadBoard, BadImage}
+use Rattle.tz_cli.specs.Told.{Stop, BadWords, TooManySteps, Unread, TooLong, BadBoard, BadImage, BadScript}
 
 abbrev pub image_code : Refusal → List ℕ
 image_code Magic = codes "L1"
@@ -16,6 +18,12 @@ image_code (Outside index) = codes "L6 " ++ decimal index
 image_code (WrongSide index) = codes "L7 " ++ decimal index
 image_code (images.Overlap earlier index) = codes "L8 " ++ decimal earlier ++ codes " " ++ decimal index
 image_code (Hex line) = codes "L9 " ++ decimal line
+
+abbrev pub script_code : ScriptRefusal → List ℕ
+script_code (BadLine line) = codes "C1 " ++ decimal line
+script_code (OutOfOrder line) = codes "C2 " ++ decimal line
+script_code (NoSuchInterrupt line) = codes "C3 " ++ decimal line
+script_code scripts.TooMany = codes "C4"
 
 abbrev pub place_text : Place → List ℕ
 place_text (Top key) = key_text key
@@ -47,6 +55,7 @@ line_of (Unread name) = unread_line name
 line_of (TooLong name) = limit_line name
 line_of (BadBoard name refusal) = refused_line name (board_code refusal)
 line_of (BadImage name refusal) = refused_line name (image_code refusal)
+line_of (BadScript name refusal) = refused_line name (script_code refusal)
 
 abbrev pub status_of : Stop → ℕ
 status_of BadWords = 2
@@ -55,3 +64,4 @@ status_of (Unread name) = 3
 status_of (TooLong name) = 6
 status_of (BadBoard name refusal) = 5
 status_of (BadImage name refusal) = 5
+status_of (BadScript name refusal) = 5

@@ -10,6 +10,7 @@ use Rattle.tz_model.specs.State.{State}
 use Rattle.tz_sem.specs.Boot.{boot}
 use Rattle.tz_sem.specs.Demo.{demo}
 use Rattle.tz_sem.specs.Images.{Refusal, image_of}
+use Rattle.tz_sem.specs.Scripts.{Timed, ScriptRefusal, script_of}
 use Rattle.tz_sem.specs.Text.{text_from}
 use Rattle.tz_board.specs.Boards.{BoardRefusal, board_of}
 use Rattle.tz_cli.specs.Words.{RunWords}
@@ -22,6 +23,7 @@ pub data Stop : Type 0 where
   TooLong : (name : List ℕ) → Stop
   BadBoard : (name : List ℕ) (refusal : BoardRefusal) → Stop
   BadImage : (name : List ℕ) (refusal : Refusal) → Stop
+  BadScript : (name : List ℕ) (refusal : ScriptRefusal) → Stop
 
 -- what is settled: nothing, where the shelf doesn't tell; that the command stops; or a value
 pub data Told (A : Type 0) : Type 0 where
@@ -35,12 +37,15 @@ told_then Unknown next = Unknown
 told_then (Stops stop) next = Stops stop
 told_then (Gives x) next = next x
 
--- limits of files, in bytes: 64 KiB and 8 MiB
+-- limits of files, in bytes: 64 KiB, 8 MiB and 1 MiB
 abbrev pub board_limit : ℕ
 board_limit = 65536
 
 abbrev pub image_limit : ℕ
 image_limit = 8388608
+
+abbrev pub script_limit : ℕ
+script_limit = 1048576
 
 abbrev pub step_limit : ℕ
 step_limit = 10000000
@@ -69,20 +74,39 @@ board_told held name = if is_demo name then Gives demo else board_file held name
 unfoldable pub image_told : (List ℕ → Held) → BoardValue → Side → List ℕ → Told ImageValue
 image_told held b side name = told_then (file_with name image_limit (held name)) (λ bytes. graded (BadImage name) (image_of bytes b side))
 
--- a board with its two images
+-- the empty script, which is no file
+abbrev pub is_none_script : List ℕ → Bool
+is_none_script name = bytes_eq name (codes "@none")
+
+unfoldable pub script_file : (List ℕ → Held) → ℕ → List ℕ → Told (List Timed)
+script_file held interrupts name = told_then (file_with name script_limit (held name)) (λ bytes. graded (BadScript name) (script_of bytes interrupts))
+
+unfoldable pub script_told : (List ℕ → Held) → ℕ → List ℕ → Told (List Timed)
+script_told held interrupts name = if is_none_script name then Gives [] else script_file held interrupts name
+
+-- a board with its two images and its script
 pub record Start : Type 0 where
   pub board : BoardValue
   pub secure : ImageValue
   pub nonsecure : ImageValue
+  pub script : List Timed
+
+-- no bytes
+abbrev pub no_image : ImageValue
+no_image = record { segments = [] }
 
 abbrev pub secure_told : (List ℕ → Held) → RunWords → Told Start
 secure_told held r =
-    told_then (board_told held r.board) (λ b. told_then (image_told held b Secure r.secure) (λ s. Gives (record { board = b; secure = s; nonsecure = record { segments = [] } })))
+    told_then (board_told held r.board) (λ b. told_then (image_told held b Secure r.secure) (λ s. Gives (record { board = b; secure = s; nonsecure = no_image; script = [] })))
+
+abbrev pub nonsecure_told : (List ℕ → Held) → RunWords → Told Start
+nonsecure_told held r =
+    told_then (secure_told held r) (λ p. told_then (image_told held p.board NonSecure r.nonsecure) (λ n. Gives (record p { nonsecure = n })))
 
 -- the files of a run, in the order of its words
 abbrev pub start_told : (List ℕ → Held) → RunWords → Told Start
 start_told held r =
-    told_then (secure_told held r) (λ p. told_then (image_told held p.board NonSecure r.nonsecure) (λ n. Gives (record p { nonsecure = n })))
+    told_then (nonsecure_told held r) (λ p. told_then (script_told held p.board.interrupts r.script) (λ events. Gives (record p { script = events })))
 
 -- a run with what it begins with
 pub record Job : Type 0 where

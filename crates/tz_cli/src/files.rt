@@ -6,14 +6,14 @@ ghost use Rattle.tz_model.specs.Outside.{Held, Absent, Rose};
 ghost use Rattle.tz_cli.specs.declared.stops.File.TheVariants as files;
 ghost use Rattle.tz_cli.specs.declared.stops.Fault.TheVariants as faults;
 ghost use Rattle.tz_cli.specs.Words.{run_in};
-ghost use Rattle.tz_cli.specs.Told.{file_with, board_told, image_told, secure_told, start_told, is_demo, TooLong};
+ghost use Rattle.tz_cli.specs.Told.{file_with, board_told, image_told, script_told, start_told, is_demo, is_none_script, TooLong};
 ghost use Rattle.tz_cli.specs.Answer.{Allows, AllowsStop, name_in};
 ghost use Rattle.tz_cli.specs.Faults.{unread_in, IsStageFault, IsFault, start_in};
 
 use crate::stops::{Fault, File};
 use crate::words::RunWords;
 use std::alloc::{AllocError, Global};
-use tz_board::{demo_board, read_board};
+use tz_board::{Script, demo_board, read_board, read_script};
 use tz_elf::read_image;
 use tz_model::{Board, Image, Shelf, ShelfError, Side};
 
@@ -23,6 +23,7 @@ pub struct Files {
     pub board: Board,
     pub secure: Image,
     pub nonsecure: Image,
+    pub script: Script,
 }
 
 /// The most bytes of a board file.
@@ -30,6 +31,9 @@ const BOARD_LIMIT: usize = 65_536;
 
 /// The most bytes of an image file.
 const IMAGE_LIMIT: usize = 8_388_608;
+
+/// The most bytes of a script file.
+const SCRIPT_LIMIT: usize = 1_048_576;
 
 /// The name of a file in the words.
 pub fn name_of<'a>(words: &RunWords<'a>, file: File) -> &'a str
@@ -39,6 +43,7 @@ pub fn name_of<'a>(words: &RunWords<'a>, file: File) -> &'a str
         File::Board => words.board,
         File::Secure => words.secure,
         File::Nonsecure => words.nonsecure,
+        File::Script => words.script,
     }
 }
 
@@ -133,6 +138,32 @@ fn load_image<H: Shelf>(
     }
 }
 
+/// The script that the words name: the empty one, or a file.
+#[tactic(auto, unfolding(crate::specs::Told::script_told, crate::specs::Told::script_file))]
+fn load_script<H: Shelf>(
+    alloc: Global,
+    shelf: &mut H,
+    words: &RunWords<'_>,
+    interrupts: u16,
+) -> Result<Script, Fault>
+    ensures ok { IfOk result (λ s. Allows (script_told (H.held shelf.old) interrupts words.now.script.now) s) }
+    ensures err { IfErr result (λ e. IsStageFault (record { held = H.held shelf.old; sound = H.sound shelf.old; before = H.faults shelf.old; now = H.faults shelf.new }) (run_in words.now) files.Script (script_told (H.held shelf.old) interrupts words.now.script.now) e) }
+    ensures named { IfErr result (λ e. e ≡ faults.Unread files.Script → is_none_script words.now.script.now ≡ false) }
+    ensures later { H.faults shelf.old ≤ H.faults shelf.new }
+{
+    if words.script == "@none" {
+        return Ok(Script::none(alloc));
+    }
+    let bytes = match read(alloc, shelf, words.script, SCRIPT_LIMIT) {
+        Ok(bytes) => bytes,
+        Err(error) => return Err(unread(File::Script, error)),
+    };
+    match read_script(alloc, &bytes, interrupts) {
+        Ok(script) => Ok(script),
+        Err(error) => Err(Fault::Script(error)),
+    }
+}
+
 /// The files of a run, in the order of its words.
 pub fn load<H: Shelf>(
     alloc: Global,
@@ -151,7 +182,7 @@ pub fn load<H: Shelf>(
         Ok(image) => image,
         Err(fault) => return Err(fault),
     };
-    match load_image(
+    let nonsecure = match load_image(
         alloc,
         shelf,
         words,
@@ -159,10 +190,15 @@ pub fn load<H: Shelf>(
         &board,
         Side::NonSecure,
     ) {
-        Ok(nonsecure) => Ok(Files {
+        Ok(image) => image,
+        Err(fault) => return Err(fault),
+    };
+    match load_script(alloc, shelf, words, board.interrupts) {
+        Ok(script) => Ok(Files {
             board,
             secure,
             nonsecure,
+            script,
         }),
         Err(fault) => Err(fault),
     }

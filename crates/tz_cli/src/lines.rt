@@ -7,8 +7,9 @@ ghost use Rattle.tz_cli.specs.Answer.{most_name};
 ghost use Rattle.tz_cli.specs.declared.stops.Fault.TheVariants as faults;
 ghost use Rattle.tz_sem.specs.Images.{Refusal};
 ghost use Rattle.tz_board.specs.BoardErrors.{refusal_of, place_of};
+ghost use Rattle.tz_board.specs.ScriptErrors.{script_refusal_of};
 ghost use Rattle.tz_cli.specs.Words.{run_in};
-ghost use Rattle.tz_cli.specs.Lines.{board_code, image_code, place_text, refused_line, unread_line, limit_line};
+ghost use Rattle.tz_cli.specs.Lines.{board_code, image_code, script_code, place_text, refused_line, unread_line, limit_line};
 ghost use Rattle.tz_cli.specs.Faults.{image_refusal, line_with, status_with, stop_of, code_with};
 
 use crate::files::name_of;
@@ -16,7 +17,7 @@ use crate::stops::Fault;
 use crate::words::RunWords;
 use itoa::Buffer;
 use std::alloc::{AllocError, Global};
-use tz_board::{BoardError, Place};
+use tz_board::{BoardError, Place, ScriptError};
 use tz_elf::ElfError;
 
 /// Appends a text.
@@ -116,6 +117,20 @@ fn push_board_error(line: &mut Vec<u8>, error: BoardError) -> Result<(), AllocEr
     }
 }
 
+/// Appends the code of a script's refusal with its line; of want of memory nothing.
+fn push_script_error(line: &mut Vec<u8>, error: ScriptError) -> Result<(), AllocError>
+    ensures bytes { OnOk result (line.new.items ≡ line.old.items ++ code_with script_code (script_refusal_of error)) }
+    ensures len { OnOk result (vec_len line.new ≤ vec_len line.old + 24) }
+{
+    match error {
+        ScriptError::BadLine(number) => push_code(line, "C1 ", number),
+        ScriptError::OutOfOrder(number) => push_code(line, "C2 ", number),
+        ScriptError::NoSuchInterrupt(number) => push_code(line, "C3 ", number),
+        ScriptError::TooMany => push_text(line, "C4"),
+        ScriptError::Memory => Ok(()),
+    }
+}
+
 /// The line of a file that can't be read.
 fn unread_line(alloc: Global, name: &str) -> Result<Vec<u8>, AllocError>
     ensures bytes { IfOk result (λ line. line.items ≡ unread_line name.now) }
@@ -166,6 +181,19 @@ fn image_line(alloc: Global, name: &str, error: ElfError) -> Result<Vec<u8>, All
     Ok(line)
 }
 
+/// The line of a script that is refused.
+fn script_line(alloc: Global, name: &str, error: ScriptError) -> Result<Vec<u8>, AllocError>
+    ensures bytes { IfOk result (λ line. line.items ≡ refused_line name.now (code_with script_code (script_refusal_of error))) }
+    ensures len { IfOk result (λ line. vec_len line ≤ 64 + length name.now) }
+{
+    let mut line = Vec::new(alloc);
+    push_text(&mut line, name)?;
+    push_text(&mut line, ": ")?;
+    push_script_error(&mut line, error)?;
+    push_text(&mut line, "\n")?;
+    Ok(line)
+}
+
 /// The line of a fault, and its status: 3, 5, 6, or 7 for want of memory.
 pub fn fault_line(
     alloc: Global,
@@ -179,10 +207,12 @@ pub fn fault_line(
     match fault {
         Fault::Unread(file) => Ok((unread_line(alloc, name_of(words, file))?, 3)),
         Fault::Long(file) => Ok((limit_line(alloc, name_of(words, file))?, 6)),
-        Fault::Board(BoardError::Memory) | Fault::Image(_, ElfError::Memory) | Fault::Memory => {
-            Err(AllocError)
-        }
+        Fault::Board(BoardError::Memory) => Err(AllocError),
+        Fault::Image(_, ElfError::Memory) => Err(AllocError),
+        Fault::Script(ScriptError::Memory) => Err(AllocError),
+        Fault::Memory => Err(AllocError),
         Fault::Board(error) => Ok((board_line(alloc, words.board, error)?, 5)),
+        Fault::Script(error) => Ok((script_line(alloc, words.script, error)?, 5)),
         Fault::Image(file, error) => Ok((image_line(alloc, name_of(words, file), error)?, 5)),
     }
 }

@@ -1,6 +1,6 @@
 //! Why a command stops before it begins.
 
-use tz_board::BoardError;
+use tz_board::{BoardError, ScriptError};
 use tz_elf::ElfError;
 
 /// A file that the words name.
@@ -9,6 +9,7 @@ pub enum File {
     Board,
     Secure,
     Nonsecure,
+    Script,
 }
 
 /// Why the files give no start.
@@ -18,5 +19,6 @@ pub enum Fault {
     Long(File),
     Board(BoardError),
     Image(File, ElfError),
+    Script(ScriptError),
     Memory,
 }
