@@ -9,6 +9,9 @@ ghost use Rattle.tz_model.specs.Outside.{HasCause, Put};
 ghost use Rattle.tz_sem.specs.Run.{state_after};
 ghost use Rattle.tz_sem.specs.Text.{text_from};
 
+#[cfg(test)]
+mod tests;
+
 use tz_core::Machine;
 use tz_model::{Sink, SinkError, View};
 use tz_text::line;

@@ -11,7 +11,7 @@ use arrayvec::ArrayString;
 use itoa::Buffer;
 use tz_model::Code;
 
-/// A line of the trace. The longest has 640 bytes: 63 with no register and no store, 14 for each of
+/// A line of the trace. The longest has 640 bytes: 64 with no register and no store, 14 for each of
 /// 16 registers, and 22 for each of 16 stores.
 pub type Line = ArrayString<768>;
 

@@ -10,6 +10,5 @@ mod lines;
 #[cfg(test)]
 mod tests;
 
-pub use digits::Line;
 pub use lines::line;
 pub use tz_model::View;

@@ -8,6 +8,7 @@ ghost use Rattle.tz_sem.specs.Text.{change_name, changes_text, size_text, stores
 
 use crate::digits::{Line, push_code, push_decimal, push_hex_word};
 use crate::instructions::{push_register, push_text};
+use arrayvec::ArrayString;
 use tz_core::decode;
 use tz_model::{Change, Report, Side, Size, StepKind, Store, View};
 
@@ -128,7 +129,7 @@ fn push_body(text: &mut Line, report: &Report, view: View)
 
 /// The line of a step with its line feed, as a view shows it. `step` counts from 0.
 #[tactic(auto, unfolding(tz_sem::specs::Text::line))]
-pub fn line(report: &Report, step: u32, view: View) -> Line
+pub fn line(report: &Report, step: u32, view: View) -> ArrayString<768>
     ensures { result.bytes ≡ line view step report.now }
 {
     let mut text = Line::new();

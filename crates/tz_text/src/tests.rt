@@ -1,6 +1,7 @@
 //! Lines of the worked examples, and one of each kind and shape.
 
-use crate::{Line, View, line};
+use crate::digits::Line;
+use crate::{View, line};
 use arrayvec::ArrayVec;
 use std::test::Fail;
 use tz_model::{Change, Code, Report, Side, Size, StepKind, Store};

@@ -1,0 +1,165 @@
+//! The worked examples: a Secure image that calls into Non-secure code, and Non-secure code that calls
+//! back through a gateway.
+
+use crate::run;
+use std::alloc::{AllocError, Global};
+use std::test::Fail;
+use tz_core::Machine;
+use tz_model::{
+    Board, FailingSink, Image, MemorySink, Profile, Region, RegionKind, RegionSide, SauRegion,
+    Segment, SinkError, View,
+};
+
+/// Secure and callable flash, Non-secure flash, and Secure RAM.
+fn board(alloc: Global) -> Result<Board, AllocError> {
+    Ok(Board {
+        secure_vtor: 0x10000000,
+        nonsecure_vtor: 0x00200000,
+        interrupts: 8,
+        sau_regions: 8,
+        mpu_secure: 8,
+        mpu_nonsecure: 8,
+        profile: Profile::V80,
+        regions: vec![in alloc;
+            Region {
+                base: 0x10000000,
+                size: 0x8000,
+                kind: RegionKind::Rom,
+                side: RegionSide::Secure
+            },
+            Region {
+                base: 0x10008000,
+                size: 0x8000,
+                kind: RegionKind::Rom,
+                side: RegionSide::Nsc
+            },
+            Region {
+                base: 0x00200000,
+                size: 0x10000,
+                kind: RegionKind::Rom,
+                side: RegionSide::NonSecure
+            },
+            Region {
+                base: 0x30000000,
+                size: 0x8000,
+                kind: RegionKind::Ram,
+                side: RegionSide::Secure
+            },
+        ]?,
+        sau: vec![in alloc;
+            SauRegion {
+                base: 0x00200000,
+                limit: 0x0020ffff,
+                nsc: false
+            },
+            SauRegion {
+                base: 0x10008000,
+                limit: 0x1000ffff,
+                nsc: true
+            },
+        ]?,
+    })
+}
+
+/// Loads the Non-secure start from a literal and goes there; at the gateway, sets R0 and returns.
+fn secure_image(alloc: Global) -> Result<Image, AllocError> {
+    let vectors = b"\x00\x10\x00\x30\x41\x00\x00\x10".to_vec(alloc)?;
+    let code = b"\x00\x48\x04\x47\x40\x00\x20\x00".to_vec(alloc)?;
+    let gateway = b"\x7f\xe9\x7f\xe9\x2a\x20\x74\x47".to_vec(alloc)?;
+    Ok(Image {
+        segments: vec![in alloc;
+            Segment {
+                base: 0x10000000,
+                bytes: vectors
+            },
+            Segment {
+                base: 0x10000040,
+                bytes: code
+            },
+            Segment {
+                base: 0x10008000,
+                bytes: gateway
+            },
+        ]?,
+    })
+}
+
+/// `movs r0, #5` and a branch to itself.
+fn looping(alloc: Global) -> Result<Image, AllocError> {
+    let bytes = b"\x05\x20\xfe\xe7".to_vec(alloc)?;
+    Ok(Image {
+        segments: vec![in alloc;
+            Segment {
+                base: 0x00200040,
+                bytes
+            },
+        ]?,
+    })
+}
+
+/// A call of the gateway, and an addition to what it returns.
+fn calling(alloc: Global) -> Result<Image, AllocError> {
+    let bytes = b"\x01\x4b\x98\x47\x01\x30\xfe\xe7\x01\x80\x00\x10".to_vec(alloc)?;
+    Ok(Image {
+        segments: vec![in alloc;
+            Segment {
+                base: 0x00200040,
+                bytes
+            },
+        ]?,
+    })
+}
+
+fn machine(alloc: Global, nonsecure: &Image) -> Result<Machine, AllocError> {
+    let board = board(alloc)?;
+    let secure = secure_image(alloc)?;
+    Machine::new(alloc, &board, &secure, nonsecure)
+}
+
+#[test]
+fn worked_examples(rt: HostRuntime) -> Result<(), Fail> {
+    let alloc = rt.alloc();
+    let looping = looping(alloc)?;
+    let calling = calling(alloc)?;
+    let cases = [
+        (
+            &looping,
+            4,
+            View::Ns,
+            "0 S\n1 S\n2 N 00200040 2005 movs r0, #5 r0=00000005\n3 N 00200042 e7fe b 0x00200042\n",
+        ),
+        (
+            &calling,
+            8,
+            View::Ns,
+            "0 S\n1 S\n2 N 00200040 4b01 ldr r3, [pc, #4] r3=10008001\n3 N 00200042 4798 blx r3 lr=00200045\n4 S\n5 S\n6 S\n7 N 00200044 3001 adds r0, r0, #1 r0=0000002b\n",
+        ),
+        (
+            &calling,
+            8,
+            View::All,
+            "0 s N 10000040 4800 ldr r0, [pc, #0] r0=00200040\n1 s N 10000042 4704 bxns r0 sp=00000000\n2 n N 00200040 4b01 ldr r3, [pc, #4] r3=10008001\n3 n N 00200042 4798 blx r3 lr=00200045\n4 n N 10008000 e97fe97f sg sp=30001000 lr=00200044\n5 s N 10008004 202a movs r0, #42 r0=0000002a\n6 s N 10008006 4774 bxns lr sp=00000000\n7 n N 00200044 3001 adds r0, r0, #1 r0=0000002b\n",
+        ),
+    ];
+    for (nonsecure, steps, view, want) in cases {
+        let mut machine = machine(alloc, nonsecure)?;
+        let mut out = MemorySink::new(alloc, 1000)?;
+        let answer = run(&mut machine, steps, view, &mut out);
+        assert!(rt; answer.is_ok());
+        assert_eq!(rt; out.bytes(), want.as_bytes());
+    }
+    Ok(())
+}
+
+/// The third put fails: the two lines before it went out, and the error is told.
+#[test]
+fn failing_put(rt: HostRuntime) -> Result<(), Fail> {
+    let alloc = rt.alloc();
+    let looping = looping(alloc)?;
+    let mut machine = machine(alloc, &looping)?;
+    let mut out = FailingSink::new(alloc, vec![in alloc; 2u64]?);
+    let answer = run(&mut machine, 4, View::Ns, &mut out);
+    assert!(rt; matches!(answer, Err(SinkError::Failed)));
+    assert_eq!(rt; out.bytes(), b"0 S\n1 S\n".as_slice());
+    Ok(())
+}
