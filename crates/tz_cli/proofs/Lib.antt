@@ -1,4 +1,5 @@
 pub mod Counts
+pub mod Looks
 pub mod WordAnswers
 pub mod WordTurns
 pub mod WordValues
