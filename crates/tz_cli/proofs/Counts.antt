@@ -1,5 +1,5 @@
 -- Words of decimal digits.
-use Rattle.std.proofs.Common.{◌≡◌, ◌&&◌, refl, sym, ℕ, ◌<◌, ◌≤◌, ◌^◌, ◌↔◌, length, get_or, Bool, true, false, IsTrue, List, Result, Ok, arith}
+use Rattle.std.proofs.Common.{◌≡◌, ◌&&◌, refl, sym, ℕ, ◌<◌, ◌≤◌, ◌↔◌, length, get_or, Bool, true, false, IsTrue, List, Result, Ok, arith}
 use Rattle.std.specs.Prelude.{EachIndex, slice_index}
 use Rattle.std.proofs.lemmas.Bool.{and_parts, le-leb, leb-true}
 use Rattle.std.proofs.Math.Dec.{leb}

@@ -18,7 +18,7 @@ use Rattle.clap.specs.declared.error.kind.ErrorKind.{ErrorKind}
 use Rattle.clap.specs.declared.parser.matches.ArgMatches.{ArgMatches}
 use Rattle.clap.specs.declared.parser.matches.Found.{Found}
 use Rattle.clap.proofs.WalkLemmas.{find_row}
-use Rattle.tz_cli.specs.Leaf.{Leaf, app_for, are_plain, is_one, is_one_of, is_positional, with_one}
+use Rattle.tz_cli.specs.Leaf.{Leaf, app_for, are_positional, is_name, is_one, is_one_of, is_positional, with_one}
 use Rattle.tz_cli.specs.Parts.{Text, Look, EndsOptions, Named, NamedWith, Refused, Positional, look_of, AnyWord, Parts, parts_of}
 use Rattle.tz_cli.specs.Found.{parts_in}
 use Rattle.tz_cli.proofs.WordTurns.{free}
@@ -37,12 +37,12 @@ plain_is (NamedWith v) h = absurd (true≢false (sym h))
 plain_is Refused h = absurd (true≢false (sym h))
 
 -- a value is no option
-pub value_is_plain : (opt : Text) (names : List Text) (v : Text) → are_plain opt names ≡ true → is_one_of names v ≡ true → look_of opt v ≡ Positional
+pub value_is_plain : (opt : Text) (names : List Text) (v : Text) → are_positional opt names ≡ true → is_one_of names v ≡ true → look_of opt v ≡ Positional
 value_is_plain opt [] v p h = absurd (true≢false (sym h))
-value_is_plain opt (n ∷ ns) v p h = by_test _ refl (value_is_plain opt ns v (and_parts (is_positional (look_of opt n)) (are_plain opt ns) p).1)
+value_is_plain opt (n ∷ ns) v p h = by_test _ refl (value_is_plain opt ns v (and_parts (is_positional (look_of opt n)) (are_positional opt ns) p).1)
   where
     by_test : (b : Bool) → bytes_eq n v ≡ b → (is_one_of ns v ≡ true → look_of opt v ≡ Positional) → look_of opt v ≡ Positional
-    by_test true e ih = subst (λ (t : Text). look_of opt t ≡ Positional) ((bytes_eq-Decides n v).0 e) (plain_is (look_of opt n) (and_parts (is_positional (look_of opt n)) (are_plain opt ns) p).0)
+    by_test true e ih = subst (λ (t : Text). look_of opt t ≡ Positional) ((bytes_eq-Decides n v).0 e) (plain_is (look_of opt n) (and_parts (is_positional (look_of opt n)) (are_positional opt ns) p).0)
     by_test false e ih = ih (rw e at h)
 
 same_one : (f g : Text → Bool) (had : Bool) (vs : List Text) → ((v : Text) → f v ≡ g v) → is_one f had vs ≡ is_one g had vs
@@ -58,13 +58,13 @@ values_by_rows f id = of_entry (find (λ (e : Entry). bytes_eq e.0.now id) f.ent
     of_entry None = refl
     of_entry (Some e) = refl
 
-module _ (q : Leaf) (names : List Text) (plain : are_plain q.option names ≡ true) (values : (v : Text) → accepts false q.parser v ≡ is_one_of names v) where
+module _ (q : Leaf) (names : List Text) (named : is_name q.option ≡ true) (plain : are_positional q.option names ≡ true) (values : (v : Text) → accepts false q.parser v ≡ is_one_of names v) where
   only : (v : Text) → accepts false q.parser v ≡ true → look_of q.option v ≡ Positional
   only v h = value_is_plain q.option names v plain (sym (values v) ∙ h)
 
   pub taken : (words : List Text) (m : ArgMatches) → fault_of (app_for q) words ≡ [] → rows_of (found_of m) ≡ matches_of (app_for q) words → Some (parts_in m) ≡ with_one (is_one_of names) (parts_of q.option AnyWord words)
   taken words m none rows =
-      let h = has-parts q only words (ap free none) in
+      let h = has-parts q named only words (ap free none) in
       let one : is_one (is_one_of names) false h.0.values ≡ true = sym (same_one (accepts false q.parser) (is_one_of names) false h.0.values values) ∙ h.2 in
       let is : parts_in m ≡ h.0 = λ i. record {
         positionals = (values_by_rows (found_of m) (codes "words") ∙ ap (held_by (codes "words")) rows ∙ h.3) i;
@@ -82,5 +82,5 @@ module _ (q : Leaf) (names : List Text) (plain : are_plain q.option names ≡ tr
       by_parts : (o : Option Parts) → parts_of q.option AnyWord words ≡ o → None ≡ with_one (is_one_of names) o
       by_parts None e = refl
       by_parts (Some r) e =
-          let no : is_one (is_one_of names) false r.values ≡ false = sym (same_one (accepts false q.parser) (is_one_of names) false r.values values) ∙ sym (ap (fits q only false) e) ∙ sym (takes-parts q only words) ∙ not_free (fault_of (app_for q) words) among in
+          let no : is_one (is_one_of names) false r.values ≡ false = sym (same_one (accepts false q.parser) (is_one_of names) false r.values values) ∙ sym (ap (fits q named only false) e) ∙ sym (takes-parts q named only words) ∙ not_free (fault_of (app_for q) words) among in
           rw no

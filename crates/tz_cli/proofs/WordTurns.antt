@@ -1,10 +1,7 @@
 -- One turn of clap's walk over the words behind a command's name.
-use Rattle.std.proofs.Common.{◌≡◌, ◌∙◌, ◌&&◌, ◌==◌, not, ℕ, Bool, true, false, refl, sym, ap, List, [], ◌∷◌, Option, Some, None, codes, cond}
-use Rattle.std.proofs.Common.{subst}
-use Rattle.std.proofs.lemmas.Bool.{eqb-true}
+use Rattle.std.proofs.Common.{◌≡◌, ◌∙◌, ◌&&◌, not, ℕ, Bool, true, false, refl, ap, List, [], ◌∷◌, Option, Some, None, codes, cond}
 use Rattle.std.proofs.lemmas.Slice.Eq.{bytes_eq-Decides}
 use Rattle.std.specs.Prelude.{slice_get}
-use Rattle.std.specs.List.{list_any, before_first, after_first}
 use Rattle.std.specs.Str.{bytes_eq, chars}
 use Rattle.clap.specs.Lexer.{long_of, short_of}
 use Rattle.clap.specs.ValueTests.{accepts}
@@ -16,7 +13,7 @@ use Rattle.clap.specs.declared.error.kind.ErrorKind.{ErrorKind}
 use Rattle.clap.specs.declared.error.kind.ErrorKind.TheVariants.{ArgumentConflict}
 use Rattle.clap.specs.Values.{refused_kind}
 use Rattle.tz_cli.specs.Leaf.{Leaf, app_for}
-use Rattle.tz_cli.specs.Parts.{Text, EndsOptions, Named, NamedWith, Refused, Positional, look_of, is_equals}
+use Rattle.tz_cli.specs.Parts.{Text}
 
 -- no kind of error comes
 abbrev pub free : Kinds → Bool
@@ -40,56 +37,6 @@ two false false j k = refl
 
 pub three : (before : Kinds) (a b : Bool) (j k : ErrorKind) → free (or_else (or_else before (or_else (cond (a && true) (j ∷ []) []) (or_else (cond b [] (k ∷ [])) []))) []) ≡ (free before && (not a && b))
 three before a b j k = free-right _ ∙ free-or_else before _ ∙ ap (λ (x : Bool). free before && x) (two a b j k)
-
--- what clap's tests say of a word, by its look
-pub data Seen (opt : Text) (word : Text) : Type 0 where
-  EndsAll : bytes_eq word (45 ∷ 45 ∷ []) ≡ true → look_of opt word ≡ EndsOptions → Seen opt word
-  NamesIt : bytes_eq word (45 ∷ 45 ∷ []) ≡ false → long_of word ≡ Some (opt, None) → look_of opt word ≡ Named → Seen opt word
-  GivesIt : (v : Text) → bytes_eq word (45 ∷ 45 ∷ []) ≡ false → long_of word ≡ Some (opt, Some v) → look_of opt word ≡ NamedWith v → Seen opt word
-  NamesOther : (name : Text) (v : Option Text) → bytes_eq word (45 ∷ 45 ∷ []) ≡ false → long_of word ≡ Some (name, v) → bytes_eq opt name ≡ false → look_of opt word ≡ Refused → Seen opt word
-  Hyphened : (x : ℕ) (y : ℕ) (flags : Text) → bytes_eq word (45 ∷ 45 ∷ []) ≡ false → long_of word ≡ None → short_of word ≡ Some (y ∷ flags) → slice_get (chars (y ∷ flags)) 0 ≡ Some x → look_of opt word ≡ Refused → Seen opt word
-  NoCharacter : (y : ℕ) (flags : Text) → bytes_eq word (45 ∷ 45 ∷ []) ≡ false → long_of word ≡ None → short_of word ≡ Some (y ∷ flags) → slice_get (chars (y ∷ flags)) 0 ≡ None → look_of opt word ≡ Positional → Seen opt word
-  NoHyphen : bytes_eq word (45 ∷ 45 ∷ []) ≡ false → long_of word ≡ None → short_of word ≡ None → look_of opt word ≡ Positional → Seen opt word
-
-seen_long : (opt : Text) → (z : ℕ) (rest : Text) → Seen opt (45 ∷ 45 ∷ z ∷ rest)
-seen_long opt z rest = named _ refl _ refl
-  where
-    text : Text
-    text = z ∷ rest
-
-    named : (b : Bool) → bytes_eq opt (before_first is_equals (z ∷ rest)) ≡ b → (c : Bool) → list_any is_equals (z ∷ rest) ≡ c → Seen opt (45 ∷ 45 ∷ z ∷ rest)
-    named true e true h = let name = (bytes_eq-Decides opt (before_first is_equals (z ∷ rest))).0 e in
-        GivesIt (after_first is_equals (z ∷ rest)) refl (rw (← name, h)) (rw (e, h))
-    named true e false h = let name = (bytes_eq-Decides opt (before_first is_equals (z ∷ rest))).0 e in
-        NamesIt refl (rw (← name, h)) (rw (e, h))
-    named false e c h = NamesOther (before_first is_equals (z ∷ rest)) _ refl refl e (rw e)
-
-seen_short : (opt : Text) → (y : ℕ) (rest : Text) → (y == 45) ≡ false → Seen opt (45 ∷ y ∷ rest)
-seen_short opt y rest n = spelled (chars (y ∷ rest)) refl
-  where
-    spelled : (cs : List ℕ) → chars (y ∷ rest) ≡ cs → Seen opt (45 ∷ y ∷ rest)
-    spelled [] e = NoCharacter y rest (rw n) (rw n) (rw n) (rw e) (rw (n, e))
-    spelled (c ∷ cs) e = Hyphened c y rest (rw n) (rw n) (rw n) (rw e) (rw (n, e))
-
-after_two : (opt : Text) → (more : Text) → Seen opt (45 ∷ 45 ∷ more)
-after_two opt [] = EndsAll refl refl
-after_two opt (z ∷ more) = seen_long opt z more
-
-seen_dash : (opt : Text) → (rest : Text) → Seen opt (45 ∷ rest)
-seen_dash opt [] = NoHyphen refl refl refl refl
-seen_dash opt (y ∷ rest) = second _ refl
-  where
-    second : (b : Bool) → (y == 45) ≡ b → Seen opt (45 ∷ y ∷ rest)
-    second true e = let is : y ≡ 45 = eqb-true y 45 e in subst (λ (n : ℕ). Seen opt (45 ∷ n ∷ rest)) (sym is) (after_two opt rest)
-    second false e = seen_short opt y rest e
-
-pub seen : (opt : Text) → (word : Text) → Seen opt word
-seen opt [] = NoHyphen refl refl refl refl
-seen opt (x ∷ rest) = first _ refl
-  where
-    first : (b : Bool) → (x == 45) ≡ b → Seen opt (x ∷ rest)
-    first true e = let is : x ≡ 45 = eqb-true x 45 e in subst (λ (n : ℕ). Seen opt (n ∷ rest)) (sym is) (seen_dash opt rest)
-    first false e = NoHyphen (rw e) (rw e) (rw e) (rw e)
 
 -- what is pending: nothing, a positional word, or the option's value
 pub data Pend : Type 0 where

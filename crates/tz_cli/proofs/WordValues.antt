@@ -10,9 +10,10 @@ use Rattle.clap.specs.Simple.{matches_of, filled, with_index}
 use Rattle.clap.specs.Walk.{Row, idle, positional, Walk, walked, reading_by, all_of, has_row, with_values, without, finished, settled}
 use Rattle.clap.specs.declared.builder.value_parser.Reading.{Reading}
 use Rattle.clap.specs.declared.parser.matches.ValueSource.TheVariants.{CommandLine}
-use Rattle.tz_cli.specs.Leaf.{Leaf, app_for, is_one, option_rule}
+use Rattle.tz_cli.specs.Leaf.{Leaf, app_for, is_name, is_one, option_rule}
 use Rattle.tz_cli.specs.Parts.{Text, Positional, look_of, all_positional, parts_by, AnyWord, ItsValue, Parts, parts_of, with_positional, with_value}
-use Rattle.tz_cli.proofs.WordTurns.{free, Seen, EndsAll, NamesIt, GivesIt, NamesOther, Hyphened, NoCharacter, NoHyphen, seen, Pend, Nothing, Word, Value, pend, asked, Ready, Idle, After, ready, rules_of_run, at, settles, after, turn, next_of, passes, waits, settles_value, ended_next, plain_next, ends_next, bare_next, valued_turn, valued_next, long_turn, short_turn, half_next, taking_ends, taking_bare, taking_long, taking_short, taking_half, taking_plain}
+use Rattle.tz_cli.proofs.Looks.{Seen, EndsAll, NamesIt, GivesIt, NamesOther, Hyphened, NoCharacter, NoHyphen, not_true, seen}
+use Rattle.tz_cli.proofs.WordTurns.{free, Pend, Nothing, Word, Value, pend, asked, Ready, Idle, After, ready, rules_of_run, at, settles, after, turn, next_of, passes, waits, settles_value, ended_next, plain_next, ends_next, bare_next, valued_turn, valued_next, long_turn, short_turn, half_next, taking_ends, taking_bare, taking_long, taking_short, taking_half, taking_plain}
 use Rattle.tz_cli.proofs.WordWalks.{goes, goes-cons, never, claims, fits, takes-parts}
 
 -- the values of an argument
@@ -61,11 +62,7 @@ append-none : (xs : List Text) → xs ++ [] ≡ xs
 append-none [] = refl
 append-none (x ∷ xs) = ap (λ (ys : List Text). x ∷ ys) (append-none xs)
 
-not_true : (b : Bool) → not b ≡ true → b ≡ false
-not_true true h = absurd (true≢false (sym h))
-not_true false h = refl
-
-module _ (p : Leaf) (only : (v : Text) → accepts false p.parser v ≡ true → look_of p.option v ≡ Positional) where
+module _ (p : Leaf) (named : is_name p.option ≡ true) (only : (v : Text) → accepts false p.parser v ≡ true → look_of p.option v ≡ Positional) where
   -- the rows at the end
   abbrev pub ends : Walk → List Text → List Row
   ends w words = finished (rules_of_run p) (fold (walked (rules_of_run p) []) w words).held
@@ -100,29 +97,29 @@ module _ (p : Leaf) (only : (v : Text) → accepts false p.parser v ≡ true →
   gains-nothing w = (ap (held_by (codes "words")) (last w) ∙ sym (append-none _), ap (held_by (codes "option")) (last w) ∙ sym (append-none _))
 
   -- a turn that passes, and the walk after it
-  both : (w next : Walk) (word : Text) (rest : List Text) → next_of p w word ≡ next → goes p only w (word ∷ rest) ≡ true
-      → (turn p w word ≡ true) × (goes p only next rest ≡ true) × (ends w (word ∷ rest) ≡ ends next rest)
-  both w next word rest n h = let parts = and_parts (turn p w word) (goes p only (next_of p w word) rest) (sym (goes-cons p only w word rest) ∙ h) in
-      (parts.0, ap (λ (x : Walk). goes p only x rest) (sym n) ∙ parts.1, ap (λ (x : Walk). ends x rest) n)
+  both : (w next : Walk) (word : Text) (rest : List Text) → next_of p w word ≡ next → goes p named only w (word ∷ rest) ≡ true
+      → (turn p w word ≡ true) × (goes p named only next rest ≡ true) × (ends w (word ∷ rest) ≡ ends next rest)
+  both w next word rest n h = let parts = and_parts (turn p w word) (goes p named only (next_of p w word) rest) (sym (goes-cons p named only w word rest) ∙ h) in
+      (parts.0, ap (λ (x : Walk). goes p named only x rest) (sym n) ∙ parts.1, ap (λ (x : Walk). ends x rest) n)
 
-  refused : (w : Walk) (word : Text) (rest : List Text) → turn p w word ≡ false → goes p only w (word ∷ rest) ≡ true → ⊥
-  refused w word rest e h = true≢false (sym (and_parts (turn p w word) (goes p only (next_of p w word) rest) (sym (goes-cons p only w word rest) ∙ h)).0 ∙ e)
+  refused : (w : Walk) (word : Text) (rest : List Text) → turn p w word ≡ false → goes p named only w (word ∷ rest) ≡ true → ⊥
+  refused w word rest e h = true≢false (sym (and_parts (turn p w word) (goes p named only (next_of p w word) rest) (sym (goes-cons p named only w word rest) ∙ h)).0 ∙ e)
 
   pub record Held (words : List Text) : Type 0 where
-    pub open_words : (rows : List Row) (held : Pend) (r : Ready) → goes p only (at p rows (pend held) (ready r) false) words ≡ true → Gains (after p rows (pend held)) (parts_of p.option AnyWord words) (ends (at p rows (pend held) (ready r) false) words)
-    pub ended_words : (rows : List Row) (held : Pend) (r : Ready) → goes p only (at p rows (pend held) (ready r) true) words ≡ true → Gains (after p rows (pend held)) (all_positional words) (ends (at p rows (pend held) (ready r) true) words)
-    pub taking_words : (rows : List Row) → goes p only (at p rows asked (waits p) false) words ≡ true → Gains rows (parts_of p.option ItsValue words) (ends (at p rows asked (waits p) false) words)
+    pub open_words : (rows : List Row) (held : Pend) (r : Ready) → goes p named only (at p rows (pend held) (ready r) false) words ≡ true → Gains (after p rows (pend held)) (parts_of p.option AnyWord words) (ends (at p rows (pend held) (ready r) false) words)
+    pub ended_words : (rows : List Row) (held : Pend) (r : Ready) → goes p named only (at p rows (pend held) (ready r) true) words ≡ true → Gains (after p rows (pend held)) (all_positional words) (ends (at p rows (pend held) (ready r) true) words)
+    pub taking_words : (rows : List Row) → goes p named only (at p rows asked (waits p) false) words ≡ true → Gains rows (parts_of p.option ItsValue words) (ends (at p rows asked (waits p) false) words)
 
   plain-step : (word : Text) (rest : List Text) (ih : Held rest) (rows : List Row) (held : Pend) (r : Ready)
       → next_of p (at p rows (pend held) (ready r) false) word ≡ at p (after p rows (pend held)) (pend (Word word)) positional false
-      → goes p only (at p rows (pend held) (ready r) false) (word ∷ rest) ≡ true
+      → goes p named only (at p rows (pend held) (ready r) false) (word ∷ rest) ≡ true
       → Gains (after p rows (pend held)) (with_positional word (parts_of p.option AnyWord rest)) (ends (at p rows (pend held) (ready r) false) (word ∷ rest))
   plain-step word rest ih rows held r n h =
       let b = both (at p rows (pend held) (ready r) false) (at p (after p rows (pend held)) (pend (Word word)) positional false) word rest n h in
       rw b.2 (gains-word (after p rows (pend held)) word (parts_of p.option AnyWord rest) (ends (at p (after p rows (pend held)) (pend (Word word)) positional false) rest) (ih.open_words (after p rows (pend held)) (Word word) After b.1))
 
   open-step : (word : Text) (rest : List Text) (ih : Held rest) → Seen p.option word → (rows : List Row) (held : Pend) (r : Ready)
-      → goes p only (at p rows (pend held) (ready r) false) (word ∷ rest) ≡ true
+      → goes p named only (at p rows (pend held) (ready r) false) (word ∷ rest) ≡ true
       → Gains (after p rows (pend held)) (parts_by (look_of p.option word) word rest (λ next. parts_of p.option next rest)) (ends (at p rows (pend held) (ready r) false) (word ∷ rest))
   open-step word rest ih (EndsAll e k) rows held r h =
       let b = both (at p rows (pend held) (ready r) false) (at p rows (pend held) (ready r) true) word rest (ends_next p rows (pend held) r word e) h in
@@ -142,18 +139,18 @@ module _ (p : Leaf) (only : (v : Text) → accepts false p.parser v ≡ true →
 
   value-step : (word : Text) (rest : List Text) (ih : Held rest) (rows : List Row)
       → (turn p (at p rows asked (waits p) false) word ≡ true) × (next_of p (at p rows asked (waits p) false) word ≡ at p rows (pend (Value word)) idle false)
-      → goes p only (at p rows asked (waits p) false) (word ∷ rest) ≡ true → Gains rows (with_value word (parts_of p.option AnyWord rest)) (ends (at p rows asked (waits p) false) (word ∷ rest))
+      → goes p named only (at p rows asked (waits p) false) (word ∷ rest) ≡ true → Gains rows (with_value word (parts_of p.option AnyWord rest)) (ends (at p rows asked (waits p) false) (word ∷ rest))
   value-step word rest ih rows t h =
       let b = both (at p rows asked (waits p) false) (at p rows (pend (Value word)) idle false) word rest t.1 h in
-      let settled_now = and_parts (settles p rows (pend (Value word))) _ (sym ((claims p only rest).open_words rows (Value word) Idle) ∙ b.1) in
+      let settled_now = and_parts (settles p rows (pend (Value word))) _ (sym ((claims p named only rest).open_words rows (Value word) Idle) ∙ b.1) in
       let new = and_parts (not (has_row (codes "option") rows)) (accepts false p.parser word) (sym (settles_value p rows word) ∙ settled_now.0) in
       rw b.2 (gains-value rows word (parts_of p.option AnyWord rest) (ends (at p rows (pend (Value word)) idle false) rest) (not_true _ new.0) (ih.open_words rows (Value word) Idle b.1))
 
   taking-step : (word : Text) (rest : List Text) (ih : Held rest) → Seen p.option word → (rows : List Row)
-      → goes p only (at p rows asked (waits p) false) (word ∷ rest) ≡ true → Gains rows (with_value word (parts_of p.option AnyWord rest)) (ends (at p rows asked (waits p) false) (word ∷ rest))
+      → goes p named only (at p rows asked (waits p) false) (word ∷ rest) ≡ true → Gains rows (with_value word (parts_of p.option AnyWord rest)) (ends (at p rows asked (waits p) false) (word ∷ rest))
   taking-step word rest ih (EndsAll e k) rows h =
       let b = both (at p rows asked (waits p) false) (at p rows asked (waits p) true) word rest (taking_ends p rows word e) h in
-      absurd (true≢false (sym b.1 ∙ never p only rows (waits p) rest))
+      absurd (true≢false (sym b.1 ∙ never p named only rows (waits p) rest))
   taking-step word rest ih (NamesIt e l k) rows h = absurd (refused (at p rows asked (waits p) false) word rest (taking_bare p rows word None e l) h)
   taking-step word rest ih (GivesIt v e l k) rows h = absurd (refused (at p rows asked (waits p) false) word rest (taking_bare p rows word (Some v) e l) h)
   taking-step word rest ih (NamesOther name v e l n k) rows h = absurd (refused (at p rows asked (waits p) false) word rest (taking_long p rows word name v e l n) h)
@@ -162,7 +159,7 @@ module _ (p : Leaf) (only : (v : Text) → accepts false p.parser v ≡ true →
   taking-step word rest ih (NoHyphen e l s k) rows h = value-step word rest ih rows (taking_plain p rows word e l s) h
 
   ended-step : (word : Text) (rest : List Text) (ih : Held rest) (rows : List Row) (held : Pend) (r : Ready)
-      → goes p only (at p rows (pend held) (ready r) true) (word ∷ rest) ≡ true
+      → goes p named only (at p rows (pend held) (ready r) true) (word ∷ rest) ≡ true
       → Gains (after p rows (pend held)) (with_positional word (all_positional rest)) (ends (at p rows (pend held) (ready r) true) (word ∷ rest))
   ended-step word rest ih rows held r h =
       let b = both (at p rows (pend held) (ready r) true) (at p (after p rows (pend held)) (pend (Word word)) positional true) word rest (ended_next p rows held (ready r) word) h in
@@ -176,9 +173,9 @@ module _ (p : Leaf) (only : (v : Text) → accepts false p.parser v ≡ true →
     taking_words = λ rows g. tt;
   }
   held (word ∷ rest) = let ih = held rest in record {
-    open_words = open-step word rest ih (seen p.option word);
+    open_words = open-step word rest ih (seen p.option named word);
     ended_words = ended-step word rest ih;
-    taking_words = taking-step word rest ih (seen p.option word);
+    taking_words = taking-step word rest ih (seen p.option named word);
   }
 
   -- the matches of words that clap takes
@@ -186,12 +183,12 @@ module _ (p : Leaf) (only : (v : Text) → accepts false p.parser v ≡ true →
       → (r : Parts) × (parts_of p.option AnyWord words ≡ Some r) × (is_one (accepts false p.parser) false r.values ≡ true) × (held_by (codes "words") (matches_of (app_for p) words) ≡ r.positionals) × (held_by (codes "option") (matches_of (app_for p) words) ≡ r.values)
   has-parts words h = by_parts (parts_of p.option AnyWord words) refl
     where
-      taken : fits p only false (parts_of p.option AnyWord words) ≡ true
-      taken = sym (takes-parts p only words) ∙ h
+      taken : fits p named only false (parts_of p.option AnyWord words) ≡ true
+      taken = sym (takes-parts p named only words) ∙ h
 
       gained : Gains [] (parts_of p.option AnyWord words) (matches_of (app_for p) words)
-      gained = (held words).open_words [] Nothing Idle ((claims p only words).open_words [] Nothing Idle ∙ taken)
+      gained = (held words).open_words [] Nothing Idle ((claims p named only words).open_words [] Nothing Idle ∙ taken)
 
       by_parts : (o : Option Parts) → parts_of p.option AnyWord words ≡ o → (r : Parts) × (parts_of p.option AnyWord words ≡ Some r) × (is_one (accepts false p.parser) false r.values ≡ true) × (held_by (codes "words") (matches_of (app_for p) words) ≡ r.positionals) × (held_by (codes "option") (matches_of (app_for p) words) ≡ r.values)
-      by_parts None e = absurd (true≢false (sym taken ∙ ap (fits p only false) e))
+      by_parts None e = absurd (true≢false (sym taken ∙ ap (fits p named only false) e))
       by_parts (Some r) e = let g = rw e at gained in (r, e, rw e at taken, g.0, g.1)

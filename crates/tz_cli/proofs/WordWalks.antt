@@ -11,9 +11,10 @@ use Rattle.clap.specs.Walk.{reading_by, walk, walk_from, nothing_held, settled, 
 use Rattle.clap.specs.Faults.{check_fault, defaults_fault, entered_fault, fault_of, settle_fault, turn_fault, walk_fault}
 use Rattle.clap.specs.declared.builder.value_parser.Reading.{Reading}
 use Rattle.clap.specs.declared.parser.matches.ValueSource.TheVariants.{CommandLine}
-use Rattle.tz_cli.specs.Leaf.{Leaf, app_for, is_one, option_rule}
+use Rattle.tz_cli.specs.Leaf.{Leaf, app_for, is_name, is_one, option_rule}
 use Rattle.tz_cli.specs.Parts.{Text, Positional, look_of, all_positional, parts_by, AnyWord, ItsValue, Parts, parts_of, with_positional, with_value}
-use Rattle.tz_cli.proofs.WordTurns.{Seen, EndsAll, NamesIt, GivesIt, NamesOther, Hyphened, NoCharacter, NoHyphen, seen, free, free-or_else, Pend, Nothing, Word, Value, pend, asked, Ready, Idle, After, ready, shape, rules_of_run, at, settles, after, turn, next_of, passes, waits, settles_value, ended_turn, ended_next, asked_ended, plain_turn, plain_next, ends_turn, ends_next, bare_turn, bare_next, valued_turn, valued_next, long_turn, short_turn, half_turn, half_next, taking_ends, taking_bare, taking_long, taking_short, taking_half, taking_plain}
+use Rattle.tz_cli.proofs.Looks.{Seen, EndsAll, NamesIt, GivesIt, NamesOther, Hyphened, NoCharacter, NoHyphen, seen}
+use Rattle.tz_cli.proofs.WordTurns.{free, free-or_else, Pend, Nothing, Word, Value, pend, asked, Ready, Idle, After, ready, shape, rules_of_run, at, settles, after, turn, next_of, passes, waits, settles_value, ended_turn, ended_next, asked_ended, plain_turn, plain_next, ends_turn, ends_next, bare_turn, bare_next, valued_turn, valued_next, long_turn, short_turn, half_turn, half_next, taking_ends, taking_bare, taking_long, taking_short, taking_half, taking_plain}
 
 pub and_assoc : (a b c : Bool) → ((a && b) && c) ≡ (a && (b && c))
 and_assoc true b c = refl
@@ -55,7 +56,7 @@ has_row-other how values (r ∷ rs) = by_test _ refl (has_row-other how values r
     by_test true e ih = rw e
     by_test false e ih = rw e (ap (λ (b : Bool). bytes_eq r.id (codes "option") || b) ih)
 
-module _ (p : Leaf) (only : (v : Text) → accepts false p.parser v ≡ true → look_of p.option v ≡ Positional) where
+module _ (p : Leaf) (named : is_name p.option ≡ true) (only : (v : Text) → accepts false p.parser v ≡ true → look_of p.option v ≡ Positional) where
   -- the walk over the words, and what is settled at its end, pass
   abbrev pub goes : Walk → List Text → Bool
   goes w words = free (walk_fault (shape p) [] w words) && free (settle_fault (rules_of_run p) false (fold (walked (rules_of_run p) []) w words).held)
@@ -176,9 +177,9 @@ module _ (p : Leaf) (only : (v : Text) → accepts false p.parser v ≡ true →
     taking_words = λ rows. refl;
   }
   claims (word ∷ rest) = let ih = claims rest in record {
-    open_words = open-step word rest ih (seen p.option word);
+    open_words = open-step word rest ih (seen p.option named word);
     ended_words = ended-step word rest ih;
-    taking_words = taking-step word rest ih (seen p.option word);
+    taking_words = taking-step word rest ih (seen p.option named word);
   }
 
   no_subcommand : (stop : Option (Text × List Text)) → free (entered_fault (built (app_for p)) stop) ≡ true

@@ -1,5 +1,5 @@
 -- The command that clap is given: positional words of any number, and one option that takes named values.
-use Rattle.std.specs.Prelude.{◌≡◌, ◌&&◌, ℕ, Bool, not, true, false, List, [], ◌∷◌, Option, Some, None, if◌then◌else◌, codes}
+use Rattle.std.specs.Prelude.{◌≡◌, ◌&&◌, ◌==◌, Bool, not, true, false, List, [], ◌∷◌, Option, Some, None, if◌then◌else◌, codes}
 use Rattle.std.specs.List.{list_any}
 use Rattle.std.specs.Str.{bytes_eq}
 use Rattle.clap.specs.Words.{App, Rule, app_of, new_app, new_rule, with_rule}
@@ -20,6 +20,7 @@ pub record Leaf : Type 0 where
 abbrev pub words_rule : Rule
 words_rule = record (new_rule (codes "words")) { action = Some Append }
 
+-- the option, by its long name alone
 abbrev pub option_rule : Leaf → Rule
 option_rule leaf = record (new_rule (codes "option")) { long = Some leaf.option; parser = Some leaf.parser }
 
@@ -28,6 +29,7 @@ abbrev pub bare_app : Leaf → App
 bare_app leaf =
     on_top (λ t. record t { no_binary_name = true; disable_help_flag = true; disable_version_flag = true }) (new_app leaf.name)
 
+-- the whole command
 abbrev pub app_for : Leaf → App
 app_for leaf = with_rule (with_rule (bare_app leaf) words_rule) (option_rule leaf)
 
@@ -52,11 +54,17 @@ abbrev pub with_one : (Text → Bool) → Option Parts → Option Parts
 with_one passes None = None
 with_one passes (Some p) = if is_one passes false p.values then Some p else None
 
+-- reads as a positional word
 abbrev pub is_positional : Look → Bool
 is_positional Positional = true
 is_positional _ = false
 
 -- none of the names would read as an option
-abbrev pub are_plain : Text → List Text → Bool
-are_plain option [] = true
-are_plain option (name ∷ names) = is_positional (look_of option name) && are_plain option names
+abbrev pub are_positional : Text → List Text → Bool
+are_positional option [] = true
+are_positional option (name ∷ names) = is_positional (look_of option name) && are_positional option names
+
+-- the option's name has no `=` (61)
+abbrev pub is_name : Text → Bool
+is_name [] = true
+is_name (c ∷ rest) = not (c == 61) && is_name rest

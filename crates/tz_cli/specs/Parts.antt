@@ -1,6 +1,5 @@
 -- What the words behind a command's word are: positional words, and values of the command's one option.
-use Rattle.std.specs.Prelude.{ℕ, Bool, ◌==◌, List, [], ◌∷◌, if◌then◌else◌, Option, Some, None, option_map}
-use Rattle.std.specs.List.{before_first, after_first, list_any}
+use Rattle.std.specs.Prelude.{ℕ, Bool, true, false, ◌==◌, ◌&&◌, List, [], ◌∷◌, ◌++◌, if◌then◌else◌, Option, Some, None, codes, option_map}
 use Rattle.std.specs.Str.{bytes_eq, chars}
 
 -- the bytes of a word
@@ -19,32 +18,39 @@ pub data Look : Type 0 where
   Refused : Look
   Positional : Look
 
-abbrev pub is_equals : ℕ → Bool
-is_equals c = c == 61
+-- what stands behind a prefix, in a word that begins with it
+abbrev pub behind : Text → Text → Option Text
+behind [] word = Some word
+behind (p ∷ prefix) [] = None
+behind (p ∷ prefix) (c ∷ word) = if p == c then behind prefix word else None
 
--- behind `--`: nothing, or a name, with a value behind the first `=` if there is one
-abbrev pub behind_hyphens : Text → Text → Look
-behind_hyphens option [] = EndsOptions
-behind_hyphens option (c ∷ rest) =
-    if bytes_eq option (before_first is_equals (c ∷ rest))
-    then (if list_any is_equals (c ∷ rest) then NamedWith (after_first is_equals (c ∷ rest)) else Named)
-    else Refused
+-- two characters or more
+abbrev pub are_several : List ℕ → Bool
+are_several (c ∷ d ∷ more) = true
+are_several _ = false
 
--- behind one `-`: a further character makes the word longer than one
-abbrev pub behind_hyphen : List ℕ → Look
-behind_hyphen [] = Positional
-behind_hyphen (c ∷ rest) = Refused
+-- starts with `-` (45) and is longer than one character
+abbrev pub is_hyphened : Text → Bool
+is_hyphened [] = false
+is_hyphened (c ∷ rest) = c == 45 && are_several (chars (c ∷ rest))
 
--- a word that starts with `-` (45)
-abbrev pub hyphen_look : Text → Text → Look
-hyphen_look option [] = Positional
-hyphen_look option (c ∷ rest) = if c == 45 then behind_hyphens option rest else behind_hyphen (chars (c ∷ rest))
+-- how a word reads that is neither `--` nor the option
+abbrev pub other_look : Text → Look
+other_look word = if is_hyphened word then Refused else Positional
+
+-- how a word reads by what stands behind the option's name: nothing, or `=` (61) and a value
+abbrev pub option_look : Option Text → Look → Look
+option_look None other = other
+option_look (Some []) other = Named
+option_look (Some (c ∷ value)) other = if c == 61 then NamedWith value else other
 
 -- how a word reads to a command whose option has this name
 abbrev pub look_of : Text → Text → Look
-look_of option [] = Positional
-look_of option (c ∷ rest) = if c == 45 then hyphen_look option rest else Positional
+look_of option word =
+    if bytes_eq word (codes "--") then EndsOptions
+    else option_look (behind (codes "--" ++ option) word) (other_look word)
 
+-- the positional words and the option's values, each in the order of the words
 pub record Parts : Type 0 where
   pub positionals : List Text
   pub values : List Text
@@ -53,9 +59,11 @@ pub record Parts : Type 0 where
 abbrev pub all_positional : List Text → Option Parts
 all_positional words = Some (record { positionals = words; values = [] })
 
+-- a positional word before these parts
 abbrev pub with_positional : Text → Option Parts → Option Parts
 with_positional word = option_map {T = Parts} (λ p. record p { positionals = word ∷ p.positionals })
 
+-- a value before these parts
 abbrev pub with_value : Text → Option Parts → Option Parts
 with_value value = option_map {T = Parts} (λ p. record p { values = value ∷ p.values })
 

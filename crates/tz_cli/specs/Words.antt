@@ -59,6 +59,7 @@ run_with (Some view) (board ∷ secure ∷ nonsecure ∷ script ∷ steps ∷ []
     }) (steps_of steps)
 run_with _ _ = None
 
+-- what these parts tell `run`
 abbrev pub run_parts : Parts → Option RunWords
 run_parts p = run_with (view_of p.values) p.positionals
 

@@ -11,6 +11,8 @@ ghost use Rattle.tz_cli.specs.Found.{parts_in, values_in};
 ghost use Rattle.tz_cli.specs.Words.{is_count, run_behind, run_in, run_of, run_parts, steps_of, view_of};
 
 mod leaf;
+#[cfg(test)]
+mod tests;
 
 use clap::ArgMatches;
 use leaf::matches;
@@ -18,6 +20,9 @@ use std::alloc::{AllocError, Global};
 use tz_model::View;
 
 static VIEWS: [&str; 2] = ["ns", "all"];
+
+/// The most digits that a number of steps has.
+const MOST_DIGITS: usize = 8;
 
 /// What `run` is told.
 #[derive(Clone, Copy)]
@@ -47,10 +52,11 @@ fn are_digits(word: &str) -> bool
 fn is_count(word: &str) -> bool
     ensures { result ≡ is_count word.now }
 {
-    match word.len() {
-        1..=8 => are_digits(word),
-        _ => false,
+    let digits = word.len();
+    if digits == 0 || digits > MOST_DIGITS {
+        return false;
     }
+    are_digits(word)
 }
 
 /// The number of steps that a word writes.

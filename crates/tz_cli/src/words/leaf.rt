@@ -6,7 +6,7 @@
 
 ghost use Rattle.std.specs.Prelude.{◌≡◌, IfOk, true, map, string_bytes, option_map};
 ghost use Rattle.tz_cli.specs.Found.{parts_in};
-ghost use Rattle.tz_cli.specs.Leaf.{IsLeaf, are_plain, is_one_of, with_one};
+ghost use Rattle.tz_cli.specs.Leaf.{IsLeaf, are_positional, is_name, is_one_of, with_one};
 ghost use Rattle.tz_cli.specs.Parts.{AnyWord, parts_of};
 
 use clap::error::ErrorKind;
@@ -40,7 +40,8 @@ pub fn matches<'a>(
     values: &'a [&'a str],
     words: &'a [String],
 ) -> Result<Option<ArgMatches<'a>>, AllocError>
-    requires { are_plain option.now (map (λ s. s.now) values.now) ≡ true }
+    requires option { is_name option.now ≡ true }
+    requires values { are_positional option.now (map (λ s. s.now) values.now) ≡ true }
     ensures { IfOk result (λ r. option_map parts_in r
         ≡ with_one (is_one_of (map (λ s. s.now) values.now)) (parts_of option.now AnyWord (map string_bytes words.now))) }
 {

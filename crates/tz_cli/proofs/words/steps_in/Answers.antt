@@ -1,4 +1,4 @@
-use Rattle.std.proofs.Common.{◌≡◌, ◌∙◌, ap, sym, true, Some}
+use Rattle.std.proofs.Common.{◌≡◌, ◌∙◌, ap, sym, true}
 use Rattle.std.specs.Result.{result_ok}
 use Rattle.tz_cli.specs.Words.{is_count}
 use Rattle.tz_cli.proofs.Counts.{parse-count}

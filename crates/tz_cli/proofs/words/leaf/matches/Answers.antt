@@ -3,7 +3,7 @@ use Rattle.clap.specs.Words.{App, IsAmong, kind_of}
 use Rattle.std.specs.Prelude.{string_bytes}
 use Rattle.clap.specs.Faults.{fault_of, is_simple_and_free}
 use Rattle.clap.specs.Simple.{is_simple, matches_of}
-use Rattle.tz_cli.specs.Leaf.{are_plain, is_one_of, with_one}
+use Rattle.tz_cli.specs.Leaf.{are_positional, is_name, is_one_of, with_one}
 use Rattle.tz_cli.specs.Parts.{AnyWord, parts_of}
 use Rattle.tz_cli.proofs.WordAnswers.{taken, refused}
 use Rattle.tz_cli.proofs.words.leaf.matches.Goals as goal
@@ -15,8 +15,9 @@ returns-in-Ok c =
     let names = map (λ s. s.now) c.args.values.now in
     let none = c.in-Ok.ensures.kinds (ap is_simple_and_free is.app) in
     let rows = c.in-Ok.ensures.matches (ap is_simple is.app) in
-    let plain : are_plain is.leaf.option names ≡ true = ap (λ o. are_plain o names) is.named ∙ c.requires in
-    taken is.leaf names plain is.values words c.in-Ok.found (sym (ap (λ (a : App). fault_of a words) is.app) ∙ none) (rows.0 ∙ ap (λ (a : App). matches_of a words) is.app)
+    let plain : are_positional is.leaf.option names ≡ true = ap (λ o. are_positional o names) is.named ∙ c.requires.values in
+    let named : is_name is.leaf.option ≡ true = ap is_name is.named ∙ c.requires.option in
+    taken is.leaf names named plain is.values words c.in-Ok.found (sym (ap (λ (a : App). fault_of a words) is.app) ∙ none) (rows.0 ∙ ap (λ (a : App). matches_of a words) is.app)
     ∙ ap (λ o. with_one (is_one_of names) (parts_of o AnyWord words)) is.named
 
 pub returns : goal.returns
@@ -25,9 +26,10 @@ returns c =
     let words = map string_bytes c.args.words.now in
     let names = map (λ s. s.now) c.args.values.now in
     let kinds = c.in-Err.ensures.kinds (ap is_simple_and_free is.app) in
-    let plain : are_plain is.leaf.option names ≡ true = ap (λ o. are_plain o names) is.named ∙ c.requires in
+    let plain : are_positional is.leaf.option names ≡ true = ap (λ o. are_positional o names) is.named ∙ c.requires.values in
+    let named : is_name is.leaf.option ≡ true = ap is_name is.named ∙ c.requires.option in
     elim kinds [
       | inl memory ↦ absurd (c.in_default.not-OutOfMemory (c.kind.ensures ∙ memory))
-      | inr among ↦ refused is.leaf names plain is.values words _ (subst (λ (a : App). IsAmong (kind_of c.in-Err.error) (fault_of a words)) is.app among)
+      | inr among ↦ refused is.leaf names named plain is.values words _ (subst (λ (a : App). IsAmong (kind_of c.in-Err.error) (fault_of a words)) is.app among)
           ∙ ap (λ o. with_one (is_one_of names) (parts_of o AnyWord words)) is.named
     ]
