@@ -1,3 +1,4 @@
+pub mod Looks
 pub mod WordTurns
 pub mod WordValues
 pub mod WordWalks
@@ -7,3 +8,4 @@ pub mod Names
 pub mod Stages
 pub mod Exits
 pub mod Clauses
+pub mod Reading

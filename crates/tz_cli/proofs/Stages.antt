@@ -81,8 +81,8 @@ script_fault_at held held1 held2 held3 sound sound3 before mid now interrupts r 
     let first : held2 ≡ held = e2 ∙ e1 in
     let all : held3 ≡ held = e3 ∙ first in
     let p = allows_nonsecure held r b i n hb (subst (λ (x : List ℕ → Held). Allows (image_told x b sides.Secure r.secure) i) e1 hi)
-        (subst (λ (x : List ℕ → Held). Allows (image_told x b sides.NonSecure r.nonsecure) n) first hn) in
+    (subst (λ (x : List ℕ → Held). Allows (image_told x b sides.NonSecure r.nonsecure) n) first hn) in
     let told = subst (λ (x : List ℕ → Held). IsStageFault (record { held = x; sound = sound; before = mid; now = now }) r files.Script (script_told x b.interrupts r.script) fault) all
-        (subst (λ (x : Bool). IsStageFault (record { held = held3; sound = x; before = mid; now = now }) r files.Script (script_told held3 b.interrupts r.script) fault) es
-        (subst (λ (x : ℕ). IsStageFault (record { held = held3; sound = sound3; before = mid; now = now }) r files.Script (script_told held3 x r.script) fault) same k)) in
+    (subst (λ (x : Bool). IsStageFault (record { held = held3; sound = x; before = mid; now = now }) r files.Script (script_told held3 b.interrupts r.script) fault) es
+    (subst (λ (x : ℕ). IsStageFault (record { held = held3; sound = sound3; before = mid; now = now }) r files.Script (script_told held3 x r.script) fault) same k)) in
     script_fault held sound before mid now r (record { board = b; secure = i; nonsecure = n; script = [] }) fault p told named l

@@ -84,11 +84,7 @@ fn unread(file: File, error: ShelfError) -> Fault
 
 /// The board that the words name: the built-in one, or a file.
 #[tactic(auto, unfolding(crate::specs::Told::board_told, crate::specs::Told::board_file))]
-fn load_board<H: Shelf>(
-    alloc: Global,
-    shelf: &mut H,
-    words: &RunWords<'_>,
-) -> Result<Board, Fault>
+fn load_board<H: Shelf>(alloc: Global, shelf: &mut H, words: &RunWords<'_>) -> Result<Board, Fault>
     ensures ok { IfOk result (λ b. Allows (board_told (H.held shelf.old) words.now.board.now) b) }
     ensures err { IfErr result (λ e. IsStageFault (record { held = H.held shelf.old; sound = H.sound shelf.old; before = H.faults shelf.old; now = H.faults shelf.new }) (run_in words.now) files.Board (board_told (H.held shelf.old) words.now.board.now) e) }
     ensures named { IfErr result (λ e. e ≡ faults.Unread files.Board → is_demo words.now.board.now ≡ false) }
@@ -165,11 +161,7 @@ fn load_script<H: Shelf>(
 }
 
 /// The files of a run, in the order of its words.
-pub fn load<H: Shelf>(
-    alloc: Global,
-    shelf: &mut H,
-    words: &RunWords<'_>,
-) -> Result<Files, Fault>
+pub fn load<H: Shelf>(alloc: Global, shelf: &mut H, words: &RunWords<'_>) -> Result<Files, Fault>
     ensures ok { IfOk result (λ f. Allows (start_told (H.held shelf.old) (run_in words.now)) (start_in f)) }
     ensures err { IfErr result (λ e. IsFault (record { held = H.held shelf.old; sound = H.sound shelf.old; before = H.faults shelf.old; now = H.faults shelf.new }) (run_in words.now) (start_told (H.held shelf.old) (run_in words.now)) e) }
     ensures later { H.faults shelf.old ≤ H.faults shelf.new }

@@ -98,10 +98,21 @@ fn answer<H: Shelf, O: Sink, E: Sink>(
     err: &mut E,
 ) -> u8
     ensures { Answer (record {
-        words = map string_bytes words.now;
-        held = H.held shelf.old; sound = H.sound shelf.old; shelf_before = H.faults shelf.old; shelf_now = H.faults shelf.new;
-        out_old = O.written out.old; out_new = O.written out.new; out_space = O.space out.old; out_before = O.faults out.old; out_now = O.faults out.new;
-        err_old = E.written err.old; err_new = E.written err.new; err_space = E.space err.old; err_before = E.faults err.old; err_now = E.faults err.new;
+      words = map string_bytes words.now;
+      held = H.held shelf.old;
+      sound = H.sound shelf.old;
+      shelf_before = H.faults shelf.old;
+      shelf_now = H.faults shelf.new;
+      out_old = O.written out.old;
+      out_new = O.written out.new;
+      out_space = O.space out.old;
+      out_before = O.faults out.old;
+      out_now = O.faults out.new;
+      err_old = E.written err.old;
+      err_new = E.written err.new;
+      err_space = E.space err.old;
+      err_before = E.faults err.old;
+      err_now = E.faults err.new;
     }) result }
 {
     let words = match run_words(alloc, words) {
@@ -124,7 +135,7 @@ fn answer<H: Shelf, O: Sink, E: Sink>(
     let Ok(mut machine) = Machine::new(alloc, &files.board, &files.secure, &files.nonsecure) else {
         return refuse(err, b"no memory\n", 7);
     };
-    match run(&mut machine, words.steps, words.view, out) {
+    match run(&mut machine, &files.script, words.steps, words.view, out) {
         Ok(()) => 0,
         Err(_) => 4,
     }

@@ -12,16 +12,20 @@ ghost use Rattle.tz_sem.specs.Text.{text_from};
 #[cfg(test)]
 mod tests;
 
+use tz_board::Script;
 use tz_core::Machine;
 use tz_model::{Sink, SinkError, View};
 use tz_text::line;
 
 /// Runs `steps` steps and writes a line for each, numbered from 0.
 ///
+/// The script's events are passed over: no step takes an exception yet.
+///
 /// A line that can't be written is the one error. The run ends there: the lines before it went out, and
 /// the machine stands after the step whose line failed.
 pub fn run<O: Sink>(
     machine: &mut Machine,
+    script: &Script,
     steps: u32,
     view: View,
     out: &mut O,
@@ -30,6 +34,7 @@ pub fn run<O: Sink>(
     ensures cause { HasCause (O.faults out.old) (O.faults out.new) (result ≡ Err SinkError.Failed) }
     ensures state { OnOk result (machine.new ≡ state_after machine.old steps) }
 {
+    let _script = script;
     for step in 0..steps {
         let report = machine.step(&[]);
         let text = line(&report, step, view);

@@ -4,6 +4,7 @@
 use crate::run;
 use std::alloc::{AllocError, Global};
 use std::test::Fail;
+use tz_board::Script;
 use tz_core::Machine;
 use tz_model::{
     Board, FailingSink, Image, MemorySink, Profile, Region, RegionKind, RegionSide, SauRegion,
@@ -144,7 +145,13 @@ fn worked_examples(rt: HostRuntime) -> Result<(), Fail> {
     for (nonsecure, steps, view, want) in cases {
         let mut machine = machine(alloc, nonsecure)?;
         let mut out = MemorySink::new(alloc, 1000)?;
-        let answer = run(&mut machine, steps, view, &mut out);
+        let answer = run(
+            &mut machine,
+            &Script::none(rt.alloc()),
+            steps,
+            view,
+            &mut out,
+        );
         assert!(rt; answer.is_ok());
         assert_eq!(rt; out.bytes(), want.as_bytes());
     }
@@ -158,7 +165,13 @@ fn failing_put(rt: HostRuntime) -> Result<(), Fail> {
     let looping = looping(alloc)?;
     let mut machine = machine(alloc, &looping)?;
     let mut out = FailingSink::new(alloc, vec![in alloc; 2u64]?);
-    let answer = run(&mut machine, 4, View::Ns, &mut out);
+    let answer = run(
+        &mut machine,
+        &Script::none(rt.alloc()),
+        4,
+        View::Ns,
+        &mut out,
+    );
     assert!(rt; matches!(answer, Err(SinkError::Failed)));
     assert_eq!(rt; out.bytes(), b"0 S\n1 S\n".as_slice());
     Ok(())

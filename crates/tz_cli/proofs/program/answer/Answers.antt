@@ -32,7 +32,7 @@ returns-in-Ok-run g c =
     answer_done _ (run_in c.in-Ok-Some.words) (start_in c.in-Ok.files) (g.O.Sink.space c.run.new.out) (sym (rw c.in-Ok-Some.field-0-is at c.in-Ok-Some.ensures))
     c.if-words-gt-STEP_LIMIT.false c.in-Ok.ensures.ok
     (subst (λ (s : State). Put (g.O.Sink.written c.args.out.now) (g.O.Sink.written c.run.new.out) (g.O.Sink.space c.args.out.now) (g.O.Sink.space c.run.new.out)
-      (text_from c.in-Ok-Some.words.view 0 s c.in-Ok-Some.words.steps) (Ok c.in-Ok-run.field-0)) c.in-Ok-new.ensures c.in-Ok-run.ensures.put)
+    (text_from c.in-Ok-Some.words.view 0 s c.in-Ok-Some.words.steps) (Ok c.in-Ok-run.field-0)) c.in-Ok-new.ensures c.in-Ok-run.ensures.put)
     refl
 
 pub returns : goal.returns
@@ -40,5 +40,5 @@ returns g c =
     answer_broken _ (run_in c.in-Ok-Some.words) (start_in c.in-Ok.files) (g.O.Sink.space c.run.new.out) c.in-Err-run.field-0
     (sym (rw c.in-Ok-Some.field-0-is at c.in-Ok-Some.ensures)) c.if-words-gt-STEP_LIMIT.false c.in-Ok.ensures.ok
     (subst (λ (s : State). Put (g.O.Sink.written c.args.out.now) (g.O.Sink.written c.run.new.out) (g.O.Sink.space c.args.out.now) (g.O.Sink.space c.run.new.out)
-      (text_from c.in-Ok-Some.words.view 0 s c.in-Ok-Some.words.steps) (Err c.in-Err-run.field-0)) c.in-Ok-new.ensures c.in-Err-run.ensures.put)
+    (text_from c.in-Ok-Some.words.view 0 s c.in-Ok-Some.words.steps) (Err c.in-Err-run.field-0)) c.in-Ok-new.ensures c.in-Err-run.ensures.put)
     (c.in-Err-run.ensures.cause.failed (failed_alone c.in-Err-run.field-0)) refl
