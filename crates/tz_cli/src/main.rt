@@ -9,6 +9,8 @@ mod files;
 mod lines;
 mod program;
 mod stops;
+#[cfg(test)]
+mod tests;
 mod words;
 
 use edge::{FileShelf, OutSink};

@@ -73,4 +73,3 @@ pub first_sharing-clear : (s : SegmentValue) (segments : List SegmentValue) (i :
     → is_clear_of (get_or segments i d) s ≡ true
     → first_sharing i s (drop i segments) ≡ first_sharing (i + 1) s (drop (i + 1) segments)
 first_sharing-clear s segments i d h clear = rw (drop-cons segments i d, clear, add-one) refl
-

@@ -13,7 +13,6 @@ mod placement;
 mod plain;
 
 pub use error::ElfError;
-
 use placement::regions_for;
 use plain::read_plain;
 use std::alloc::Global;
@@ -23,12 +22,7 @@ use tz_model::{Board, Image, Side};
 ///
 /// The error is the first refusal, in the order of the file: of a line of a plain image `Hex`,
 /// `Outside`, `WrongSide`, `Overlap`. `Memory` comes only where memory runs out.
-pub fn read_image(
-    alloc: Global,
-    bytes: &[u8],
-    board: &Board,
-    side: Side,
-) -> Result<Image, ElfError>
+pub fn read_image(alloc: Global, bytes: &[u8], board: &Board, side: Side) -> Result<Image, ElfError>
     requires { length bytes.now < 2 ^ 32 }
     ensures ok { IfOk result (λ i. image_of bytes.now board.now side ≡ Ok i) }
     ensures err { IfErr result (λ e. IsRefusal e (image_of bytes.now board.now side)) }
