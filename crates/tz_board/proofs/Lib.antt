@@ -2,3 +2,9 @@ pub mod Lists
 pub mod Overlaps
 pub mod Accepted
 pub mod Documents
+pub mod Pieces
+pub mod Digits
+pub mod Halving
+pub mod Moments
+pub mod Opening
+pub mod ScriptLines

@@ -1,3 +1,6 @@
 pub mod Boards
 pub mod BoardErrors
 pub mod Tables
+pub mod Text
+pub mod Script
+pub mod ScriptErrors

@@ -10,8 +10,16 @@ mod demo;
 mod error;
 mod keys;
 mod limits;
+mod line;
+mod script;
+mod script_file;
 mod tables;
+#[cfg(test)]
+mod tests;
+mod text;
 
 pub use board::read_board;
 pub use demo::demo_board;
-pub use error::{BoardError, Key, Place};
+pub use error::{BoardError, Key, Place, ScriptError};
+pub use script::Script;
+pub use script_file::read_script;

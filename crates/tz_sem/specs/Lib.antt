@@ -9,3 +9,4 @@ pub mod Demo
 pub mod Placement
 pub mod PlainImage
 pub mod Images
+pub mod Scripts

@@ -1,0 +1,24 @@
+use Rattle.std.proofs.Common.{◌∙◌, ap, arith, length, sym}
+use Rattle.std.proofs.lemmas.Bool.{leb-true}
+use Rattle.tz_sem.specs.Scripts.{due_at}
+use Rattle.tz_board.specs.Script.{all_timed}
+use Rattle.tz_board.specs.declared.script.Moment.{Moment}
+use Rattle.tz_board.proofs.Moments.{due_at-found, due_at-none, moments_few}
+use Rattle.tz_board.proofs.script.Script.due.Goals as goal
+
+pub find-requires-clause-few : goal.find-requires-clause-few
+find-requires-clause-few g c =
+    let few = leb-true (length (all_timed c.self.inside.moments.items)) 10000 c.self.invariant.0.script.few in
+    omega (arith, moments_few c.self.inside.moments.items c.self.invariant.0.some_events, c.deref.ensures.len)
+
+pub returns-in-Some-clause-events : goal.returns-in-Some-clause-events
+returns-in-Some-clause-events g c =
+    let at = rw c.deref.ensures.value at c.in-Some.ensures.at in
+    c.deref-in-Some.ensures.value
+    ∙ ap (λ (m : Moment). m.events.items) c.index.ensures
+    ∙ sym (due_at-found c.args.step c.self.inside.moments.items c.in-Some.index c.index.result.now c.self.invariant.0.ascending at.0 at.1)
+    ∙ ap (due_at c.args.step) c.self.view_is
+
+pub returns-in-None-clause-events : goal.returns-in-None-clause-events
+returns-in-None-clause-events g c =
+    sym (due_at-none c.args.step c.self.inside.moments.items (rw c.deref.ensures.value at c.in-None.ensures.at)) ∙ ap (due_at c.args.step) c.self.view_is

@@ -1,0 +1,170 @@
+//! Scripts: the events that are set pending, and when.
+//!
+//! A script keeps the steps that have events in ascending order, each with its events, so that the
+//! events of a step are found by halving.
+
+ghost use Rattle.std.specs.Prelude.{◌≡◌, ℕ, ◌<◌, ◌≤◌, ◌+◌, ◌++◌, [], ◌∷◌, IfOk, IsTrue, ◌≢◌, MatchOption, slice_index, length};
+ghost use Rattle.tz_sem.specs.Scripts.{IsScript, due_at, last_step, most_events};
+ghost use Rattle.tz_board.specs.Script.{IsKept, Opens, all_timed, ascend, steps_of};
+
+use std::alloc::{AllocError, Global};
+use std::marker::Model;
+use std::sync::ledger::Ledger;
+use tz_model::ScriptEvent;
+use tz_ready::Steps;
+
+/// A step that has events.
+#[derive(Drop)]
+struct Moment {
+    step: u32,
+    events: Vec<ScriptEvent>,
+}
+
+/// Events with their steps: at most 10,000, and no step is below the one before.
+#[derive(Drop)]
+pub struct Script {
+    moments: Vec<Moment>,
+    /// How many events the moments have together.
+    count: usize,
+}
+
+impl Model for Script {
+    ghost use Rattle.std.specs.Prelude.{List};
+    ghost use Rattle.tz_sem.specs.Scripts.{Timed};
+
+    ghost Value = { List Timed };
+
+    ghost use Rattle.std.specs.Prelude.{◌≡◌, length};
+    ghost use Rattle.tz_board.specs.Script.{IsKept, all_timed};
+
+    ghost view = { λ s. all_timed s.moments.items };
+
+    ghost invariant = { λ s. IsKept s.moments.items × (s.count ≡ length (all_timed s.moments.items)) };
+}
+
+/// Where a step stands among the moments.
+fn find<L: Ledger>(moments: &[Moment], step: u32, steps: &mut Steps<L>) -> Option<usize>
+    requires ascending { IsTrue (ascend (steps_of moments.now)) }
+    requires few { length moments.now ≤ 10000 }
+    ensures at { MatchOption result ((k : ℕ) → k < length moments.now → slice_index (steps_of moments.now) k ≢ step) (λ i. (i < length moments.now) × (slice_index (steps_of moments.now) i ≡ step)) }
+    ensures looks { (steps.old ≤ steps.new) × (steps.new ≤ steps.old + 14) }
+{
+    let mut low = 0;
+    let mut high = moments.len();
+    while low < high {
+        let middle = low + (high - low) / 2;
+        steps.look();
+        let here = moments[middle].step;
+        if here == step {
+            return Some(middle);
+        }
+        if here < step {
+            low = middle + 1;
+        } else {
+            high = middle;
+        }
+    }
+    None
+}
+
+/// A moment without events.
+fn new_moment(alloc: Global, step: u32) -> Moment
+    ensures step { result.step ≡ step }
+    ensures events { result.events.items ≡ [] }
+{
+    Moment {
+        step,
+        events: Vec::new(alloc),
+    }
+}
+
+/// The moment of a step, off the end of the moments where it stands there, else without events.
+fn open_moment(alloc: Global, moments: &mut Vec<Moment>, step: u32) -> Result<Moment, AllocError>
+    requires kept { IsKept moments.old.items }
+    requires order { last_step 0 (all_timed moments.old.items) ≤ step }
+    ensures { IfOk result (Opens moments.old.items moments.new.items step) }
+{
+    match moments.pop() {
+        None => Ok(new_moment(alloc, step)),
+        Some(last) => {
+            if last.step == step {
+                return Ok(last);
+            }
+            moments.push(last)?;
+            Ok(new_moment(alloc, step))
+        }
+    }
+}
+
+impl Script {
+    /// The script without events.
+    pub fn none(alloc: Global) -> Script
+        ensures { result ≡ [] }
+    {
+        Script {
+            moments: Vec::new(alloc),
+            count: 0,
+        }
+    }
+
+    /// The script of these events.
+    pub fn of(alloc: Global, events: &[(u32, ScriptEvent)]) -> Result<Script, AllocError>
+        requires { IsScript events.now }
+        ensures { IfOk result (λ s. s ≡ events.now) }
+    {
+        let mut script = Script::none(alloc);
+        for (step, event) in events {
+            script = script.with_event(alloc, *step, *event)?;
+        }
+        Ok(script)
+    }
+
+    /// How many events it has.
+    pub fn len(&self) -> usize
+        ensures { result ≡ length self.now }
+    {
+        self.count
+    }
+
+    /// The step of its last event, 0 where it has none.
+    pub fn last_step(&self) -> u32
+        ensures { result ≡ last_step 0 self.now }
+    {
+        match self.moments.last() {
+            Some(last) => last.step,
+            None => 0,
+        }
+    }
+
+    /// The script with one more event at its end.
+    pub fn with_event(
+        self,
+        alloc: Global,
+        step: u32,
+        event: ScriptEvent,
+    ) -> Result<Script, AllocError>
+        requires room { length self < most_events }
+        requires order { last_step 0 self ≤ step }
+        ensures { IfOk result (λ s. s ≡ self ++ (step, event) ∷ []) }
+    {
+        let Script { mut moments, count } = self;
+        let mut last = open_moment(alloc, &mut moments, step)?;
+        last.events.push(event)?;
+        moments.push(last)?;
+        Ok(Script {
+            moments,
+            count: count + 1,
+        })
+    }
+
+    /// The events of a step, in their order. At most 14 steps are looked at.
+    pub fn due<L: Ledger>(&self, step: u32, steps: &mut Steps<L>) -> &[ScriptEvent]
+        ensures events { result.now ≡ due_at step self.now }
+        ensures looks { (steps.old ≤ steps.new) × (steps.new ≤ steps.old + 14) }
+    {
+        match find(&self.moments, step, steps) {
+            Some(index) => &self.moments[index].events,
+            None => &[],
+        }
+    }
+}
