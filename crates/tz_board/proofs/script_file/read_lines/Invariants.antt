@@ -1,6 +1,6 @@
 use Rattle.std.proofs.Common.{◌≡◌, ◌≤◌, ◌+◌, length}
 use Rattle.tz_sem.specs.Scripts.{lines_of, script_from, script_of}
-use Rattle.tz_board.proofs.script_file.read_script.Given as goal
+use Rattle.tz_board.proofs.script_file.read_lines.Given as goal
 
 abbrev pub invariant-loop-line : goal.invariant-loop-line
 invariant-loop-line l = record {
