@@ -1,5 +1,5 @@
 -- A script, line by line.
-use Rattle.std.proofs.Common.{◌≡◌, ◌∙◌, ◌+◌, ℕ, refl, ap, List, [], ◌∷◌, ◌++◌, length, Bool, true, false, ◌&&◌, if◌then◌else◌, nat_lt, IsTrue, sym, Option, Some, None, Ok, Err}
+use Rattle.std.proofs.Common.{◌≡◌, ◌∙◌, ◌+◌, ℕ, refl, ap, List, [], ◌∷◌, ◌++◌, length, Bool, true, false, if◌then◌else◌, nat_lt, IsTrue, sym, Option, Some, None, Ok, Err}
 use Rattle.std.proofs.lemmas.Bool.{and_from, and_parts}
 use Rattle.std.proofs.lemmas.List.{nil_from_length}
 use Rattle.tz_sem.specs.Scripts.{◌>>=◌, Line, Passed, Bad, Event, Read, ScriptRefusal, OutOfOrder, NoSuchInterrupt, TooMany, Timed, are_on, exists_on, last_step, line_of, lines_of, most_events, parts_of, pieces, script_from, script_of, with_event, with_line, without_returns}

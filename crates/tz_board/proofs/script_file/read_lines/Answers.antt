@@ -1,9 +1,8 @@
-use Rattle.std.proofs.Common.{◌≡◌, ◌∙◌, ◌<◌, ◌≤◌, ◌+◌, ℕ, [], List, IfErr, IfOk, Ok, ap, arith, length, sym, rules}
+use Rattle.std.proofs.Common.{◌∙◌, List, ap, arith, length, sym}
 use Rattle.std.proofs.lemmas.Bool.{eqb-true}
 use Rattle.std.proofs.lemmas.List.{length-append}
 use Rattle.std.proofs.lemmas.Result.{IfErr-weaker, IfOk-weaker}
-use Rattle.tz_sem.specs.Scripts.{Timed, line_of, lines_of, parts_of, script_from, script_of, with_line}
-use Rattle.tz_board.specs.ScriptErrors.{IsScriptRefusal}
+use Rattle.tz_sem.specs.Scripts.{Timed, lines_of, script_from, script_of}
 use Rattle.tz_board.proofs.ScriptLines.{goes_on, last_line, no_line, stops}
 use Rattle.tz_board.proofs.script_file.read_lines.Goals as goal
 
