@@ -1,5 +1,5 @@
 -- Finding a step among ascending steps by halving.
-use Rattle.std.proofs.Common.{◌≡◌, ◌∙◌, ◌<◌, ◌≤◌, ◌+◌, ◌-◌, ◌*◌, ◌/◌, ◌^◌, ℕ, zero, suc, refl, sym, ap, arith, add-one, true, false, ◌&&◌, nat_lt, List, [], ◌∷◌, length, get_or, map, IsTrue, ◌⊎◌, inl, inr}
+use Rattle.std.proofs.Common.{◌≡◌, ◌<◌, ◌≤◌, ◌+◌, ◌-◌, ◌*◌, ◌/◌, ◌^◌, ℕ, zero, suc, refl, ap, arith, nat_lt, List, [], ◌∷◌, length, get_or, IsTrue, inl, inr}
 use Rattle.std.proofs.lemmas.Bool.{and_parts, cases_lt, ltb-true}
 use Rattle.std.proofs.Math.Nat.{pow-succ'}
 use Rattle.tz_board.specs.Script.{ascend, is_below_all, steps_of}

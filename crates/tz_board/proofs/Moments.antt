@@ -1,6 +1,6 @@
 -- Scripts as they are kept: what is due, and one more event.
-use Rattle.std.proofs.Common.{◌≡◌, ◌∙◌, ◌<◌, ◌≤◌, ◌+◌, ◌==◌, ℕ, zero, suc, refl, sym, ap, arith, Bool, true, false, ◌&&◌, nat_le, nat_lt, List, [], ◌∷◌, ◌++◌, length, get_or, map, filter, IsTrue}
-use Rattle.std.proofs.lemmas.Bool.{and_from, and_parts, eq-eqb, leb-true, ltb-true, ne_eqb}
+use Rattle.std.proofs.Common.{◌≡◌, ◌∙◌, ◌<◌, ◌≤◌, ℕ, zero, suc, refl, ap, arith, nat_lt, List, [], ◌∷◌, ◌++◌, length, get_or, map, IsTrue}
+use Rattle.std.proofs.lemmas.Bool.{and_parts, eq-eqb, ltb-true, ne_eqb}
 use Rattle.std.proofs.lemmas.List.{length-append, length-map}
 use Rattle.tz_model.specs.declared.report.ScriptEvent.{ScriptEvent}
 use Rattle.tz_sem.specs.Scripts.{Timed, due_at}

@@ -1,10 +1,10 @@
 -- One more event at the end of a script.
-use Rattle.std.proofs.Common.{◌≡◌, ◌∙◌, ◌<◌, ◌≤◌, ◌+◌, ℕ, zero, suc, refl, sym, ap, arith, Bool, true, false, ◌&&◌, nat_le, nat_lt, List, [], ◌∷◌, ◌++◌, append_assoc, length, map, get_or, take, ◌-◌, IsTrue}
+use Rattle.std.proofs.Common.{◌≡◌, ◌∙◌, ◌<◌, ◌≤◌, ℕ, zero, suc, refl, sym, ap, arith, true, nat_le, nat_lt, List, [], ◌∷◌, ◌++◌, append_assoc, length, map, get_or, take, ◌-◌, IsTrue}
 use Rattle.std.proofs.lemmas.Bool.{and_from, and_parts, le-leb, leb-true, lt-ltb, ltb-true}
 use Rattle.std.proofs.lemmas.List.{length_push, nil_from_length, take_more}
 use Rattle.std.proofs.Math.Seq.{take-length}
 use Rattle.tz_model.specs.declared.report.ScriptEvent.{ScriptEvent}
-use Rattle.tz_sem.specs.Scripts.{IsScript, Timed, follow, last_step, most_events}
+use Rattle.tz_sem.specs.Scripts.{Timed, follow, last_step, most_events}
 use Rattle.tz_board.specs.Script.{IsKept, Opens, all_timed, ascend, have_events, is_below_all, steps_of, timed_of}
 use Rattle.tz_board.specs.declared.script.Moment.{Moment}
 

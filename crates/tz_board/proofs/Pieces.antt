@@ -9,7 +9,6 @@ use lib.Dec.{ltb}
 use Rattle.std.proofs.lemmas.List.Quantifiers.{position-Some}
 use Rattle.tz_sem.specs.Scripts.{is_part, lines_of, parts_of, pieces, without_returns}
 use Rattle.tz_board.specs.Text.{chomp, has}
-use Rattle.tz_board.proofs.Lists.{nothing_left}
 
 -- a text in front of whose index no byte is the separator
 has-take : (s : ℕ) (xs : List ℕ) (i : ℕ) → ((k : ℕ) → k < i → (get_or xs k 0 == s) ≡ false) → i ≤ length xs → has s (take i xs) ≡ false

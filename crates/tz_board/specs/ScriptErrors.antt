@@ -1,5 +1,5 @@
 -- The errors and lines of the script reader beside those of the grammar.
-use Rattle.std.specs.Prelude.{◌≡◌, ℕ, List, Option, Some, None, Err}
+use Rattle.std.specs.Prelude.{◌≡◌, Option, Some, None, Err}
 use Rattle.tz_model.specs.declared.report.ScriptEvent.{ScriptEvent}
 use Rattle.tz_model.specs.declared.report.ScriptEvent.TheVariants as events
 use Rattle.tz_sem.specs.Scripts.{ScriptRefusal, BadLine, OutOfOrder, NoSuchInterrupt, TooMany, Read, Line, Passed, Event, Bad}

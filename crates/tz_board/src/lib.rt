@@ -14,6 +14,8 @@ mod line;
 mod script;
 mod script_file;
 mod tables;
+#[cfg(test)]
+mod tests;
 mod text;
 
 pub use board::read_board;

@@ -98,7 +98,7 @@ fn open_moment(alloc: Global, moments: &mut Vec<Moment>, step: u32) -> Result<Mo
 
 impl Script {
     /// The script without events.
-    pub fn none(alloc: Global) -> Script
+    pub(crate) fn none(alloc: Global) -> Script
         ensures { result ≡ [] }
     {
         Script {
@@ -120,14 +120,14 @@ impl Script {
     }
 
     /// How many events it has.
-    pub fn len(&self) -> usize
+    pub(crate) fn len(&self) -> usize
         ensures { result ≡ length self.now }
     {
         self.count
     }
 
     /// The step of its last event, 0 where it has none.
-    pub fn last_step(&self) -> u32
+    pub(crate) fn last_step(&self) -> u32
         ensures { result ≡ last_step 0 self.now }
     {
         match self.moments.last() {
@@ -137,7 +137,7 @@ impl Script {
     }
 
     /// The script with one more event at its end.
-    pub fn with_event(
+    pub(crate) fn with_event(
         self,
         alloc: Global,
         step: u32,

@@ -1,8 +1,8 @@
 //! The reader of scripts.
 
-ghost use Rattle.std.specs.Prelude.{◌≡◌, ◌<◌, ◌^◌, IfErr, IfOk, Ok, length};
+ghost use Rattle.std.specs.Prelude.{◌≡◌, ◌<◌, ◌^◌, IfErr, IfOk, IsTrue, Ok, length};
 ghost use Rattle.tz_model.specs.declared.report.ScriptEvent.{ScriptEvent};
-ghost use Rattle.tz_sem.specs.Scripts.{exists_on, line_of, parts_of, script_of, with_event, with_line};
+ghost use Rattle.tz_sem.specs.Scripts.{are_on, exists_on, line_of, parts_of, script_of, with_event, with_line};
 ghost use Rattle.tz_board.specs.ScriptErrors.{IsScriptRefusal, event_named, line_read};
 
 use crate::error::ScriptError;
@@ -70,9 +70,8 @@ fn with_line(
     }
 }
 
-/// Reads a script for a board of so many interrupts: its events, or the first reason by line to refuse
-/// it. Want of memory may be answered in place of either.
-pub fn read_script(alloc: Global, bytes: &[u8], interrupts: u16) -> Result<Script, ScriptError>
+/// The script of all lines.
+fn read_lines(alloc: Global, bytes: &[u8], interrupts: u16) -> Result<Script, ScriptError>
     requires { length bytes.now < 2 ^ 32 }
     ensures ok { IfOk result (λ s. script_of bytes.now interrupts ≡ Ok s) }
     ensures err { IfErr result (λ e. IsScriptRefusal e (script_of bytes.now interrupts)) }
@@ -92,4 +91,15 @@ pub fn read_script(alloc: Global, bytes: &[u8], interrupts: u16) -> Result<Scrip
         return Ok(script);
     }
     with_line(alloc, script, interrupts, number as u32, rest)
+}
+
+/// Reads a script for a board of so many interrupts: its events, or the first reason by line to refuse
+/// it. Want of memory may be answered in place of either.
+pub fn read_script(alloc: Global, bytes: &[u8], interrupts: u16) -> Result<Script, ScriptError>
+    requires { length bytes.now < 2 ^ 32 }
+    ensures ok { IfOk result (λ s. script_of bytes.now interrupts ≡ Ok s) }
+    ensures err { IfErr result (λ e. IsScriptRefusal e (script_of bytes.now interrupts)) }
+    ensures on_board { IfOk result (λ s. IsTrue (are_on interrupts s)) }
+{
+    read_lines(alloc, bytes, interrupts)
 }

@@ -107,6 +107,11 @@ abbrev pub exists_on : ℕ → ScriptEvent → Bool
 exists_on interrupts (Irq number) = nat_lt number interrupts
 exists_on interrupts Nmi = true
 
+-- the board has the interrupts of all events
+abbrev pub are_on : ℕ → List Timed → Bool
+are_on interrupts [] = true
+are_on interrupts (t ∷ more) = exists_on interrupts t.1 && are_on interrupts more
+
 -- the step of the last event, or the step before them all
 abbrev pub last_step : ℕ → List Timed → ℕ
 last_step step [] = step

@@ -1,5 +1,4 @@
-use Rattle.std.proofs.Common.{◌≡◌, ◌∙◌, ℕ, ap, sym, true, None, [], List, IsTrue}
-use Rattle.tz_model.specs.Board.{within}
+use Rattle.std.proofs.Common.{◌≡◌, ◌∙◌, ap, sym, true, None, []}
 use Rattle.tz_board.specs.Boards.{board_with, first_overlap, is_small}
 use Rattle.tz_board.specs.BoardErrors.{numbers_of}
 use Rattle.tz_board.proofs.Accepted.{is_board}

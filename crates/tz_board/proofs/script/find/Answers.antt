@@ -1,4 +1,4 @@
-use Rattle.std.proofs.Common.{◌≡◌, ◌<◌, ◌≤◌, ◌+◌, ◌-◌, ◌/◌, ◌^◌, arith, length}
+use Rattle.std.proofs.Common.{◌<◌, ◌+◌, ◌-◌, ◌/◌, ◌^◌, arith, length}
 use Rattle.tz_board.proofs.Halving.{all_above, all_below, halved, steps_of-at}
 use Rattle.tz_board.proofs.script.find.Goals as goal
 

@@ -1,5 +1,4 @@
-use Rattle.std.proofs.Common.{◌∙◌, ap, sym}
-use Rattle.tz_board.specs.Script.{Opens}
+use Rattle.std.proofs.Common.{◌∙◌, sym}
 use Rattle.tz_board.proofs.Opening.{opens_last, opens_new}
 use Rattle.tz_board.proofs.script.open_moment.Goals as goal
 

@@ -1,4 +1,4 @@
-use Rattle.std.proofs.Common.{◌∙◌, ◌+◌, ◌-◌, ◌*◌, ◌^◌, ◌≡◌, ◌<◌, ◌≤◌, ℕ, arith, ap, drop, get_or, length, sym}
+use Rattle.std.proofs.Common.{◌∙◌, ◌+◌, ◌*◌, ◌^◌, ◌<◌, ◌≤◌, ℕ, arith, ap, drop, length, sym}
 use Rattle.std.proofs.lemmas.Bool.{eqb-false, eqb-true}
 use Rattle.tz_sem.specs.Scripts.{digits_from}
 use Rattle.tz_board.proofs.Digits.{all_digits, fits_eight, longer, no_digit, number_of-digits, number_of-long, number_of-none, one_digit}

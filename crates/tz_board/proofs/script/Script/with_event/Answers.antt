@@ -1,4 +1,4 @@
-use Rattle.std.proofs.Common.{◌≡◌, ◌∙◌, ◌<◌, ◌≤◌, ◌++◌, ◌∷◌, ◌+◌, ℕ, [], List, ap, length, refl, sym}
+use Rattle.std.proofs.Common.{◌∙◌, ◌<◌, ◌≤◌, ◌++◌, ◌∷◌, ◌+◌, ℕ, [], List, ap, length, refl, sym}
 use Rattle.std.proofs.lemmas.List.{length_push}
 use Rattle.tz_sem.specs.Scripts.{Timed, last_step, most_events}
 use Rattle.tz_board.specs.Script.{all_timed}
