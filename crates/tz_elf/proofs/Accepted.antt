@@ -1,5 +1,5 @@
 -- Segments that were accepted one by one make an image: each lies in the regions, and no two share a byte.
-use Rattle.std.proofs.Common.{◌≡◌, ◌∙◌, ◌<◌, ◌≤◌, ◌+◌, ◌-◌, ◌*◌, ◌^◌, ◌==◌, ℕ, Bool, true, false, not, ◌&&◌, zero, suc, refl, sym, ap, arith, List, [], ◌∷◌, ◌++◌, length, take, drop, slice_index, length-drop, Option, Some, None, Result, Ok, Err, inl, inr, if◌then◌else◌}
+use Rattle.std.proofs.Common.{◌≡◌, ◌<◌, ◌≤◌, ◌+◌, ◌-◌, ◌==◌, ℕ, Bool, true, false, not, ◌&&◌, refl, arith, List, [], ◌∷◌, ◌++◌, length, take, drop, slice_index, length-drop, Option, Some, None, Ok, inl, inr, if◌then◌else◌}
 use Rattle.std.specs.Prelude.{nat_le}
 use Rattle.std.proofs.lemmas.Bool.{and_from, and_parts, false≢true, le-leb, leb-true, or_cases}
 use Rattle.tz_model.specs.declared.board.Region.{Region}
@@ -76,6 +76,7 @@ segment_of-bytes line s e = by_test (within 11 137 (length line) && slice_index 
         rw (← same) (omega (arith, half, length-drop 9 line))
     by_bytes (Some address) None read long h = cc h
     by_bytes None bytes read long h = cc h
+
     by_test : (t : Bool) → (within 11 137 (length line) && slice_index line 8 == 32) ≡ t
         → (if t then segment_with (bytes_of (take 8 line)) (bytes_of (drop 9 line)) else None) ≡ Some s → 1 ≤ length s.bytes
     by_test true t h =
@@ -95,6 +96,7 @@ line_then-accepted all usable number before (b ∷ line) follows segments accept
     by_test s some (Some cause) t h = cc h
     by_test s some None t h =
         step (before ++ s ∷ []) (Accepted-push all usable (length before) (first_sharing 0 s before) s before accepted some (λ none. none) t) h
+
     by_segment : (o : Option SegmentValue) → segment_of (b ∷ line) ≡ o → segment_then (placed_in all usable) number before o follows ≡ Ok segments → Accepted all segments
     by_segment None o h = cc h
     by_segment (Some s) o h = by_test s (segment_of-bytes (b ∷ line) s o) (placed_in all usable (length before) (first_sharing 0 s before) s) refl h

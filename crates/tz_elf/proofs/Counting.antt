@@ -1,9 +1,8 @@
 -- How many bytes: segments that share no byte and lie in the regions hold no more than the regions do. The bytes below
 -- an address are counted, and the address goes up one by one.
-use Rattle.std.proofs.Common.{◌≡◌, ◌∙◌, ◌<◌, ◌≤◌, ◌+◌, ◌-◌, ◌⊎◌, ℕ, Bool, true, false, ◌&&◌, ◌||◌, zero, suc, refl, sym, ap, arith, List, [], ◌∷◌, length, inl, inr}
-use Rattle.std.specs.Prelude.{nat_le, nat_lt, sum_by, if◌then◌else◌}
+use Rattle.std.proofs.Common.{◌≡◌, ◌<◌, ◌≤◌, ◌+◌, ◌-◌, ◌⊎◌, ℕ, Bool, true, ◌&&◌, zero, suc, refl, arith, List, [], ◌∷◌, length, inl, inr}
+use Rattle.std.specs.Prelude.{nat_le, nat_lt}
 use Rattle.std.proofs.lemmas.Bool.{and_parts, cases_lt, false≢true, leb-true, ltb-true, or_cases}
-use Rattle.std.proofs.lemmas.Bool.Decides.{nat_tests}
 use Rattle.std.proofs.lemmas.List.Recursion.{is_sum_by}
 use Rattle.tz_model.specs.declared.board.Region.{Region}
 use Rattle.tz_model.specs.Attribution.{in_region}

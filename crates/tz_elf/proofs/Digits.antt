@@ -1,13 +1,12 @@
 -- Bytes in hexadecimal digits: what the decoder answers is what the definition says.
-use Rattle.std.proofs.Common.{◌≡◌, ◌∙◌, ◌<◌, ◌≤◌, ◌+◌, ◌-◌, ◌*◌, ◌%◌, ◌==◌, ◌&&◌, Bool, true, false, if◌then◌else◌, length-take, length-drop, ℕ, zero, suc, refl, sym, ap, arith, List, [], ◌∷◌, length, take, drop, slice_index, Option, Some, None, Result, Ok, Err, inl, inr}
+use Rattle.std.proofs.Common.{◌≡◌, ◌∙◌, ◌≤◌, ◌+◌, ◌-◌, ◌*◌, ◌%◌, ◌==◌, ◌&&◌, Bool, true, false, if◌then◌else◌, length-take, length-drop, ℕ, zero, suc, refl, sym, ap, arith, List, [], ◌∷◌, length, take, drop, slice_index, Option, Some, None, Result, Ok, Err, inl, inr}
 use Rattle.std.specs.Result.{MatchResult, is_err}
 use Rattle.std.proofs.lemmas.Bool.{cases_eq, le-leb}
 use Rattle.tz_model.specs.Board.{within}
 use Rattle.hex.specs.Hex.{decode_of, decode_pairs, decode_sized, hex_digit_value}
 use Rattle.hex.specs.declared.error.FromHexError.{FromHexError}
-use Rattle.hex.specs.declared.error.FromHexError.TheVariants.{OddLength}
 use Rattle.hex.proofs.HexLemmas.{decode_of-even, decode_of-odd, decode_sized-twice}
-use Rattle.tz_sem.specs.PlainImage.{before_bytes, byte_of, bytes_of, digit_of, segment_of, segment_with}
+use Rattle.tz_sem.specs.PlainImage.{byte_of, bytes_of, digit_of, segment_of, segment_with}
 
 -- what a decoder's answer is to the definition, which gives no causes
 abbrev pub decoded : Result (List ℕ) FromHexError → Option (List ℕ)

@@ -1,10 +1,10 @@
 -- Regions, the bytes that lie in them, and segments that share a byte.
-use Rattle.std.proofs.Common.{◌≡◌, ◌∙◌, ◌<◌, ◌≤◌, ◌+◌, ◌-◌, ℕ, Bool, true, false, ◌||◌, ◌&&◌, zero, suc, refl, sym, ap, arith, List, [], ◌∷◌, length, drop, get_or, add-one, drop-cons, inl, inr}
+use Rattle.std.proofs.Common.{◌≡◌, ◌<◌, ◌≤◌, ◌+◌, ◌-◌, ℕ, true, false, ◌||◌, zero, suc, refl, arith, List, [], ◌∷◌, length, drop, get_or, add-one, drop-cons, inl, inr}
 use Rattle.std.proofs.lemmas.Bool.{cases_lt, or_right}
 use Rattle.std.proofs.lemmas.Bool.Decides.{nat_tests}
 use Rattle.tz_model.specs.declared.board.Region.{Region}
 use Rattle.tz_model.specs.Attribution.{in_region}
-use Rattle.tz_model.specs.Image.{SegmentValue, end_of, is_clear_of}
+use Rattle.tz_model.specs.Image.{SegmentValue, is_clear_of}
 use Rattle.tz_sem.specs.Placement.{first_sharing, in_some, lies_in}
 
 pub in_region-within : (r : Region) (a : ℕ) → r.base ≤ a → a < r.base + r.size → in_region r a ≡ true
@@ -73,4 +73,3 @@ pub first_sharing-clear : (s : SegmentValue) (segments : List SegmentValue) (i :
     → is_clear_of (get_or segments i d) s ≡ true
     → first_sharing i s (drop i segments) ≡ first_sharing (i + 1) s (drop (i + 1) segments)
 first_sharing-clear s segments i d h clear = rw (drop-cons segments i d, clear, add-one) refl
-

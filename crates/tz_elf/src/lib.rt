@@ -11,9 +11,10 @@ ghost use Rattle.tz_elf.specs.Refusals.{IsRefusal};
 mod error;
 mod placement;
 mod plain;
+#[cfg(test)]
+mod tests;
 
 pub use error::ElfError;
-
 use placement::regions_for;
 use plain::read_plain;
 use std::alloc::Global;
@@ -23,12 +24,7 @@ use tz_model::{Board, Image, Side};
 ///
 /// The error is the first refusal, in the order of the file: of a line of a plain image `Hex`,
 /// `Outside`, `WrongSide`, `Overlap`. `Memory` comes only where memory runs out.
-pub fn read_image(
-    alloc: Global,
-    bytes: &[u8],
-    board: &Board,
-    side: Side,
-) -> Result<Image, ElfError>
+pub fn read_image(alloc: Global, bytes: &[u8], board: &Board, side: Side) -> Result<Image, ElfError>
     requires { length bytes.now < 2 ^ 32 }
     ensures ok { IfOk result (λ i. image_of bytes.now board.now side ≡ Ok i) }
     ensures err { IfErr result (λ e. IsRefusal e (image_of bytes.now board.now side)) }

@@ -1,4 +1,4 @@
-use Rattle.std.proofs.Common.{◌≡◌, ◌∙◌, ap, refl, sym, [], List}
+use Rattle.std.proofs.Common.{◌∙◌, ap, refl, [], List}
 use Rattle.tz_model.specs.Board.{BoardValue}
 use Rattle.tz_model.specs.declared.board.Region.{Region}
 use Rattle.tz_sem.specs.Placement.{image_with}
@@ -20,12 +20,12 @@ invariant_of-result c =
 pub returns-in-Ok-read_plain-clause-ok : goal.returns-in-Ok-read_plain-clause-ok
 returns-in-Ok-read_plain-clause-ok c =
     image_of-segments c.args.bytes.now c.args.board.now c.args.side c.as_slice-regions.result.now c.as_slice.result.now
-        (c.as_slice-regions.ensures.value ∙ ap regions_of c.board.view_is) (c.as_slice.ensures.value ∙ c.in-Ok.ensures)
+    (c.as_slice-regions.ensures.value ∙ ap regions_of c.board.view_is) (c.as_slice.ensures.value ∙ c.in-Ok.ensures)
     ∙ ap image_with c.in-Ok-read_plain.ensures.ok
 
 pub returns-clause-err : goal.returns-clause-err
 returns-clause-err c =
     IsRefusal-image_along c.in-Err-read_plain.error _ _
     (image_of-segments c.args.bytes.now c.args.board.now c.args.side c.as_slice-regions.result.now c.as_slice.result.now
-        (c.as_slice-regions.ensures.value ∙ ap regions_of c.board.view_is) (c.as_slice.ensures.value ∙ c.in-Ok.ensures))
+    (c.as_slice-regions.ensures.value ∙ ap regions_of c.board.view_is) (c.as_slice.ensures.value ∙ c.in-Ok.ensures))
     c.in-Err-read_plain.ensures.err

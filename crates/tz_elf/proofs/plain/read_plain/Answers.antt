@@ -1,4 +1,4 @@
-use Rattle.std.proofs.Common.{◌≡◌, ◌∙◌, ◌+◌, ◌<◌, ◌≤◌, arith, length}
+use Rattle.std.proofs.Common.{◌≡◌, ◌∙◌, ◌+◌, arith, length}
 use Rattle.std.proofs.lemmas.Bool.Decides.{nat_tests}
 use Rattle.tz_sem.specs.Placement.{placed_in}
 use Rattle.tz_sem.specs.PlainImage.{lines_of, segments_from}
@@ -10,7 +10,7 @@ pub returns-in-Err-clause-err : goal.returns-in-Err-clause-err
 returns-in-Err-clause-err c =
     let test = placed_in c.args.regions.now c.args.usable.now in
     let turn = segments_from-first test c.loop-rest.number c.loop-rest.segments.items c.loop-rest.rest.now c.first_line.result.0.now c.first_line.result.1.now
-        c.line_without_return-line.result.now c.first_line.ensures.lines c.line_without_return-line.ensures in
+    c.line_without_return-line.result.now c.first_line.ensures.lines c.line_without_return-line.ensures in
     IsRefusal-along c.in-Err.error _ _ (c.loop-rest.invariant.segments ∙ turn)
     (c.in-Err.ensures.err (λ next. segments_from test (c.loop-rest.number + 1) next (lines_of c.first_line.result.1.now)))
 
@@ -18,7 +18,7 @@ pub loop-rest-preserved : goal.loop-rest-preserved
 loop-rest-preserved c =
     let test = placed_in c.args.regions.now c.args.usable.now in
     let turn = segments_from-first test c.loop-rest.number c.loop-rest.segments.items c.loop-rest.rest.now c.first_line.result.0.now c.first_line.result.1.now
-        c.line_without_return-line.result.now c.first_line.ensures.lines c.line_without_return-line.ensures in
+    c.line_without_return-line.result.now c.first_line.ensures.lines c.line_without_return-line.ensures in
     let shorter = c.first_line.ensures.shorter in
     let grows = c.in_default.ensures.grows in
     record {
