@@ -5,3 +5,5 @@ pub mod RefusalLemmas
 pub mod Counting
 pub mod Accepted
 pub mod Images
+pub mod Headers
+pub mod AcceptedLoads

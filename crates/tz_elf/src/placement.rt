@@ -4,7 +4,7 @@
 //! Each function answers as the definition of its name does, by looking at regions and segments and
 //! never at single bytes.
 
-ghost use Rattle.std.specs.Prelude.{◌≡◌, ◌^◌, ◌<◌, ◌≤◌, ℕ, false, true, List, length, None, Result, IfOk, IfErr, OnOk, MatchOption};
+ghost use Rattle.std.specs.Prelude.{◌≡◌, ◌^◌, ◌<◌, ◌≤◌, ℕ, false, true, List, length, None, Result, IfOk, IfErr, IfSome, OnOk, MatchOption};
 ghost use Rattle.tz_model.specs.Image.{SegmentValue};
 ghost use Rattle.tz_sem.specs.Images.{Refusal};
 ghost use Rattle.tz_sem.specs.Placement as placement;
@@ -70,7 +70,8 @@ pub fn regions_for(alloc: Global, side: Side, regions: &[Region]) -> Result<Vec<
 /// The place of the first segment that shares a byte with another.
 pub fn first_sharing(segments: &[Segment], segment: &Segment) -> Option<u32>
     requires { length segments.now < 2 ^ 32 }
-    ensures { placement.first_sharing 0 segment.now segments.now ≡ result }
+    ensures first { placement.first_sharing 0 segment.now segments.now ≡ result }
+    ensures within { IfSome result (λ place. place < length segments.now) }
 {
     let base = u64::from(segment.base);
     let end = base + segment.bytes.len() as u64;

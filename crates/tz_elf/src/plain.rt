@@ -5,8 +5,8 @@
 
 ghost use Rattle.std.specs.Prelude.{◌≡◌, ◌≢◌, ◌+◌, ◌^◌, ◌<◌, ◌≤◌, ℕ, List, ◌∷◌, length, slice_index, Ok, IfOk, IfErr, OnOk};
 ghost use Rattle.tz_model.specs.Image.{SegmentValue};
-ghost use Rattle.tz_sem.specs.Placement.{placed_in};
-ghost use Rattle.tz_sem.specs.PlainImage.{Segments, line_then, lines_of, plain_segments, segment_of, without_return};
+ghost use Rattle.tz_sem.specs.Placement.{Segments, placed_in};
+ghost use Rattle.tz_sem.specs.PlainImage.{line_then, lines_of, plain_segments, segment_of, without_return};
 ghost use Rattle.tz_elf.specs.Refusals.{IsRefusal};
 
 use crate::error::ElfError;

@@ -8,4 +8,5 @@ pub mod Text
 pub mod Demo
 pub mod Placement
 pub mod PlainImage
+pub mod ElfImage
 pub mod Images

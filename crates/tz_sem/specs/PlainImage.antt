@@ -1,9 +1,9 @@
 -- Plain images: lines of an address and the bytes from there on, in hexadecimal digits.
-use Rattle.std.specs.Prelude.{ℕ, ◌+◌, ◌-◌, ◌*◌, ◌==◌, ◌&&◌, nat_le, if◌then◌else◌, List, [], ◌∷◌, ◌++◌, length, take, drop, slice_index, Option, Some, None, Result, Ok, Err}
+use Rattle.std.specs.Prelude.{ℕ, ◌+◌, ◌-◌, ◌*◌, ◌==◌, ◌&&◌, nat_le, if◌then◌else◌, List, [], ◌∷◌, ◌++◌, length, take, drop, slice_index, Option, Some, None, Ok, Err}
 use Rattle.std.specs.Int.{from_be_bytes, w32}
 use Rattle.tz_model.specs.Board.{within}
 use Rattle.tz_model.specs.Image.{SegmentValue}
-use Rattle.tz_sem.specs.Placement.{Refusal, Hex, Test, first_sharing, unless}
+use Rattle.tz_sem.specs.Placement.{Hex, Segments, Test, first_sharing, unless}
 
 -- a byte before the first of these lines
 abbrev pub before_first : ℕ → List (List ℕ) → List (List ℕ)
@@ -58,10 +58,6 @@ segment_of line =
     if within 11 137 (length line) && slice_index line 8 == 32
     then segment_with (bytes_of (take 8 line)) (bytes_of (drop 9 line))
     else None
-
--- what segments give
-abbrev pub Segments : Type 0
-Segments = Result (List SegmentValue) Refusal
 
 -- a line's segment, tested, goes to what follows, behind those before it
 abbrev pub segment_then : Test → ℕ → List SegmentValue → Option SegmentValue → (List SegmentValue → Segments) → Segments
