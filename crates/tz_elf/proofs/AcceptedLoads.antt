@@ -36,13 +36,15 @@ load_then-accepted all usable file index numbers before h follows segments accep
     by_test brings whole None t r =
         step (numbers ++ index ∷ []) (before ++ loaded file h ∷ [])
         (Accepted-push all usable index (earlier_header numbers (loaded file h) before) (loaded file h) before accepted (loaded-some file h brings whole)
-            (no_header numbers (loaded file h) before) t) r
+        (no_header numbers (loaded file h) before) t) r
+
     by_whole : brings_bytes h ≡ true → (w : Bool) → is_whole file h ≡ w
         → (if not w then Err (SegmentCut index)
         else unless (placed_in all usable index (earlier_header numbers (loaded file h) before) (loaded file h)) (follows (numbers ++ index ∷ []) (before ++ loaded file h ∷ [])))
         ≡ Ok segments → Accepted all segments
     by_whole brings false w r = cc r
     by_whole brings true w r = by_test brings w (placed_in all usable index (earlier_header numbers (loaded file h) before) (loaded file h)) refl r
+
     by_load : (b : Bool) → brings_bytes h ≡ b
         → (if not b then follows numbers before else if not (is_whole file h) then Err (SegmentCut index)
         else unless (placed_in all usable index (earlier_header numbers (loaded file h) before) (loaded file h)) (follows (numbers ++ index ∷ []) (before ++ loaded file h ∷ [])))

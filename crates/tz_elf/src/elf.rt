@@ -212,7 +212,15 @@ pub fn read_elf(
     };
     for index in 0..half_at(file, 44) {
         let header = read_program_header(file, table + 32 * index as usize);
-        if let Err(error) = add_load(alloc, file, regions, usable, index as u32, &header, &mut loads) {
+        if let Err(error) = add_load(
+            alloc,
+            file,
+            regions,
+            usable,
+            index as u32,
+            &header,
+            &mut loads,
+        ) {
             return Err(error);
         }
     }

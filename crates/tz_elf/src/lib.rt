@@ -16,8 +16,8 @@ mod plain;
 #[cfg(test)]
 mod tests;
 
-pub use error::ElfError;
 use elf::read_elf;
+pub use error::ElfError;
 use placement::regions_for;
 use plain::read_plain;
 use std::alloc::Global;

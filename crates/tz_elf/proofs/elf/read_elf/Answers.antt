@@ -20,16 +20,16 @@ pub returns-in-Err-add_load-clause-err : goal.returns-in-Err-add_load-clause-err
 returns-in-Err-add_load-clause-err c =
     let test = placed_in c.args.regions.now c.args.usable.now in
     let turn = loads_from-first test c.args.file.now c.word_at-table.result c.half_at-index-end.result c.loop-index.index c.loop-index.loads.numbers.items c.loop-index.loads.segments.items
-        c.read_program_header-header.result c.loop-index-test.true c.read_program_header-header.ensures in
+    c.read_program_header-header.result c.loop-index-test.true c.read_program_header-header.ensures in
     IsRefusal-along c.in-Err-add_load.error _ _ (c.loop-index.invariant.segments ∙ turn)
     (c.in-Err-add_load.ensures.err (λ numbers before. loads_from test c.args.file.now (c.loop-index.index + 1) numbers before
-        (headers_from c.args.file.now (c.word_at-table.result + 32 * (c.loop-index.index + 1)) (c.half_at-index-end.result - (c.loop-index.index + 1)))))
+    (headers_from c.args.file.now (c.word_at-table.result + 32 * (c.loop-index.index + 1)) (c.half_at-index-end.result - (c.loop-index.index + 1)))))
 
 pub loop-index-preserved : goal.loop-index-preserved
 loop-index-preserved c =
     let test = placed_in c.args.regions.now c.args.usable.now in
     let turn = loads_from-first test c.args.file.now c.word_at-table.result c.half_at-index-end.result c.loop-index.index c.loop-index.loads.numbers.items c.loop-index.loads.segments.items
-        c.read_program_header-header.result c.loop-index-test.true c.read_program_header-header.ensures in
+    c.read_program_header-header.result c.loop-index-test.true c.read_program_header-header.ensures in
     let grows = c.in_default-add_load.ensures.grows in
     record {
       segments = c.loop-index.invariant.segments ∙ turn
