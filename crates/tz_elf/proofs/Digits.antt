@@ -97,7 +97,8 @@ pub segment_of-refused : (line out : List ℕ) (r : Result Unit FromHexError) �
 segment_of-refused line out r long told failed =
     segment_of-no_address line (sym (address_bytes line long) ∙ (four_bytes (decode_sized (take 8 line) 4) r out told).0 failed)
 
-take_whole : (n : ℕ) (xs : List ℕ) → length xs ≤ n → take n xs ≡ xs
+-- all of a short list
+pub take_whole : (n : ℕ) (xs : List ℕ) → length xs ≤ n → take n xs ≡ xs
 take_whole zero [] h = refl
 take_whole zero (x ∷ xs) h = absurd (omega arith)
 take_whole (suc n) [] h = refl
@@ -108,7 +109,7 @@ pub take-rest : (n : ℕ) (xs : List ℕ) → take (length xs - n) (drop n xs) �
 take-rest n xs = take_whole (length xs - n) (drop n xs) (omega (arith, length-drop n xs))
 
 -- a line whose parts stand where they should
-segment_of-parts : (line : List ℕ) → 11 ≤ length line → length line ≤ 137 → slice_index line 8 ≡ 32
+pub segment_of-parts : (line : List ℕ) → 11 ≤ length line → length line ≤ 137 → slice_index line 8 ≡ 32
     → segment_of line ≡ segment_with (bytes_of (take 8 line)) (bytes_of (drop 9 line))
 segment_of-parts line long short space = rw (le-leb 11 (length line) long, le-leb (length line) 137 short, space) refl
 

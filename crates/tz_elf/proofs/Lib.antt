@@ -7,3 +7,5 @@ pub mod Accepted
 pub mod Images
 pub mod Headers
 pub mod AcceptedLoads
+pub mod Written
+pub mod ReadBack

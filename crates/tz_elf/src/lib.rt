@@ -13,11 +13,13 @@ mod elf;
 mod error;
 mod placement;
 mod plain;
+mod write;
 #[cfg(test)]
 mod tests;
 
 use elf::read_elf;
 pub use error::ElfError;
+pub use write::write_plain;
 use placement::regions_for;
 use plain::read_plain;
 use std::alloc::Global;
