@@ -197,7 +197,7 @@ lengths (s ∷ more) = length s.bytes + lengths more
 sizes-bytes_of : (regions : List Region) → sizes regions ≡ bytes_of regions
 sizes-bytes_of = is_sum_by sizes (λ r. r.size) refl (λ r more. refl)
 
-lengths-bytes_in : (segments : List SegmentValue) → lengths segments ≡ bytes_in segments
+pub lengths-bytes_in : (segments : List SegmentValue) → lengths segments ≡ bytes_in segments
 lengths-bytes_in = is_sum_by lengths (λ s. length s.bytes) refl (λ s more. refl)
 
 regions_below-most : (n : ℕ) (regions : List Region) → regions_below n regions ≤ sizes regions

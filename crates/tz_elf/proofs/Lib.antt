@@ -9,3 +9,5 @@ pub mod Headers
 pub mod AcceptedLoads
 pub mod Written
 pub mod ReadBack
+pub mod WrittenElf
+pub mod ReadBackElf

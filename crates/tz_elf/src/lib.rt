@@ -14,6 +14,7 @@ mod error;
 mod placement;
 mod plain;
 mod write;
+mod write_elf;
 #[cfg(test)]
 mod tests;
 

@@ -1,5 +1,6 @@
 -- ELF32 images: a file header of 52 bytes, a table of program headers of 32 bytes each, and the bytes that they name.
 use Rattle.std.specs.Prelude.{ℕ, zero, suc, ◌+◌, ◌*◌, ◌==◌, Bool, not, ◌&&◌, ◌||◌, nat_le, nat_lt, if◌then◌else◌, List, [], ◌∷◌, ◌++◌, length, take, drop, slice_index, Option, Some, None, option_map, Result, Ok, Err}
+use Rattle.std.specs.Int.{to_le_bytes, w16, w32}
 use Rattle.tz_model.specs.Image.{SegmentValue}
 use Rattle.tz_sem.specs.Placement.{Refusal, Magic, ClassOrOrder, TypeOrMachine, HeaderCut, SegmentCut, Segments, Test, first_sharing, unless}
 
@@ -104,3 +105,36 @@ loads_from test file index numbers before (h ∷ headers) =
 abbrev pub elf_segments : Test → List ℕ → Segments
 elf_segments test file =
     unless (header_refusal file) (loads_from test file 0 [] [] (headers_from file (table_place file) (entry_count file)))
+
+-- ---- how an image is written
+
+-- the file header up to e_phnum: the magic, 32 bits, the low byte first, version 1; an executable for Arm, version 1; the table at 52, entries of 32 bytes
+abbrev pub fixed_header : List ℕ
+fixed_header =
+    (0x7F ∷ 0x45 ∷ 0x4C ∷ 0x46 ∷ 1 ∷ 1 ∷ 1 ∷ 0 ∷ []) ++ (0 ∷ 0 ∷ 0 ∷ 0 ∷ 0 ∷ 0 ∷ 0 ∷ 0 ∷ []) ++ to_le_bytes w16 2 ++ to_le_bytes w16 40 ++ to_le_bytes w32 1
+    ++ to_le_bytes w32 0 ++ to_le_bytes w32 52 ++ to_le_bytes w32 0 ++ to_le_bytes w32 0 ++ to_le_bytes w16 52 ++ to_le_bytes w16 32
+
+-- the file header for so many program headers, without section headers
+abbrev pub header_bytes : ℕ → List ℕ
+header_bytes count = fixed_header ++ (to_le_bytes w16 count ++ (0 ∷ 0 ∷ 0 ∷ 0 ∷ 0 ∷ 0 ∷ []))
+
+-- the program header of so many bytes at an offset, which are put at a base: PT_LOAD, p_vaddr as p_paddr, p_memsz as p_filesz, p_flags 7, p_align 1
+abbrev pub entry_bytes : ℕ → ℕ → ℕ → List ℕ
+entry_bytes offset base size =
+    to_le_bytes w32 1 ++ (to_le_bytes w32 offset ++ (to_le_bytes w32 base ++ (to_le_bytes w32 base
+    ++ (to_le_bytes w32 size ++ (to_le_bytes w32 size ++ (to_le_bytes w32 7 ++ to_le_bytes w32 1))))))
+
+-- the program headers of segments whose bytes stand one behind the other from an offset on
+unfoldable pub entries_bytes : ℕ → List SegmentValue → List ℕ
+entries_bytes offset [] = []
+entries_bytes offset (s ∷ more) = entry_bytes offset s.base (length s.bytes) ++ entries_bytes (offset + length s.bytes) more
+
+-- the bytes of segments, one behind the other
+unfoldable pub all_bytes : List SegmentValue → List ℕ
+all_bytes [] = []
+all_bytes (s ∷ more) = s.bytes ++ all_bytes more
+
+-- the ELF image of segments
+abbrev pub elf_bytes : List SegmentValue → List ℕ
+elf_bytes segments =
+    header_bytes (length segments) ++ (entries_bytes (52 + 32 * length segments) segments ++ all_bytes segments)
