@@ -158,7 +158,7 @@ pairs_in-append [] b = refl
 pairs_in-append (s ∷ a) b =
     ap (λ (rest : Pairs). entries_from s.base s.bytes ++ rest) (pairs_in-append a b) ∙ sym (append_assoc (entries_from s.base s.bytes) (pairs_in a) (pairs_in b))
 
-pairs_in-push : (before : List SegmentValue) (s : SegmentValue) → pairs_in (before ++ s ∷ []) ≡ pairs_in before ++ entries_from s.base s.bytes
+pub pairs_in-push : (before : List SegmentValue) (s : SegmentValue) → pairs_in (before ++ s ∷ []) ≡ pairs_in before ++ entries_from s.base s.bytes
 pairs_in-push before s = pairs_in-append before (s ∷ []) ∙ ap (λ (rest : Pairs). pairs_in before ++ rest) (append-nil (entries_from s.base s.bytes))
 
 -- a text was read: the reading goes on behind it, with these pairs more

@@ -24,12 +24,12 @@ entries_bytes-none (s ∷ more) zero offset h = absurd (omega arith)
 entries_bytes-none (s ∷ more) (suc i) offset h = entries_bytes-none more i offset (omega arith)
 
 -- a turn over the bytes
-pub all_bytes-item : (segments : List SegmentValue) (i : ℕ) (s : SegmentValue) → i < length segments → s ≡ get_or segments i s
-    → all_bytes (drop i segments) ≡ s.bytes ++ all_bytes (drop (i + 1) segments)
+pub all_bytes-item : (segments : List SegmentValue) (i : ℕ) (s : SegmentValue) (bytes : List ℕ) → i < length segments → s ≡ get_or segments i s → bytes ≡ s.bytes
+    → all_bytes (drop i segments) ≡ bytes ++ all_bytes (drop (i + 1) segments)
 unfolding all_bytes
-all_bytes-item segments i s h is =
+all_bytes-item segments i s bytes h is b =
     let rest = drop (suc i) segments in
-    rw (add-one, drop-cons segments i s) (ap (λ (x : SegmentValue). x.bytes ++ all_bytes rest) (sym is))
+    rw (add-one, drop-cons segments i s, b) (ap (λ (x : SegmentValue). x.bytes ++ all_bytes rest) (sym is))
 
 pub all_bytes-none : (segments : List SegmentValue) (i : ℕ) → length segments ≤ i → all_bytes (drop i segments) ≡ []
 unfolding all_bytes

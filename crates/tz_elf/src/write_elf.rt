@@ -71,26 +71,19 @@ fn write_entries(segments: &[Segment], file: &mut Vec<u8>) -> Result<(), AllocEr
     Ok(())
 }
 
-/// Writes the bytes of a segment.
-fn write_bytes(segment: &Segment, file: &mut Vec<u8>) -> Result<(), AllocError>
-    ensures bytes { OnOk result (file.new.items ≡ file.old.items ++ segment.now.bytes) }
-    ensures fit { OnOk result ((k : ℕ) → slice_index segment.now.bytes k < 256) }
-{
-    let bytes = segment.bytes.as_slice();
-    file.extend_from_slice(bytes)
-}
-
 /// The ELF image of segments.
 pub fn write_image(alloc: Global, image: &Image) -> Result<Vec<u8>, AllocError>
     requires { length image.now.segments < 65536 }
     ensures bytes { IfOk result (λ v. v.items ≡ elf_bytes image.now.segments) }
+    ensures reads_back { IfOk result (λ v. pairs_of v.items ≡ Ok (pairs_in image.now.segments)) }
 {
     let segments = image.segments.as_slice();
     let mut file = Vec::new(alloc);
     write_header(segments.len() as u16, &mut file)?;
     write_entries(segments, &mut file)?;
     for segment in segments {
-        write_bytes(segment, &mut file)?;
+        let bytes = segment.bytes.as_slice();
+        file.extend_from_slice(bytes)?;
     }
     Ok(file)
 }

@@ -1,10 +1,6 @@
-use Rattle.std.proofs.Common.{◌≡◌, ◌++◌, drop, take}
+use Rattle.std.proofs.Common.{◌≡◌, ◌++◌, drop}
 use Rattle.tz_sem.specs.ElfImage.{all_bytes, elf_bytes}
-use Rattle.tz_elf.proofs.Written.{HoldBytes}
 use Rattle.tz_elf.proofs.write_elf.write_image.Given as goal
 
 abbrev pub invariant-loop-segment : goal.invariant-loop-segment
-invariant-loop-segment l = record {
-  file : l.file.items ++ all_bytes (drop l.segment-index l.segments) ≡ elf_bytes l.segments;
-  bytes : HoldBytes (take l.segment-index l.segments);
-}
+invariant-loop-segment l = l.file.items ++ all_bytes (drop l.segment-index l.segments) ≡ elf_bytes l.segments
