@@ -1,6 +1,6 @@
 -- The program headers of an ELF image that were accepted one by one give segments that stand in the regions, clear of each other.
-use Rattle.std.proofs.Common.{◌≡◌, ◌≤◌, ◌+◌, ◌==◌, ℕ, Bool, true, false, not, ◌&&◌, refl, ap, arith, List, [], ◌∷◌, ◌++◌, length, take, drop, length-drop, length-take, Option, Some, None, Result, Ok, Err, if◌then◌else◌}
-use Rattle.std.specs.Prelude.{nat_le, option_map, slice_index}
+use Rattle.std.proofs.Common.{◌≡◌, ◌≤◌, ◌+◌, ◌==◌, ℕ, Bool, true, false, not, refl, arith, List, [], ◌∷◌, ◌++◌, length, take, drop, length-drop, length-take, Option, Some, None, Ok, Err, if◌then◌else◌}
+use Rattle.std.specs.Prelude.{option_map, slice_index}
 use Rattle.std.proofs.lemmas.Bool.{and_parts, eqb-false, leb-true, not-true}
 use Rattle.tz_model.specs.declared.board.Region.{Region}
 use Rattle.tz_model.specs.Image.{SegmentValue}

@@ -1,9 +1,9 @@
 -- The file header of an ELF image, and what its program headers give one by one.
-use Rattle.std.proofs.Common.{◌≡◌, ◌∙◌, ◌<◌, ◌≤◌, ◌+◌, ◌*◌, ◌-◌, ◌==◌, ℕ, Bool, true, false, not, ◌&&◌, zero, suc, refl, sym, ap, subst, arith, List, [], ◌∷◌, ◌++◌, length, take, drop, slice_index, Option, Some, None, Result, Ok, Err, inl, inr, if◌then◌else◌}
-use Rattle.std.specs.Prelude.{IfErr, nat_le}
-use Rattle.std.proofs.lemmas.Bool.{and_parts, eqb-true, le-leb, le-ltb, leb-true, or_cases}
+use Rattle.std.proofs.Common.{◌≡◌, ◌<◌, ◌≤◌, ◌+◌, ◌*◌, ◌-◌, ℕ, suc, refl, sym, subst, arith, List, [], length, drop, slice_index, Option, None, Result, Ok}
+use Rattle.std.specs.Prelude.{IfErr}
+use Rattle.std.proofs.lemmas.Bool.{le-leb, le-ltb}
 use Rattle.tz_sem.specs.Placement.{Refusal, Segments, Test, unless}
-use Rattle.tz_sem.specs.ElfImage.{ProgramHeader, elf_segments, entry_count, entry_size, half_at, has_table, header_refusal, headers_from, load_then, loads_from, program_header, table_place, table_refusal}
+use Rattle.tz_sem.specs.ElfImage.{ProgramHeader, elf_segments, entry_count, half_at, header_refusal, headers_from, load_then, loads_from, program_header, table_place, table_refusal}
 use Rattle.tz_model.specs.Image.{SegmentValue}
 use Rattle.tz_elf.specs.Refusals.{IsRefusal}
 use Rattle.tz_elf.specs.declared.error.ElfError.{ElfError}
@@ -22,22 +22,6 @@ pub refused_as : (r : Result Unit ElfError) (a b : Option Refusal) → a ≡ b
 refused_as r a b same h =
     let P : Option Refusal → Type 0 = λ o. IfErr r (λ e. (follows : Segments) → IsRefusal e (unless o follows)) in
     subst P (sym same) h
-
--- an entry of a table that lies in the file lies in it too
-pub table-entry : (file : List ℕ) (i : ℕ) → has_table file ≡ true → i < entry_count file → table_place file + 32 * i + 32 ≤ length file
-table-entry file i table within =
-    elim (or_cases (entry_count file == 0) (entry_size file == 32 && nat_le (table_place file + 32 * entry_count file) (length file)) table) [
-      | inl none ↦
-          let zero = eqb-true (entry_count file) 0 none in
-          absurd (omega (arith, zero, within))
-      | inr some ↦
-          let parts = and_parts (entry_size file == 32) (nat_le (table_place file + 32 * entry_count file) (length file)) some in
-          let inside = leb-true (table_place file + 32 * entry_count file) (length file) parts.1 in
-          entry_within (table_place file) (entry_count file) i (length file) within inside
-    ]
-  where
-    entry_within : (place count i size : ℕ) → i < count → place + 32 * count ≤ size → place + 32 * i + 32 ≤ size
-    entry_within place count i size h l = omega arith
 
 -- before the first program header
 pub elf_segments-start : (test : Test) (file : List ℕ) (place count : ℕ) (numbers : List ℕ) (before : List SegmentValue) → header_refusal file ≡ None

@@ -1,17 +1,16 @@
 -- A plain image that was written reads back as the addresses and bytes of its segments.
-use Rattle.std.proofs.Common.{◌≡◌, ◌∙◌, ◌<◌, ◌≤◌, ◌+◌, ◌-◌, ◌*◌, ◌/◌, ◌%◌, ◌==◌, ℕ, Bool, true, false, not, ◌&&◌, zero, suc, refl, sym, ap, arith, List, [], ◌∷◌, ◌++◌, append_assoc, length, length-append, length-drop, length-take, take, drop, slice_index, get_or, Option, Some, None, Result, Ok, Err, inl, inr, if◌then◌else◌}
+use Rattle.std.proofs.Common.{◌≡◌, ◌∙◌, ◌<◌, ◌≤◌, ◌+◌, ◌-◌, ◌*◌, ◌/◌, ◌%◌, ◌==◌, ℕ, Bool, true, false, not, ◌&&◌, zero, suc, refl, sym, ap, arith, List, [], ◌∷◌, ◌++◌, append_assoc, length, length-drop, length-take, take, drop, slice_index, Option, Some, Ok, inl, inr}
 use Rattle.std.specs.Prelude.{codes, nat_le}
-use Rattle.std.specs.Int.{from_be_bytes, to_be_bytes, w32}
+use Rattle.std.specs.Int.{to_be_bytes, w32}
 use Rattle.std.proofs.lemmas.Bool.{agree_below_at, and_from, and_parts, and_right, cases_lt, leb-true, not-true}
 use Rattle.std.proofs.lemmas.List.{append-nil, get_or_past}
 use Rattle.std.proofs.lemmas.Nat.{from_be_bytes-to_be_bytes_4}
-use Rattle.hex.specs.Hex.{IsBytes, decode_of, encode_lower, lower_digits}
+use Rattle.hex.specs.Hex.{IsBytes, decode_of, lower_digits}
 use Rattle.hex.proofs.HexLemmas.{decode_of-encode_lower, length-encode_with}
 use Rattle.tz_model.specs.Image.{SegmentValue, are_addressed, end_of}
 use Rattle.tz_model.specs.Memory.{entries_from}
 use Rattle.tz_sem.specs.Placement.{Segments, no_test}
 use Rattle.tz_sem.specs.PlainImage.{before_first, bytes_of, digits_of, line_text, line_then, lines_of, lines_text, plain_text, segment_of, segment_text, segment_with, segments_from, without_return}
-use Rattle.tz_sem.specs.ElfImage.{elf_segments}
 use Rattle.tz_sem.specs.PlainImage.{plain_segments}
 use Rattle.tz_sem.specs.Images.{pairs_in, pairs_of, pairs_with}
 use Rattle.tz_elf.proofs.Digits.{bytes_of-decode, decoded, segment_of-parts}
@@ -135,9 +134,9 @@ segments_from-line number before base bytes rest fits some few are =
     let line = line_text base bytes in
     let size = length-line_text base bytes in
     segments_from-first no_test number before (line ++ 10 ∷ rest) line rest line
-        (lines_of-line line rest (lacks-line_text 10 base bytes no_feed refl)) (without_return-line line (lacks-line_text 13 base bytes no_return refl))
+    (lines_of-line line rest (lacks-line_text 10 base bytes no_feed refl)) (without_return-line line (lacks-line_text 13 base bytes no_return refl))
     ∙ line_then-some number before line (record { base = base; bytes = bytes }) (λ next. segments_from no_test (number + 1) next (lines_of rest)) (omega (arith, size))
-        (segment_of-line_text base bytes fits some few are)
+    (segment_of-line_text base bytes fits some few are)
 
 -- ---- the pairs of segments
 

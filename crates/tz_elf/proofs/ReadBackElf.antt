@@ -1,13 +1,12 @@
 -- An ELF image that was written reads back as the addresses and bytes of its segments.
-use Rattle.std.proofs.Common.{◌≡◌, ◌∙◌, ◌<◌, ◌≤◌, ◌+◌, ◌-◌, ◌*◌, ◌/◌, ◌%◌, ◌==◌, ℕ, Bool, true, false, not, ◌&&◌, zero, suc, refl, sym, ap, arith, List, [], ◌∷◌, ◌++◌, append_assoc, length, length-append, length-drop, length-take, take, drop, slice_index, get_or, Option, Some, None, Result, Ok, Err, inl, inr, if◌then◌else◌}
+use Rattle.std.proofs.Common.{◌≡◌, ◌∙◌, ◌<◌, ◌≤◌, ◌+◌, ◌-◌, ◌*◌, ◌/◌, ◌%◌, ◌==◌, ℕ, true, false, ◌&&◌, zero, suc, refl, sym, ap, arith, List, [], ◌∷◌, ◌++◌, append_assoc, length, length-append, take, drop, None, Ok, inl, inr}
 use Rattle.std.specs.Prelude.{nat_le}
-use Rattle.std.specs.Int.{to_le_bytes, w32}
 use Rattle.std.proofs.lemmas.Bool.{and_parts, cases_lt, le-leb, leb-true, ne_eqb, or_right}
 use Rattle.std.proofs.lemmas.List.{append-nil}
 use Rattle.tz_model.specs.Image.{SegmentValue, are_addressed, bytes_in, end_of}
 use Rattle.tz_model.specs.Memory.{entries_from}
-use Rattle.tz_sem.specs.Placement.{Segments, no_test}
-use Rattle.tz_sem.specs.ElfImage.{ProgramHeader, all_bytes, brings_bytes, elf_bytes, elf_segments, entries_bytes, entry_bytes, entry_count, entry_size, has_table, header_bytes, header_refusal, headers_from, is_whole, loaded, loads_from, program_header, table_place, word_at}
+use Rattle.tz_sem.specs.Placement.{no_test}
+use Rattle.tz_sem.specs.ElfImage.{ProgramHeader, all_bytes, brings_bytes, elf_bytes, elf_segments, entries_bytes, entry_bytes, entry_count, entry_size, has_table, header_bytes, header_refusal, headers_from, is_whole, loaded, loads_from, program_header, table_place}
 use Rattle.tz_sem.specs.Images.{pairs_in, pairs_of, pairs_with}
 use Rattle.tz_elf.proofs.Counting.{lengths, lengths-bytes_in}
 use Rattle.tz_elf.proofs.ReadBack.{pairs_in-push}
@@ -98,7 +97,7 @@ read_loads (s ∷ more) index offset numbers before front file is at ends =
           let whole : is_whole file (header_of offset s) ≡ true = le-leb (offset + length s.bytes) (length file) (omega (arith, inside)) in
           let bytes : take (length s.bytes) (drop offset file) ≡ s.bytes =
           ap (λ (xs : List ℕ). take (length s.bytes) (drop offset xs)) is ∙ ap (take (length s.bytes)) (drop-front offset front (s.bytes ++ all_bytes more) at)
-              ∙ take-front s.bytes (all_bytes more) in
+          ∙ take-front s.bytes (all_bytes more) in
           let base : low_word s.base ≡ s.base = low_word-fits s.base (omega (arith, end)) in
           let rest = read_loads more (index + 1) (offset + length s.bytes) (numbers ++ index ∷ []) (before ++ loaded file (header_of offset s) ∷ []) (front ++ s.bytes) file next size parts.1 in
           record {

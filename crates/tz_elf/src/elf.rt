@@ -3,12 +3,11 @@
 //! The checks come in the order of the definition of ELF images: the file header, and then each program
 //! header that brings bytes. Those that bring none aren't looked at, and no other part of a file is.
 
-ghost use Rattle.std.specs.Prelude.{◌≡◌, ◌+◌, ◌*◌, ◌^◌, ◌<◌, ◌≤◌, ℕ, true, List, length, drop, None, Ok, IfOk, IfErr, OnOk};
-ghost use Rattle.tz_model.specs.Image.{SegmentValue};
-ghost use Rattle.tz_sem.specs.ElfImage.{elf_segments, has_table, header_refusal, load_then, program_header, table_refusal};
+ghost use Rattle.std.specs.Prelude.{◌≡◌, ◌+◌, ◌^◌, ◌<◌, ◌≤◌, true, length, drop, None, Ok, IfOk, IfErr, OnOk};
 ghost use Rattle.tz_sem.specs.ElfImage as elf;
-ghost use Rattle.tz_sem.specs.Placement.{Segments, placed_in, unless};
+ghost use Rattle.tz_sem.specs.Placement.{placed_in};
 ghost use Rattle.tz_elf.specs.Refusals.{IsRefusal};
+ghost use Rattle.tz_elf.specs.Steps.{HeaderGives, HeaderIsRefused, IsCause};
 
 use crate::error::ElfError;
 use crate::placement::{first_sharing, test_segment};
@@ -86,9 +85,9 @@ fn word_at(bytes: &[u8], place: usize) -> u32
 /// Tests that the table of program headers lies in the file.
 fn test_table(file: &[u8]) -> Result<(), ElfError>
     requires { 52 ≤ length file.now }
-    ensures ok { OnOk result (table_refusal file.now ≡ None) }
-    ensures table { OnOk result (has_table file.now ≡ true) }
-    ensures err { IfErr result (λ e. (follows : Segments) → IsRefusal e (unless (table_refusal file.now) follows)) }
+    ensures ok { OnOk result (elf.table_refusal file.now ≡ None) }
+    ensures table { OnOk result (elf.has_table file.now ≡ true) }
+    ensures err { IfErr result (IsCause (elf.table_refusal file.now)) }
 {
     let place = word_at(file, 28);
     let size = half_at(file, 42);
@@ -101,10 +100,10 @@ fn test_table(file: &[u8]) -> Result<(), ElfError>
 
 /// Tests the file header.
 fn test_header(file: &[u8]) -> Result<(), ElfError>
-    ensures ok { OnOk result (header_refusal file.now ≡ None) }
+    ensures ok { OnOk result (elf.header_refusal file.now ≡ None) }
     ensures long { OnOk result (52 ≤ length file.now) }
-    ensures table { OnOk result (has_table file.now ≡ true) }
-    ensures err { IfErr result (λ e. (follows : Segments) → IsRefusal e (unless (header_refusal file.now) follows)) }
+    ensures table { OnOk result (elf.has_table file.now ≡ true) }
+    ensures err { IfErr result (IsCause (elf.header_refusal file.now)) }
 {
     if file.len() < 4 || file[0] != 0x7F || file[1] != b'E' || file[2] != b'L' || file[3] != b'F' {
         return Err(ElfError::Magic);
@@ -124,7 +123,7 @@ fn test_header(file: &[u8]) -> Result<(), ElfError>
 /// The program header at a place of the file.
 fn read_program_header(file: &[u8], place: usize) -> ProgramHeader
     requires { place + 32 ≤ length file.now }
-    ensures { program_header (drop place file.now) ≡ result }
+    ensures { elf.program_header (drop place file.now) ≡ result }
 {
     let entry = &file[place..];
     ProgramHeader {
@@ -167,10 +166,13 @@ fn add_load(
 ) -> Result<(), ElfError>
     requires paired { length loads.old.numbers.items ≡ length loads.old.segments.items }
     requires few { length loads.old.segments.items < 2 ^ 32 }
-    ensures ok { OnOk result ((follows : List ℕ → List SegmentValue → Segments) → load_then (placed_in regions.now usable.now) file.now index loads.old.numbers.items loads.old.segments.items header.now follows ≡ follows loads.new.numbers.items loads.new.segments.items) }
+    ensures ok { OnOk result (HeaderGives (placed_in regions.now usable.now) file.now index
+        loads.old.numbers.items loads.old.segments.items header.now
+        loads.new.numbers.items loads.new.segments.items) }
     ensures paired { OnOk result (length loads.new.numbers.items ≡ length loads.new.segments.items) }
     ensures grows { OnOk result (length loads.new.segments.items ≤ length loads.old.segments.items + 1) }
-    ensures err { IfErr result (λ e. (follows : List ℕ → List SegmentValue → Segments) → IsRefusal e (load_then (placed_in regions.now usable.now) file.now index loads.old.numbers.items loads.old.segments.items header.now follows)) }
+    ensures err { IfErr result (HeaderIsRefused (placed_in regions.now usable.now) file.now index
+        loads.old.numbers.items loads.old.segments.items header.now) }
 {
     if !header.brings_bytes() {
         return Ok(());
@@ -199,8 +201,8 @@ pub fn read_elf(
     regions: &[Region],
     usable: &[Region],
 ) -> Result<Vec<Segment>, ElfError>
-    ensures ok { IfOk result (λ v. elf_segments (placed_in regions.now usable.now) file.now ≡ Ok v.items) }
-    ensures err { IfErr result (λ e. IsRefusal e (elf_segments (placed_in regions.now usable.now) file.now)) }
+    ensures ok { IfOk result (λ v. elf.elf_segments (placed_in regions.now usable.now) file.now ≡ Ok v.items) }
+    ensures err { IfErr result (λ e. IsRefusal e (elf.elf_segments (placed_in regions.now usable.now) file.now)) }
 {
     if let Err(error) = test_header(file) {
         return Err(error);

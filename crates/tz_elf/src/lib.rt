@@ -10,19 +10,20 @@ ghost use Rattle.tz_sem.specs.Placement.{placed_in};
 ghost use Rattle.tz_elf.specs.Refusals.{IsRefusal};
 
 mod elf;
+mod elf_writer;
 mod error;
 mod placement;
 mod plain;
-mod write;
-mod write_elf;
+mod plain_writer;
 #[cfg(test)]
 mod tests;
 
 use elf::read_elf;
+pub use elf_writer::write_image;
 pub use error::ElfError;
-pub use write::write_plain;
 use placement::regions_for;
 use plain::read_plain;
+pub use plain_writer::write_plain;
 use std::alloc::Global;
 use tz_model::{Board, Image, Region, Segment, Side};
 

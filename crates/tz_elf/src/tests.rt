@@ -4,6 +4,7 @@ ghost use Rattle.std.specs.Prelude.{◌≡◌};
 
 mod elf_images;
 mod plain_images;
+mod written_images;
 
 use crate::ElfError;
 use std::alloc::{AllocError, Global};

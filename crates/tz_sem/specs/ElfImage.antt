@@ -93,7 +93,7 @@ load_then test file index numbers before h follows =
     if not (brings_bytes h) then follows numbers before
     else if not (is_whole file h) then Err (SegmentCut index)
     else unless (test index (earlier_header numbers (loaded file h) before) (loaded file h))
-        (follows (numbers ++ index ∷ []) (before ++ loaded file h ∷ []))
+    (follows (numbers ++ index ∷ []) (before ++ loaded file h ∷ []))
 
 -- the segments of program headers behind those of the headers before, or the first refusal
 unfoldable pub loads_from : Test → List ℕ → ℕ → List ℕ → List SegmentValue → List ProgramHeader → Segments

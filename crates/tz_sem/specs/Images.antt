@@ -7,7 +7,6 @@ use Rattle.tz_model.specs.Memory.{entries_from}
 use Rattle.tz_sem.specs.Placement.{Segments, Test, image_with, no_test, place_test}
 use Rattle.tz_sem.specs.ElfImage.{elf_segments}
 use Rattle.tz_sem.specs.PlainImage.{plain_segments}
-
 pub use Rattle.tz_sem.specs.Placement.{Refusal, Magic, ClassOrOrder, TypeOrMachine, HeaderCut, SegmentCut, Outside, WrongSide, Overlap, Hex}
 
 -- a file whose first byte is 0x7F is an ELF32 image, each other one a plain image

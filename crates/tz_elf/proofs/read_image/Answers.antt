@@ -1,4 +1,4 @@
-use Rattle.std.proofs.Common.{◌∙◌, ap, refl, [], List}
+use Rattle.std.proofs.Common.{◌∙◌, ap, List}
 use Rattle.tz_model.specs.Board.{BoardValue}
 use Rattle.tz_model.specs.declared.board.Region.{Region}
 use Rattle.tz_sem.specs.Placement.{image_with}

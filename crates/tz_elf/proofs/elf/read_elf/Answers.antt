@@ -1,4 +1,4 @@
-use Rattle.std.proofs.Common.{◌≡◌, ◌∙◌, ◌+◌, ◌*◌, ◌-◌, ◌<◌, ◌≤◌, arith, length, sym, ap}
+use Rattle.std.proofs.Common.{◌∙◌, ◌+◌, ◌*◌, ◌-◌, arith, length, sym, ap}
 use Rattle.tz_sem.specs.Placement.{placed_in}
 use Rattle.tz_sem.specs.ElfImage.{headers_from, loads_from}
 use Rattle.tz_elf.proofs.Headers.{elf_segments-start, loads_from-first, loads_from-none}

@@ -1,9 +1,9 @@
-use Rattle.std.proofs.Common.{◌≡◌, ◌∙◌, ◌≤◌, ◌+◌, ℕ, arith, ap, length, refl}
+use Rattle.std.proofs.Common.{◌∙◌, ℕ, arith, ap, length, refl}
 use Rattle.tz_model.specs.Image.{SegmentValue}
 use Rattle.tz_elf.proofs.Counting.{lengths-bytes_in}
 use Rattle.tz_elf.proofs.Written.{written-all, written-more}
 use Rattle.tz_elf.proofs.WrittenElf.{entries_bytes-item, entries_bytes-none, lengths-item}
-use Rattle.tz_elf.proofs.write_elf.write_entries.Goals as goal
+use Rattle.tz_elf.proofs.elf_writer.write_entries.Goals as goal
 
 abbrev base_of : SegmentValue → ℕ
 base_of s = s.base

@@ -1,7 +1,7 @@
 use Rattle.std.proofs.Common.{◌≡◌, ◌++◌, drop, take}
 use Rattle.tz_sem.specs.PlainImage.{plain_text}
 use Rattle.tz_elf.proofs.Written.{HoldBytes}
-use Rattle.tz_elf.proofs.write.write_plain.Given as goal
+use Rattle.tz_elf.proofs.plain_writer.write_plain.Given as goal
 
 abbrev pub invariant-loop-segment : goal.invariant-loop-segment
 invariant-loop-segment l = record {

@@ -1,7 +1,7 @@
 use Rattle.std.proofs.Common.{◌≡◌, ◌+◌, ◌*◌, ◌≤◌, ◌++◌, drop, length}
 use Rattle.tz_sem.specs.ElfImage.{entries_bytes}
 use Rattle.tz_elf.proofs.Counting.{lengths}
-use Rattle.tz_elf.proofs.write_elf.write_entries.Given as goal
+use Rattle.tz_elf.proofs.elf_writer.write_entries.Given as goal
 
 abbrev pub invariant-loop-segment : goal.invariant-loop-segment
 invariant-loop-segment l = record {

@@ -1,6 +1,6 @@
-use Rattle.std.proofs.Common.{◌≡◌, ◌∙◌, ◌++◌, ap, List, ℕ}
+use Rattle.std.proofs.Common.{◌∙◌, ◌++◌, ap, List, ℕ}
 use Rattle.tz_elf.proofs.WrittenElf.{appended}
-use Rattle.tz_elf.proofs.write_elf.write_header.Goals as goal
+use Rattle.tz_elf.proofs.elf_writer.write_header.Goals as goal
 
 abbrev behind : List ℕ → List ℕ → List ℕ
 behind start part = start ++ part

@@ -1,5 +1,5 @@
 use Rattle.tz_elf.proofs.WrittenElf.{appended}
-use Rattle.tz_elf.proofs.write_elf.write_entry.Goals as goal
+use Rattle.tz_elf.proofs.elf_writer.write_entry.Goals as goal
 
 pub returns : goal.returns
 returns c =

@@ -1,4 +1,4 @@
-use Rattle.std.proofs.Common.{◌≡◌, ◌∙◌, ap, arith, length, List, ℕ, Result, Ok}
+use Rattle.std.proofs.Common.{◌∙◌, ap, arith, length, List, ℕ, Result, Ok}
 use Rattle.std.proofs.lemmas.Bool.{leb-true}
 use Rattle.tz_model.specs.Board.{most_bytes}
 use Rattle.tz_model.specs.Image.{ImageValue, SegmentValue}
@@ -7,7 +7,7 @@ use Rattle.tz_sem.specs.Images.{Refusal, pairs_in, pairs_of}
 use Rattle.tz_elf.proofs.ReadBackElf.{pairs_of-elf_bytes}
 use Rattle.tz_elf.proofs.Written.{written-all, written-more}
 use Rattle.tz_elf.proofs.WrittenElf.{all_bytes-item, all_bytes-none}
-use Rattle.tz_elf.proofs.write_elf.write_image.Goals as goal
+use Rattle.tz_elf.proofs.elf_writer.write_image.Goals as goal
 
 abbrev segments_in : ImageValue → List SegmentValue
 segments_in image = image.segments

@@ -59,7 +59,8 @@ fn write_entry(offset: u32, base: u32, size: u32, file: &mut Vec<u8>) -> Result<
 fn write_entries(segments: &[Segment], file: &mut Vec<u8>) -> Result<(), AllocError>
     requires few { length segments.now < 65536 }
     requires small { bytes_in segments.now ≤ most_bytes }
-    ensures { OnOk result (file.new.items ≡ file.old.items ++ entries_bytes (52 + 32 * length segments.now) segments.now) }
+    ensures { OnOk result (file.new.items
+        ≡ file.old.items ++ entries_bytes (52 + 32 * length segments.now) segments.now) }
 {
     let mut offset = 52 + 32 * segments.len() as u32;
     for segment in segments {

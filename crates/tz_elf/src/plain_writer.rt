@@ -15,12 +15,7 @@ use tz_model::{Image, Segment};
 const LINE_BYTES: usize = 64;
 
 /// Writes a line of bytes from an address on.
-fn write_line(
-    alloc: Global,
-    base: u32,
-    bytes: &[u8],
-    text: &mut Vec<u8>,
-) -> Result<(), AllocError>
+fn write_line(alloc: Global, base: u32, bytes: &[u8], text: &mut Vec<u8>) -> Result<(), AllocError>
     ensures { OnOk result (text.new.items ≡ text.old.items ++ (line_text base bytes.now ++ 10 ∷ [])) }
 {
     let address = hex::encode(alloc, base.to_be_bytes())?;
@@ -33,11 +28,7 @@ fn write_line(
 }
 
 /// Writes the lines of a segment.
-fn write_segment(
-    alloc: Global,
-    segment: &Segment,
-    text: &mut Vec<u8>,
-) -> Result<(), AllocError>
+fn write_segment(alloc: Global, segment: &Segment, text: &mut Vec<u8>) -> Result<(), AllocError>
     requires { end_of segment.now ≤ 2 ^ 32 }
     ensures text { OnOk result (text.new.items ≡ text.old.items ++ segment_text segment.now) }
     ensures bytes { OnOk result ((k : ℕ) → slice_index segment.now.bytes k < 256) }

@@ -1,6 +1,6 @@
-use Rattle.std.proofs.Common.{◌≡◌, ◌≤◌, arith}
+use Rattle.std.proofs.Common.{arith}
 use Rattle.tz_elf.proofs.Written.{lines_text-next, lines_text-none, written-all, written-more}
-use Rattle.tz_elf.proofs.write.write_segment.Goals as goal
+use Rattle.tz_elf.proofs.plain_writer.write_segment.Goals as goal
 
 pub loop-at-preserved : goal.loop-at-preserved
 loop-at-preserved c =
