@@ -135,18 +135,3 @@ pub enum ScriptError {
     #[error("no memory")]
     Memory,
 }
-
-/// Why a script is refused: the first reason by line, with the number of the line, counted from 1.
-#[derive(Clone, Copy, Debug)]
-pub enum ScriptError {
-    /// The line is no event, no comment and not empty.
-    BadLine(u32),
-    /// Its step is below that of the event before.
-    OutOfOrder(u32),
-    /// The board hasn't the interrupt.
-    NoSuchInterrupt(u32),
-    /// There are more than 10,000 events.
-    TooMany,
-    /// There is no memory for the script.
-    Memory,
-}

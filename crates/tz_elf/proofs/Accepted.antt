@@ -1,13 +1,13 @@
 -- Segments that were accepted one by one make an image: each lies in the regions, and no two share a byte.
-use Rattle.std.proofs.Common.{◌≡◌, ◌∙◌, ◌<◌, ◌≤◌, ◌+◌, ◌-◌, ◌*◌, ◌^◌, ◌==◌, ℕ, Bool, true, false, not, ◌&&◌, zero, suc, refl, sym, ap, arith, List, [], ◌∷◌, ◌++◌, length, take, drop, slice_index, length-drop, Option, Some, None, Result, Ok, Err, inl, inr, if◌then◌else◌}
+use Rattle.std.proofs.Common.{◌≡◌, ◌<◌, ◌≤◌, ◌+◌, ◌-◌, ◌==◌, ℕ, Bool, true, false, not, ◌&&◌, refl, arith, List, [], ◌∷◌, ◌++◌, length, take, drop, slice_index, length-drop, Option, Some, None, Ok, inl, inr, if◌then◌else◌}
 use Rattle.std.specs.Prelude.{nat_le}
 use Rattle.std.proofs.lemmas.Bool.{and_from, and_parts, false≢true, le-leb, leb-true, or_cases}
 use Rattle.tz_model.specs.declared.board.Region.{Region}
 use Rattle.tz_model.specs.Attribution.{in_region}
 use Rattle.tz_model.specs.Board.{are_regions, bytes_of as sizes_of, is_multiple, is_region, most_bytes, within}
 use Rattle.tz_model.specs.Image.{IsImage, SegmentValue, are_addressed, are_clear, clear_of_all, end_of, is_clear_of}
-use Rattle.tz_sem.specs.Placement.{Refusal, Outside, WrongSide, first_sharing, in_some, lies_in, overlap_with, placed_in, unless}
-use Rattle.tz_sem.specs.PlainImage.{Segments, bytes_of, line_then, segment_of, segment_then, segment_with, segments_from, without_return}
+use Rattle.tz_sem.specs.Placement.{Refusal, Outside, Segments, WrongSide, first_sharing, in_some, lies_in, overlap_with, placed_in, unless}
+use Rattle.tz_sem.specs.PlainImage.{bytes_of, line_then, segment_of, segment_then, segment_with, segments_from, without_return}
 use Rattle.tz_elf.proofs.Counting.{are_placed, bytes_in-most, end_below, in_region-bounds, lies_in-at}
 use Rattle.tz_elf.proofs.Digits.{length-bytes_of}
 

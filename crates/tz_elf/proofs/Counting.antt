@@ -1,9 +1,8 @@
 -- How many bytes: segments that share no byte and lie in the regions hold no more than the regions do. The bytes below
 -- an address are counted, and the address goes up one by one.
-use Rattle.std.proofs.Common.{◌≡◌, ◌∙◌, ◌<◌, ◌≤◌, ◌+◌, ◌-◌, ◌⊎◌, ℕ, Bool, true, false, ◌&&◌, ◌||◌, zero, suc, refl, sym, ap, arith, List, [], ◌∷◌, length, inl, inr}
-use Rattle.std.specs.Prelude.{nat_le, nat_lt, sum_by, if◌then◌else◌}
+use Rattle.std.proofs.Common.{◌≡◌, ◌<◌, ◌≤◌, ◌+◌, ◌-◌, ◌⊎◌, ℕ, Bool, true, ◌&&◌, zero, suc, refl, arith, List, [], ◌∷◌, length, inl, inr}
+use Rattle.std.specs.Prelude.{nat_le, nat_lt}
 use Rattle.std.proofs.lemmas.Bool.{and_parts, cases_lt, false≢true, leb-true, ltb-true, or_cases}
-use Rattle.std.proofs.lemmas.Bool.Decides.{nat_tests}
 use Rattle.std.proofs.lemmas.List.Recursion.{is_sum_by}
 use Rattle.tz_model.specs.declared.board.Region.{Region}
 use Rattle.tz_model.specs.Attribution.{in_region}
@@ -198,7 +197,7 @@ lengths (s ∷ more) = length s.bytes + lengths more
 sizes-bytes_of : (regions : List Region) → sizes regions ≡ bytes_of regions
 sizes-bytes_of = is_sum_by sizes (λ r. r.size) refl (λ r more. refl)
 
-lengths-bytes_in : (segments : List SegmentValue) → lengths segments ≡ bytes_in segments
+pub lengths-bytes_in : (segments : List SegmentValue) → lengths segments ≡ bytes_in segments
 lengths-bytes_in = is_sum_by lengths (λ s. length s.bytes) refl (λ s more. refl)
 
 regions_below-most : (n : ℕ) (regions : List Region) → regions_below n regions ≤ sizes regions

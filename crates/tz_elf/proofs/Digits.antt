@@ -1,13 +1,12 @@
 -- Bytes in hexadecimal digits: what the decoder answers is what the definition says.
-use Rattle.std.proofs.Common.{◌≡◌, ◌∙◌, ◌<◌, ◌≤◌, ◌+◌, ◌-◌, ◌*◌, ◌%◌, ◌==◌, ◌&&◌, Bool, true, false, if◌then◌else◌, length-take, length-drop, ℕ, zero, suc, refl, sym, ap, arith, List, [], ◌∷◌, length, take, drop, slice_index, Option, Some, None, Result, Ok, Err, inl, inr}
+use Rattle.std.proofs.Common.{◌≡◌, ◌∙◌, ◌≤◌, ◌+◌, ◌-◌, ◌*◌, ◌%◌, ◌==◌, ◌&&◌, Bool, true, false, if◌then◌else◌, length-take, length-drop, ℕ, zero, suc, refl, sym, ap, arith, List, [], ◌∷◌, length, take, drop, slice_index, Option, Some, None, Result, Ok, Err, inl, inr}
 use Rattle.std.specs.Result.{MatchResult, is_err}
 use Rattle.std.proofs.lemmas.Bool.{cases_eq, le-leb}
 use Rattle.tz_model.specs.Board.{within}
 use Rattle.hex.specs.Hex.{decode_of, decode_pairs, decode_sized, hex_digit_value}
 use Rattle.hex.specs.declared.error.FromHexError.{FromHexError}
-use Rattle.hex.specs.declared.error.FromHexError.TheVariants.{OddLength}
 use Rattle.hex.proofs.HexLemmas.{decode_of-even, decode_of-odd, decode_sized-twice}
-use Rattle.tz_sem.specs.PlainImage.{before_bytes, byte_of, bytes_of, digit_of, segment_of, segment_with}
+use Rattle.tz_sem.specs.PlainImage.{byte_of, bytes_of, digit_of, segment_of, segment_with}
 
 -- what a decoder's answer is to the definition, which gives no causes
 abbrev pub decoded : Result (List ℕ) FromHexError → Option (List ℕ)
@@ -98,7 +97,8 @@ pub segment_of-refused : (line out : List ℕ) (r : Result Unit FromHexError) �
 segment_of-refused line out r long told failed =
     segment_of-no_address line (sym (address_bytes line long) ∙ (four_bytes (decode_sized (take 8 line) 4) r out told).0 failed)
 
-take_whole : (n : ℕ) (xs : List ℕ) → length xs ≤ n → take n xs ≡ xs
+-- all of a short list
+pub take_whole : (n : ℕ) (xs : List ℕ) → length xs ≤ n → take n xs ≡ xs
 take_whole zero [] h = refl
 take_whole zero (x ∷ xs) h = absurd (omega arith)
 take_whole (suc n) [] h = refl
@@ -109,7 +109,7 @@ pub take-rest : (n : ℕ) (xs : List ℕ) → take (length xs - n) (drop n xs) �
 take-rest n xs = take_whole (length xs - n) (drop n xs) (omega (arith, length-drop n xs))
 
 -- a line whose parts stand where they should
-segment_of-parts : (line : List ℕ) → 11 ≤ length line → length line ≤ 137 → slice_index line 8 ≡ 32
+pub segment_of-parts : (line : List ℕ) → 11 ≤ length line → length line ≤ 137 → slice_index line 8 ≡ 32
     → segment_of line ≡ segment_with (bytes_of (take 8 line)) (bytes_of (drop 9 line))
 segment_of-parts line long short space = rw (le-leb 11 (length line) long, le-leb (length line) 137 short, space) refl
 

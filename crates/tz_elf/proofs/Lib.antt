@@ -5,3 +5,9 @@ pub mod RefusalLemmas
 pub mod Counting
 pub mod Accepted
 pub mod Images
+pub mod Headers
+pub mod AcceptedLoads
+pub mod Written
+pub mod ReadBack
+pub mod WrittenElf
+pub mod ReadBackElf

@@ -1,5 +1,5 @@
 -- The lines of a text, and what they give one by one.
-use Rattle.std.proofs.Common.{◌≡◌, ◌≢◌, ◌∙◌, ◌<◌, ◌≤◌, ◌+◌, ◌==◌, ℕ, Bool, true, false, zero, suc, refl, sym, ap, arith, List, [], ◌∷◌, length, take, drop, get_or, eq-eqb, Result, Ok}
+use Rattle.std.proofs.Common.{◌≡◌, ◌≢◌, ◌<◌, ◌+◌, ◌==◌, ℕ, true, false, zero, suc, refl, ap, arith, List, [], ◌∷◌, length, take, drop, get_or, eq-eqb, Ok}
 use Rattle.std.proofs.lemmas.Bool.{ne_eqb}
 use Rattle.tz_model.specs.Image.{SegmentValue}
 use Rattle.tz_sem.specs.Placement.{Test}

@@ -1,29 +1,15 @@
 -- Regions, the bytes that lie in them, and segments that share a byte.
-use Rattle.std.proofs.Common.{◌≡◌, ◌∙◌, ◌<◌, ◌≤◌, ◌+◌, ◌-◌, ℕ, Bool, true, false, ◌||◌, ◌&&◌, zero, suc, refl, sym, ap, arith, List, [], ◌∷◌, length, drop, get_or, add-one, drop-cons, inl, inr}
+use Rattle.std.proofs.Common.{◌≡◌, ◌<◌, ◌≤◌, ◌+◌, ◌-◌, ℕ, true, false, zero, suc, refl, arith, List, [], ◌∷◌, length, get_or, inl, inr}
 use Rattle.std.proofs.lemmas.Bool.{cases_lt, or_right}
 use Rattle.std.proofs.lemmas.Bool.Decides.{nat_tests}
 use Rattle.tz_model.specs.declared.board.Region.{Region}
 use Rattle.tz_model.specs.Attribution.{in_region}
-use Rattle.tz_model.specs.Image.{SegmentValue, end_of, is_clear_of}
-use Rattle.tz_sem.specs.Placement.{first_sharing, in_some, lies_in}
+use Rattle.tz_sem.specs.Placement.{in_some, lies_in}
 
 pub in_region-within : (r : Region) (a : ℕ) → r.base ≤ a → a < r.base + r.size → in_region r a ≡ true
 in_region-within r a low high =
     let inside : a - r.base < r.size = omega arith in
     grind (arith, nat_tests)
-
-pub in_region-below : (r : Region) (a : ℕ) → a < r.base → in_region r a ≡ false
-in_region-below r a low = grind (arith, nat_tests)
-
-pub in_region-above : (r : Region) (a : ℕ) → r.base + r.size ≤ a → in_region r a ≡ false
-in_region-above r a high =
-    let outside : r.size ≤ a - r.base = omega arith in
-    grind (arith, nat_tests)
-
--- what the regions from a place on say of an address
-pub in_some-drop : (regions : List Region) (i a : ℕ) (d : Region) → i < length regions
-    → in_some (drop i regions) a ≡ (in_region (get_or regions i d) a || in_some (drop (i + 1) regions) a)
-in_some-drop regions i a d h = rw (add-one, drop-cons regions i d) refl
 
 -- an address in a region is in one of the regions
 pub in_some-at : (regions : List Region) (i a : ℕ) (d : Region) → i < length regions → in_region (get_or regions i d) a ≡ true → in_some regions a ≡ true
@@ -67,9 +53,3 @@ lies_in-outside regions (suc n) a some out = rw out refl
 pub lies_in-none : (regions : List Region) (a n : ℕ) → n ≡ 0 → lies_in regions a n ≡ true
 unfolding lies_in
 lies_in-none regions a n none = rw none refl
-
--- a turn of the search for a segment that shares a byte
-pub first_sharing-clear : (s : SegmentValue) (segments : List SegmentValue) (i : ℕ) (d : SegmentValue) → i < length segments
-    → is_clear_of (get_or segments i d) s ≡ true
-    → first_sharing i s (drop i segments) ≡ first_sharing (i + 1) s (drop (i + 1) segments)
-first_sharing-clear s segments i d h clear = rw (drop-cons segments i d, clear, add-one) refl

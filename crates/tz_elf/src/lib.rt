@@ -1,27 +1,58 @@
-//! Image files: plain images are read into the segments that the machine starts with.
+//! Image files: plain images and ELF32 images are read into the segments that the machine starts with.
 //!
 //! A file is accepted exactly where its bytes are an image for the side and the board, and else the
 //! first refusal is told by its code and its place. Nothing is known here of what an image's code does.
 #![tactic(auto)]
 
 ghost use Rattle.std.specs.Prelude.{◌≡◌, ◌^◌, ◌<◌, length, Ok, IfOk, IfErr};
-ghost use Rattle.tz_sem.specs.Images.{image_of};
+ghost use Rattle.tz_sem.specs.Images.{image_of, segments_of};
+ghost use Rattle.tz_sem.specs.Placement.{placed_in};
 ghost use Rattle.tz_elf.specs.Refusals.{IsRefusal};
 
+mod elf;
+mod elf_writer;
 mod error;
 mod placement;
 mod plain;
+mod plain_writer;
+#[cfg(test)]
+mod tests;
 
+use elf::read_elf;
+pub use elf_writer::write_image;
 pub use error::ElfError;
 use placement::regions_for;
 use plain::read_plain;
+pub use plain_writer::write_plain;
 use std::alloc::Global;
-use tz_model::{Board, Image, Side};
+use tz_model::{Board, Image, Region, Segment, Side};
 
-/// Reads the image of a file for a side of a board.
+/// Reads the segments of a file, which may stand in some of all regions.
+fn read_segments(
+    alloc: Global,
+    bytes: &[u8],
+    regions: &[Region],
+    usable: &[Region],
+) -> Result<Vec<Segment>, ElfError>
+    requires { length bytes.now < 2 ^ 32 }
+    ensures ok { IfOk result (λ v. segments_of (placed_in regions.now usable.now) bytes.now ≡ Ok v.items) }
+    ensures err { IfErr result (λ e. IsRefusal e (segments_of (placed_in regions.now usable.now) bytes.now)) }
+{
+    if !bytes.is_empty() && bytes[0] == 0x7F {
+        read_elf(alloc, bytes, regions, usable)
+    } else {
+        read_plain(alloc, bytes, regions, usable)
+    }
+}
+
+/// Reads the image of a file for a side of a board: an ELF32 image where the first byte is 0x7F, else a
+/// plain image.
 ///
-/// The error is the first refusal, in the order of the file: of a line of a plain image `Hex`,
-/// `Outside`, `WrongSide`, `Overlap`. `Memory` comes only where memory runs out.
+/// The error is the first refusal. A plain image is tested line by line: `Hex`, `Outside`, `WrongSide`,
+/// `Overlap`. Of an ELF image first the file header is: `Magic`, `HeaderCut` below 52 bytes,
+/// `ClassOrOrder`, `TypeOrMachine`, `HeaderCut` for the table of program headers; and then each program
+/// header that brings bytes: `SegmentCut`, `Outside`, `WrongSide`, `Overlap`. `Memory` comes only where
+/// memory runs out.
 pub fn read_image(alloc: Global, bytes: &[u8], board: &Board, side: Side) -> Result<Image, ElfError>
     requires { length bytes.now < 2 ^ 32 }
     ensures ok { IfOk result (λ i. image_of bytes.now board.now side ≡ Ok i) }
@@ -32,7 +63,7 @@ pub fn read_image(alloc: Global, bytes: &[u8], board: &Board, side: Side) -> Res
         Ok(usable) => usable,
         Err(_) => return Err(ElfError::Memory),
     };
-    match read_plain(alloc, bytes, regions, usable.as_slice()) {
+    match read_segments(alloc, bytes, regions, usable.as_slice()) {
         Ok(segments) => Ok(Image { segments }),
         Err(error) => Err(error),
     }

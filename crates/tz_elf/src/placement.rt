@@ -4,11 +4,9 @@
 //! Each function answers as the definition of its name does, by looking at regions and segments and
 //! never at single bytes.
 
-ghost use Rattle.std.specs.Prelude.{◌≡◌, ◌^◌, ◌<◌, ◌≤◌, ℕ, false, true, List, length, None, Result, IfOk, IfErr, OnOk, MatchOption};
-ghost use Rattle.tz_model.specs.Image.{SegmentValue};
-ghost use Rattle.tz_sem.specs.Images.{Refusal};
+ghost use Rattle.std.specs.Prelude.{◌≡◌, ◌^◌, ◌<◌, ◌≤◌, ℕ, false, true, length, None, IfNone, IfOk, IfErr, IfSome, OnOk};
 ghost use Rattle.tz_sem.specs.Placement as placement;
-ghost use Rattle.tz_elf.specs.Refusals.{IsRefusal};
+ghost use Rattle.tz_elf.specs.Steps.{IsCause};
 
 use crate::error::ElfError;
 use std::alloc::{AllocError, Global};
@@ -16,7 +14,10 @@ use tz_model::{Region, RegionSide, Segment, Side};
 
 /// The end of the first region that holds an address.
 fn end_at(regions: &[Region], address: u64) -> Option<u64>
-    ensures { MatchOption result (placement.in_some regions.now address ≡ false) (λ end. (address < end) × ((a : ℕ) → address ≤ a → a < end → placement.in_some regions.now a ≡ true)) }
+    ensures none { IfNone result (placement.in_some regions.now address ≡ false) }
+    ensures past { IfSome result (λ end. address < end) }
+    ensures within { IfSome result (λ end. (a : ℕ) → address ≤ a → a < end
+        → placement.in_some regions.now a ≡ true) }
 {
     for region in regions {
         let base = u64::from(region.base);
@@ -70,7 +71,8 @@ pub fn regions_for(alloc: Global, side: Side, regions: &[Region]) -> Result<Vec<
 /// The place of the first segment that shares a byte with another.
 pub fn first_sharing(segments: &[Segment], segment: &Segment) -> Option<u32>
     requires { length segments.now < 2 ^ 32 }
-    ensures { placement.first_sharing 0 segment.now segments.now ≡ result }
+    ensures first { placement.first_sharing 0 segment.now segments.now ≡ result }
+    ensures within { IfSome result (λ place. place < length segments.now) }
 {
     let base = u64::from(segment.base);
     let end = base + segment.bytes.len() as u64;
@@ -93,7 +95,7 @@ pub fn test_segment(
     segment: &Segment,
 ) -> Result<(), ElfError>
     ensures ok { OnOk result (placement.placed_in regions.now usable.now index earlier segment.now ≡ None) }
-    ensures err { IfErr result (λ e. (follows : Result (List SegmentValue) Refusal) → IsRefusal e (placement.unless (placement.placed_in regions.now usable.now index earlier segment.now) follows)) }
+    ensures err { IfErr result (IsCause (placement.placed_in regions.now usable.now index earlier segment.now)) }
 {
     if !lies_in(regions, segment.base, segment.bytes.len()) {
         return Err(ElfError::Outside(index));

@@ -3,11 +3,11 @@
 //! A file is read line by line, and its first refusal ends the reading. What a line means stands in the
 //! definitions of plain images.
 
-ghost use Rattle.std.specs.Prelude.{◌≡◌, ◌≢◌, ◌+◌, ◌^◌, ◌<◌, ◌≤◌, ℕ, List, ◌∷◌, length, slice_index, Ok, IfOk, IfErr, OnOk};
-ghost use Rattle.tz_model.specs.Image.{SegmentValue};
+ghost use Rattle.std.specs.Prelude.{◌≡◌, ◌≢◌, ◌+◌, ◌^◌, ◌<◌, ◌≤◌, ℕ, ◌∷◌, length, slice_index, Ok, IfOk, IfErr, OnOk};
 ghost use Rattle.tz_sem.specs.Placement.{placed_in};
-ghost use Rattle.tz_sem.specs.PlainImage.{Segments, line_then, lines_of, plain_segments, segment_of, without_return};
+ghost use Rattle.tz_sem.specs.PlainImage.{lines_of, plain_segments, segment_of, without_return};
 ghost use Rattle.tz_elf.specs.Refusals.{IsRefusal};
+ghost use Rattle.tz_elf.specs.Steps.{LineGives, LineIsRefused};
 
 use crate::error::ElfError;
 use crate::placement::{first_sharing, test_segment};
@@ -87,9 +87,10 @@ fn add_line(
     segments: &mut Vec<Segment>,
 ) -> Result<(), ElfError>
     requires { length segments.old.items < 2 ^ 32 }
-    ensures ok { OnOk result ((follows : List SegmentValue → Segments) → line_then (placed_in regions.now usable.now) number segments.old.items line.now follows ≡ follows segments.new.items) }
+    ensures ok { OnOk result (LineGives (placed_in regions.now usable.now) number
+        segments.old.items line.now segments.new.items) }
     ensures grows { length segments.new.items ≤ length segments.old.items + 1 }
-    ensures err { IfErr result (λ e. (follows : List SegmentValue → Segments) → IsRefusal e (line_then (placed_in regions.now usable.now) number segments.old.items line.now follows)) }
+    ensures err { IfErr result (LineIsRefused (placed_in regions.now usable.now) number segments.old.items line.now) }
 {
     if line.is_empty() {
         return Ok(());

@@ -8,5 +8,6 @@ pub mod Text
 pub mod Demo
 pub mod Placement
 pub mod PlainImage
+pub mod ElfImage
 pub mod Images
 pub mod Scripts

@@ -20,6 +20,10 @@ pub data Refusal : Type 0 where
   Overlap : (earlier index : ℕ) → Refusal
   Hex : (line : ℕ) → Refusal
 
+-- the segments of a file, or the first refusal
+abbrev pub Segments : Type 0
+Segments = Result (List SegmentValue) Refusal
+
 -- refused for a cause, or else what follows
 abbrev pub unless : {T : Type 0} → Option Refusal → Result T Refusal → Result T Refusal
 unless (Some cause) follows = Err cause
@@ -73,6 +77,6 @@ abbrev pub no_test : Test
 no_test index earlier s = None
 
 -- the image of segments
-abbrev pub image_with : Result (List SegmentValue) Refusal → Result ImageValue Refusal
+abbrev pub image_with : Segments → Result ImageValue Refusal
 image_with (Ok segments) = Ok (record { segments = segments })
 image_with (Err cause) = Err cause

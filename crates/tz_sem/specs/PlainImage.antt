@@ -1,9 +1,9 @@
 -- Plain images: lines of an address and the bytes from there on, in hexadecimal digits.
-use Rattle.std.specs.Prelude.{ℕ, ◌+◌, ◌-◌, ◌*◌, ◌==◌, ◌&&◌, nat_le, if◌then◌else◌, List, [], ◌∷◌, ◌++◌, length, take, drop, slice_index, Option, Some, None, Result, Ok, Err}
-use Rattle.std.specs.Int.{from_be_bytes, w32}
+use Rattle.std.specs.Prelude.{ℕ, zero, suc, ◌+◌, ◌-◌, ◌*◌, ◌/◌, ◌%◌, ◌==◌, ◌&&◌, codes, nat_le, if◌then◌else◌, List, [], ◌∷◌, ◌++◌, length, take, drop, slice_index, Option, Some, None, Ok, Err}
+use Rattle.std.specs.Int.{from_be_bytes, to_be_bytes, w32}
 use Rattle.tz_model.specs.Board.{within}
 use Rattle.tz_model.specs.Image.{SegmentValue}
-use Rattle.tz_sem.specs.Placement.{Refusal, Hex, Test, first_sharing, unless}
+use Rattle.tz_sem.specs.Placement.{Hex, Segments, Test, first_sharing, unless}
 
 -- a byte before the first of these lines
 abbrev pub before_first : ℕ → List (List ℕ) → List (List ℕ)
@@ -59,10 +59,6 @@ segment_of line =
     then segment_with (bytes_of (take 8 line)) (bytes_of (drop 9 line))
     else None
 
--- what segments give
-abbrev pub Segments : Type 0
-Segments = Result (List SegmentValue) Refusal
-
 -- a line's segment, tested, goes to what follows, behind those before it
 abbrev pub segment_then : Test → ℕ → List SegmentValue → Option SegmentValue → (List SegmentValue → Segments) → Segments
 segment_then test number before None follows = Err (Hex number)
@@ -83,3 +79,28 @@ segments_from test number before (line ∷ lines) =
 -- the segments of a plain image
 abbrev pub plain_segments : Test → List ℕ → Segments
 plain_segments test file = segments_from test 1 [] (lines_of file)
+
+-- ---- how an image is written
+
+-- bytes in lower-case hexadecimal digits
+unfoldable pub digits_of : List ℕ → List ℕ
+digits_of [] = []
+digits_of (b ∷ bytes) = slice_index (codes "0123456789abcdef") (b / 16) ∷ slice_index (codes "0123456789abcdef") (b % 16) ∷ digits_of bytes
+
+-- a line of bytes from an address on, without its line feed
+abbrev pub line_text : ℕ → List ℕ → List ℕ
+line_text base bytes = digits_of (to_be_bytes w32 base) ++ 32 ∷ digits_of bytes
+
+-- so many lines of bytes from an address on, of 64 bytes each but the last
+unfoldable pub lines_text : ℕ → ℕ → List ℕ → List ℕ
+lines_text zero base bytes = []
+lines_text (suc n) base bytes = line_text base (take 64 bytes) ++ 10 ∷ lines_text n (base + 64) (drop 64 bytes)
+
+-- the lines of a segment
+abbrev pub segment_text : SegmentValue → List ℕ
+segment_text s = lines_text ((length s.bytes + 63) / 64) s.base s.bytes
+
+-- the plain image of segments
+unfoldable pub plain_text : List SegmentValue → List ℕ
+plain_text [] = []
+plain_text (s ∷ more) = segment_text s ++ plain_text more

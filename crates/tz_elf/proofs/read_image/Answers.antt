@@ -1,9 +1,8 @@
-use Rattle.std.proofs.Common.{◌≡◌, ◌∙◌, ap, refl, sym, [], List}
+use Rattle.std.proofs.Common.{◌∙◌, ap, List}
 use Rattle.tz_model.specs.Board.{BoardValue}
 use Rattle.tz_model.specs.declared.board.Region.{Region}
 use Rattle.tz_sem.specs.Placement.{image_with}
-use Rattle.tz_elf.proofs.Accepted.{segments_from-accepted}
-use Rattle.tz_elf.proofs.Images.{IsImage-board, image_of-segments}
+use Rattle.tz_elf.proofs.Images.{IsImage-board, image_of-segments, segments_of-accepted}
 use Rattle.tz_elf.proofs.RefusalLemmas.{IsRefusal-image_along}
 use Rattle.tz_elf.proofs.read_image.Goals as goal
 
@@ -13,19 +12,19 @@ regions_of board = board.regions
 pub invariant_of-result : goal.invariant_of-result
 invariant_of-result c =
     let regions = c.as_slice-regions.result.now in
-    let segments = c.in-Ok-read_plain.segments.items in
+    let segments = c.in-Ok-read_segments.segments.items in
     IsImage-board _ regions segments c.board.invariant c.as_slice-regions.ensures.value
-    (segments_from-accepted regions c.as_slice.result.now _ 1 [] segments (record { placed = refl; clear = refl }) c.in-Ok-read_plain.ensures.ok)
+    (segments_of-accepted regions c.as_slice.result.now c.args.bytes.now segments c.in-Ok-read_segments.ensures.ok)
 
-pub returns-in-Ok-read_plain-clause-ok : goal.returns-in-Ok-read_plain-clause-ok
-returns-in-Ok-read_plain-clause-ok c =
+pub returns-in-Ok-read_segments-clause-ok : goal.returns-in-Ok-read_segments-clause-ok
+returns-in-Ok-read_segments-clause-ok c =
     image_of-segments c.args.bytes.now c.args.board.now c.args.side c.as_slice-regions.result.now c.as_slice.result.now
     (c.as_slice-regions.ensures.value ∙ ap regions_of c.board.view_is) (c.as_slice.ensures.value ∙ c.in-Ok.ensures)
-    ∙ ap image_with c.in-Ok-read_plain.ensures.ok
+    ∙ ap image_with c.in-Ok-read_segments.ensures.ok
 
 pub returns-clause-err : goal.returns-clause-err
 returns-clause-err c =
-    IsRefusal-image_along c.in-Err-read_plain.error _ _
+    IsRefusal-image_along c.in-Err-read_segments.error _ _
     (image_of-segments c.args.bytes.now c.args.board.now c.args.side c.as_slice-regions.result.now c.as_slice.result.now
     (c.as_slice-regions.ensures.value ∙ ap regions_of c.board.view_is) (c.as_slice.ensures.value ∙ c.in-Ok.ensures))
-    c.in-Err-read_plain.ensures.err
+    c.in-Err-read_segments.ensures.err

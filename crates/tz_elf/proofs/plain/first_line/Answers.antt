@@ -1,4 +1,4 @@
-use Rattle.std.proofs.Common.{◌≡◌, ◌∙◌, ◌+◌, ◌∷◌, ap, sym, List, ℕ, take, drop, arith}
+use Rattle.std.proofs.Common.{◌∙◌, ◌+◌, ◌∷◌, ap, sym, List, ℕ, take, arith}
 use Rattle.tz_sem.specs.PlainImage.{lines_of}
 use Rattle.tz_elf.proofs.Digits.{take-rest}
 use Rattle.tz_elf.proofs.Lines.{lines_of-feed, lines_of-last}

@@ -1,4 +1,4 @@
-use Rattle.std.proofs.Common.{◌≡◌, ◌∙◌, ℕ, ap, sym, inl, inr, Option, Some, Ok, Err}
+use Rattle.std.proofs.Common.{◌∙◌, ℕ, ap, sym, inl, inr, Option, Some, Ok, Err}
 use Rattle.tz_model.specs.Image.{SegmentValue}
 use Rattle.tz_elf.proofs.Digits.{segment_of-read, segment_of-refused}
 use Rattle.tz_elf.proofs.plain.read_line.Goals as goal
