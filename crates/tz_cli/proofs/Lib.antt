@@ -1,8 +1,9 @@
 pub mod Looks
+pub mod Views
+pub mod WordAnswers
 pub mod WordTurns
 pub mod WordValues
 pub mod WordWalks
-pub mod WordAnswers
 pub mod Counts
 pub mod Names
 pub mod Stages

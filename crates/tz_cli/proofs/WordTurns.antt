@@ -72,8 +72,8 @@ module _ (p : Leaf) where
   abbrev pub shape : Shape
   shape = (built (app_for p)).top
 
-  abbrev pub rules_of_run : List Rule
-  rules_of_run = shape.rules
+  abbrev pub rules_of : List Rule
+  rules_of = shape.rules
 
   -- where the walk stands
   abbrev pub at : List Row → Pending → Waiting → Bool → Walk
@@ -86,16 +86,16 @@ module _ (p : Leaf) where
   }
 
   abbrev pub settles : List Row → Pending → Bool
-  settles rows pending = free (settle_fault rules_of_run false (record { rows = rows; pending = pending; skip = 0 }))
+  settles rows pending = free (settle_fault rules_of false (record { rows = rows; pending = pending; skip = 0 }))
 
   abbrev pub after : List Row → Pending → List Row
-  after rows pending = settled_rows rules_of_run pending rows
+  after rows pending = settled_rows rules_of pending rows
 
   abbrev pub turn : Walk → Text → Bool
   turn w word = free (turn_fault shape [] w word)
 
   abbrev pub next_of : Walk → Text → Walk
-  next_of w word = walked rules_of_run [] w word
+  next_of w word = walked rules_of [] w word
 
   -- a word past `--`
   pub ended_turn : (rows : List Row) (held : Pend) (waiting : Waiting) (word : Text) → turn (at rows (pend held) waiting true) word ≡ settles rows (pend held)
@@ -169,8 +169,8 @@ module _ (p : Leaf) where
 
   pub valued_turn : (rows : List Row) (pending : Pending) (r : Ready) (word v : Text) → bytes_eq word (45 ∷ 45 ∷ []) ≡ false → long_of word ≡ Some (p.option, Some v)
       → turn (at rows pending (ready r) false) word ≡ (settles rows pending && passes (after rows pending) v)
-  valued_turn rows pending Idle word v e l = rw (e, l, same_option) (three (settle_fault rules_of_run false (record { rows = rows; pending = pending; skip = 0 })) (has_row (codes "option") (after rows pending)) (accepts false p.parser v) ArgumentConflict (refused_kind p.parser))
-  valued_turn rows pending After word v e l = rw (e, l, same_option) (three (settle_fault rules_of_run false (record { rows = rows; pending = pending; skip = 0 })) (has_row (codes "option") (after rows pending)) (accepts false p.parser v) ArgumentConflict (refused_kind p.parser))
+  valued_turn rows pending Idle word v e l = rw (e, l, same_option) (three (settle_fault rules_of false (record { rows = rows; pending = pending; skip = 0 })) (has_row (codes "option") (after rows pending)) (accepts false p.parser v) ArgumentConflict (refused_kind p.parser))
+  valued_turn rows pending After word v e l = rw (e, l, same_option) (three (settle_fault rules_of false (record { rows = rows; pending = pending; skip = 0 })) (has_row (codes "option") (after rows pending)) (accepts false p.parser v) ArgumentConflict (refused_kind p.parser))
 
   pub valued_next : (rows : List Row) (pending : Pending) (r : Ready) (word v : Text) → bytes_eq word (45 ∷ 45 ∷ []) ≡ false → long_of word ≡ Some (p.option, Some v)
       → next_of (at rows pending (ready r) false) word ≡ at (after (after rows pending) (pend (Value v))) None idle false

@@ -13,7 +13,7 @@ use Rattle.clap.specs.declared.parser.matches.ValueSource.TheVariants.{CommandLi
 use Rattle.tz_cli.specs.Leaf.{Leaf, app_for, is_name, is_one, option_rule}
 use Rattle.tz_cli.specs.Parts.{Text, Positional, look_of, all_positional, parts_by, AnyWord, ItsValue, Parts, parts_of, with_positional, with_value}
 use Rattle.tz_cli.proofs.Looks.{Seen, EndsAll, NamesIt, GivesIt, NamesOther, Hyphened, NoCharacter, NoHyphen, not_true, seen}
-use Rattle.tz_cli.proofs.WordTurns.{free, Pend, Nothing, Word, Value, pend, asked, Ready, Idle, After, ready, rules_of_run, at, settles, after, turn, next_of, passes, waits, settles_value, ended_next, plain_next, ends_next, bare_next, valued_turn, valued_next, long_turn, short_turn, half_next, taking_ends, taking_bare, taking_long, taking_short, taking_half, taking_plain}
+use Rattle.tz_cli.proofs.WordTurns.{free, Pend, Nothing, Word, Value, pend, asked, Ready, Idle, After, ready, rules_of, at, settles, after, turn, next_of, passes, waits, settles_value, ended_next, plain_next, ends_next, bare_next, valued_turn, valued_next, long_turn, short_turn, half_next, taking_ends, taking_bare, taking_long, taking_short, taking_half, taking_plain}
 use Rattle.tz_cli.proofs.WordWalks.{goes, goes-cons, never, claims, fits, takes-parts}
 
 -- the values of an argument
@@ -65,7 +65,7 @@ append-none (x ∷ xs) = ap (λ (ys : List Text). x ∷ ys) (append-none xs)
 module _ (p : Leaf) (named : is_name p.option ≡ true) (only : (v : Text) → accepts false p.parser v ≡ true → look_of p.option v ≡ Positional) where
   -- the rows at the end
   abbrev pub ends : Walk → List Text → List Row
-  ends w words = finished (rules_of_run p) (fold (walked (rules_of_run p) []) w words).held
+  ends w words = finished (rules_of p) (fold (walked (rules_of p) []) w words).held
 
   -- the values at the end are those before, and the parts of the words
   abbrev pub Gains : List Row → Option Parts → List Row → Type 0
@@ -89,11 +89,11 @@ module _ (p : Leaf) (named : is_name p.option ≡ true) (only : (v : Text) → a
       )
 
   -- nothing more comes at the end
-  last : (w : Walk) → ends w [] ≡ (settled (rules_of_run p) w.held).rows
-  last w = let rows = (settled (rules_of_run p) w.held).rows in
+  last : (w : Walk) → ends w [] ≡ (settled (rules_of p) w.held).rows
+  last w = let rows = (settled (rules_of p) w.held).rows in
       same_either (has_row (codes "option") (cond (has_row (codes "words") rows) rows rows)) _ ∙ same_either (has_row (codes "words") rows) rows
 
-  gains-nothing : (w : Walk) → Gains (settled (rules_of_run p) w.held).rows (Some (record { positionals = []; values = [] })) (ends w [])
+  gains-nothing : (w : Walk) → Gains (settled (rules_of p) w.held).rows (Some (record { positionals = []; values = [] })) (ends w [])
   gains-nothing w = (ap (held_by (codes "words")) (last w) ∙ sym (append-none _), ap (held_by (codes "option")) (last w) ∙ sym (append-none _))
 
   -- a turn that passes, and the walk after it

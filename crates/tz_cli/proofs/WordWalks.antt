@@ -14,7 +14,7 @@ use Rattle.clap.specs.declared.parser.matches.ValueSource.TheVariants.{CommandLi
 use Rattle.tz_cli.specs.Leaf.{Leaf, app_for, is_name, is_one, option_rule}
 use Rattle.tz_cli.specs.Parts.{Text, Positional, look_of, all_positional, parts_by, AnyWord, ItsValue, Parts, parts_of, with_positional, with_value}
 use Rattle.tz_cli.proofs.Looks.{Seen, EndsAll, NamesIt, GivesIt, NamesOther, Hyphened, NoCharacter, NoHyphen, seen}
-use Rattle.tz_cli.proofs.WordTurns.{free, free-or_else, Pend, Nothing, Word, Value, pend, asked, Ready, Idle, After, ready, shape, rules_of_run, at, settles, after, turn, next_of, passes, waits, settles_value, ended_turn, ended_next, asked_ended, plain_turn, plain_next, ends_turn, ends_next, bare_turn, bare_next, valued_turn, valued_next, long_turn, short_turn, half_turn, half_next, taking_ends, taking_bare, taking_long, taking_short, taking_half, taking_plain}
+use Rattle.tz_cli.proofs.WordTurns.{free, free-or_else, Pend, Nothing, Word, Value, pend, asked, Ready, Idle, After, ready, shape, rules_of, at, settles, after, turn, next_of, passes, waits, settles_value, ended_turn, ended_next, asked_ended, plain_turn, plain_next, ends_turn, ends_next, bare_turn, bare_next, valued_turn, valued_next, long_turn, short_turn, half_turn, half_next, taking_ends, taking_bare, taking_long, taking_short, taking_half, taking_plain}
 
 pub and_assoc : (a b c : Bool) → ((a && b) && c) ≡ (a && (b && c))
 and_assoc true b c = refl
@@ -59,7 +59,7 @@ has_row-other how values (r ∷ rs) = by_test _ refl (has_row-other how values r
 module _ (p : Leaf) (named : is_name p.option ≡ true) (only : (v : Text) → accepts false p.parser v ≡ true → look_of p.option v ≡ Positional) where
   -- the walk over the words, and what is settled at its end, pass
   abbrev pub goes : Walk → List Text → Bool
-  goes w words = free (walk_fault (shape p) [] w words) && free (settle_fault (rules_of_run p) false (fold (walked (rules_of_run p) []) w words).held)
+  goes w words = free (walk_fault (shape p) [] w words) && free (settle_fault (rules_of p) false (fold (walked (rules_of p) []) w words).held)
 
   pub goes-cons : (w : Walk) (word : Text) (rest : List Text) → goes w (word ∷ rest) ≡ (turn p w word && goes (next_of p w word) rest)
   unfolding walk_fault
@@ -190,16 +190,16 @@ module _ (p : Leaf) (named : is_name p.option ≡ true) (only : (v : Text) → a
   nothing_asked rows true = refl
   nothing_asked rows false = refl
 
-  no_defaults : (rows : List Row) → free (defaults_fault rows (rules_of_run p)) ≡ true
+  no_defaults : (rows : List Row) → free (defaults_fault rows (rules_of p)) ≡ true
   unfolding defaults_fault
   no_defaults rows = simp or-true
 
   -- clap takes the words exactly where they have parts that fit
   pub takes-parts : (words : List Text) → free (fault_of (app_for p) words) ≡ fits false (parts_of p.option AnyWord words)
   takes-parts words =
-      let end = walk (rules_of_run p) [] nothing_held words in
+      let end = walk (rules_of p) [] nothing_held words in
       five (walk_fault (shape p) [] (walk_from nothing_held) words) (entered_fault (built (app_for p)) end.stopped)
-      (settle_fault (rules_of_run p) false end.held) (defaults_fault (settled (rules_of_run p) end.held).rows (rules_of_run p))
-      (check_fault (shape p) (finished (rules_of_run p) end.held) (is_some (entered (built (app_for p)) end.stopped)))
-      (no_subcommand end.stopped) (no_defaults (settled (rules_of_run p) end.held).rows) (nothing_asked (finished (rules_of_run p) end.held) (is_some (entered (built (app_for p)) end.stopped)))
+      (settle_fault (rules_of p) false end.held) (defaults_fault (settled (rules_of p) end.held).rows (rules_of p))
+      (check_fault (shape p) (finished (rules_of p) end.held) (is_some (entered (built (app_for p)) end.stopped)))
+      (no_subcommand end.stopped) (no_defaults (settled (rules_of p) end.held).rows) (nothing_asked (finished (rules_of p) end.held) (is_some (entered (built (app_for p)) end.stopped)))
       ∙ (claims words).open_words [] Nothing Idle

@@ -10,9 +10,8 @@ use Rattle.clap.specs.declared.builder.ArgAction.TheVariants.{Append}
 use Rattle.clap.specs.declared.builder.value_parser.ValueParser.{ValueParser}
 use Rattle.tz_cli.specs.Parts.{Text, Look, Positional, look_of, Parts}
 
--- a command's name, its option's name, and the parser of the option's values
+-- the option's name, and the parser of its values
 pub record Leaf : Type 0 where
-  pub name : Text
   pub option : Text
   pub parser : ValueParser
 
@@ -25,13 +24,13 @@ abbrev pub option_rule : Leaf → Rule
 option_rule leaf = record (new_rule (codes "option")) { long = Some leaf.option; parser = Some leaf.parser }
 
 -- no word is the program's name, and neither help nor version can be asked for
-abbrev pub bare_app : Leaf → App
-bare_app leaf =
-    on_top (λ t. record t { no_binary_name = true; disable_help_flag = true; disable_version_flag = true }) (new_app leaf.name)
+abbrev pub bare_app : App
+bare_app =
+    on_top (λ t. record t { no_binary_name = true; disable_help_flag = true; disable_version_flag = true }) (new_app (codes "command"))
 
 -- the whole command
 abbrev pub app_for : Leaf → App
-app_for leaf = with_rule (with_rule (bare_app leaf) words_rule) (option_rule leaf)
+app_for leaf = with_rule (with_rule bare_app words_rule) (option_rule leaf)
 
 -- one of the names
 abbrev pub is_one_of : List Text → Text → Bool

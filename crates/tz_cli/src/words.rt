@@ -114,7 +114,7 @@ fn words_behind_run<'a>(
 ) -> Result<Option<RunWords<'a>>, AllocError>
     ensures { IfOk result (λ r. option_map run_in r ≡ run_behind (map string_bytes words.now)) }
 {
-    match matches(alloc, "run", "view", VIEWS.as_slice(), words)? {
+    match matches(alloc, "view", VIEWS.as_slice(), words)? {
         Some(found) => Ok(run_found(&found)),
         None => Ok(None),
     }

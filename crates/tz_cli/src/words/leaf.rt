@@ -16,7 +16,6 @@ use std::alloc::{AllocError, Global};
 /// A command, to clap: positional words, and an option that takes one of these values.
 fn leaf<'a>(
     alloc: Global,
-    name: &'a str,
     option: &'a str,
     values: &'a [&'a str],
 ) -> Result<Command<'a>, AllocError>
@@ -24,7 +23,7 @@ fn leaf<'a>(
 {
     let words = Arg::new(alloc, "words").action(ArgAction::Append);
     let chosen = Arg::new(alloc, "option").long(option).value_parser(values);
-    Command::new(alloc, name)
+    Command::new(alloc, "command")
         .no_binary_name(true)
         .disable_help_flag(true)
         .disable_version_flag(true)
@@ -35,7 +34,6 @@ fn leaf<'a>(
 /// What clap finds in the words behind a command's name; `None` where they are refused.
 pub fn matches<'a>(
     alloc: Global,
-    name: &'a str,
     option: &'a str,
     values: &'a [&'a str],
     words: &'a [String],
@@ -45,7 +43,7 @@ pub fn matches<'a>(
     ensures { IfOk result (λ r. option_map parts_in r
         ≡ with_one (is_one_of (map (λ s. s.now) values.now)) (parts_of option.now AnyWord (map string_bytes words.now))) }
 {
-    let command = leaf(alloc, name, option, values)?;
+    let command = leaf(alloc, option, values)?;
     match command.try_get_matches_from(words) {
         Ok(found) => Ok(Some(found)),
         Err(error) => match error.kind() {

@@ -10,10 +10,10 @@ use Rattle.tz_cli.proofs.words.leaf.leaf.Goals as goal
 pub returns : goal.returns
 returns c =
     let given = c.value_parser-chosen.ensures.given in
-    let leaf : Leaf = record { name = c.args.name.now; option = c.args.option.now; parser = given.0 } in
+    let leaf : Leaf = record { option = c.args.option.now; parser = given.0 } in
     let words_is : rule_of c.action-words.result ≡ words_rule = search rules in
     let chosen_is : rule_of c.value_parser-chosen.result ≡ option_rule leaf = search rules in
-    let top : app_of c.disable_version_flag.result ≡ bare_app leaf = search rules in
+    let top : app_of c.disable_version_flag.result ≡ bare_app = search rules in
     IfOk-weaker c.arg-2.result _ _ (λ m h. record {
       leaf = leaf;
       app = h.shape (search rules) ∙ ap₂ with_rule (c.in_ok-arg.ensures.shape (search rules) ∙ ap₂ with_rule top words_is) chosen_is;
