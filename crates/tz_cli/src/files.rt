@@ -148,7 +148,10 @@ fn load_script<H: Shelf>(
     ensures later { H.faults shelf.old ≤ H.faults shelf.new }
 {
     if words.script == "@none" {
-        return Ok(Script::none(alloc));
+        return match Script::of(alloc, &[]) {
+            Ok(script) => Ok(script),
+            Err(_) => Err(Fault::Memory),
+        };
     }
     let bytes = match read(alloc, shelf, words.script, SCRIPT_LIMIT) {
         Ok(bytes) => bytes,

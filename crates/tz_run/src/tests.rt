@@ -147,7 +147,7 @@ fn worked_examples(rt: HostRuntime) -> Result<(), Fail> {
         let mut out = MemorySink::new(alloc, 1000)?;
         let answer = run(
             &mut machine,
-            &Script::none(rt.alloc()),
+            &Script::of(rt.alloc(), &[])?,
             steps,
             view,
             &mut out,
@@ -167,7 +167,7 @@ fn failing_put(rt: HostRuntime) -> Result<(), Fail> {
     let mut out = FailingSink::new(alloc, vec![in alloc; 2u64]?);
     let answer = run(
         &mut machine,
-        &Script::none(rt.alloc()),
+        &Script::of(rt.alloc(), &[])?,
         4,
         View::Ns,
         &mut out,
