@@ -1,13 +1,14 @@
 //! ELF images as they are written: a file header, a program header for each segment, and the bytes of the
 //! segments in order.
 //!
-//! A written image reads back as the addresses and bytes of the image, whatever the board.
+//! A written image reads back as the addresses and bytes of the image, whatever the board. It has no
+//! sections and no entry point: the machine starts by its vector tables.
 
-ghost use Rattle.std.specs.Prelude.{◌≡◌, ◌+◌, ◌*◌, ◌^◌, ◌<◌, ◌≤◌, ℕ, ◌++◌, length, slice_index, Ok, IfOk, OnOk};
+ghost use Rattle.std.specs.Prelude.{◌≡◌, ◌+◌, ◌*◌, ◌<◌, ◌≤◌, ◌++◌, length, Ok, IfOk, OnOk};
 ghost use Rattle.std.specs.Int.{to_le_bytes, w32};
 ghost use Rattle.tz_model.specs.Board.{most_bytes};
 ghost use Rattle.tz_model.specs.Image.{bytes_in};
-ghost use Rattle.tz_sem.specs.ElfImage.{all_bytes, elf_bytes, entries_bytes, entry_bytes, header_bytes};
+ghost use Rattle.tz_sem.specs.ElfImage.{elf_bytes, entries_bytes, entry_bytes, header_bytes};
 ghost use Rattle.tz_sem.specs.Images.{pairs_in, pairs_of};
 
 use std::alloc::{AllocError, Global};
@@ -72,7 +73,8 @@ fn write_entries(segments: &[Segment], file: &mut Vec<u8>) -> Result<(), AllocEr
     Ok(())
 }
 
-/// The ELF image of segments.
+/// The ELF image of an image: 52 bytes, 32 for each segment, and the segments' bytes. It fails only where
+/// memory does.
 pub fn write_image(alloc: Global, image: &Image) -> Result<Vec<u8>, AllocError>
     requires { length image.now.segments < 65536 }
     ensures bytes { IfOk result (λ v. v.items ≡ elf_bytes image.now.segments) }

@@ -1,7 +1,9 @@
-//! Image files: plain images and ELF32 images are read into the segments that the machine starts with.
+//! Image files: plain images and ELF32 images are read into the segments that the machine starts with, and
+//! written.
 //!
 //! A file is accepted exactly where its bytes are an image for the side and the board, and else the
-//! first refusal is told by its code and its place. Nothing is known here of what an image's code does.
+//! first refusal is told by its code and its place. What is written reads back as the same bytes at the
+//! same addresses. Nothing is known here of what an image's code does.
 #![tactic(auto)]
 
 ghost use Rattle.std.specs.Prelude.{◌≡◌, ◌^◌, ◌<◌, length, Ok, IfOk, IfErr};

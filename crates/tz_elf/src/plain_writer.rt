@@ -44,7 +44,8 @@ fn write_segment(alloc: Global, segment: &Segment, text: &mut Vec<u8>) -> Result
     Ok(())
 }
 
-/// The plain image of segments.
+/// The plain image of an image, which is empty where no segment has bytes. It fails only where memory
+/// does.
 pub fn write_plain(alloc: Global, image: &Image) -> Result<Vec<u8>, AllocError>
     ensures text { IfOk result (λ v. v.items ≡ plain_text image.now.segments) }
     ensures reads_back { IfOk result (λ v. pairs_of v.items ≡ Ok (pairs_in image.now.segments)) }

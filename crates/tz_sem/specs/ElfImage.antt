@@ -87,7 +87,7 @@ loaded file h = record { base = h.address; bytes = take h.size (drop h.offset fi
 abbrev pub earlier_header : List ℕ → SegmentValue → List SegmentValue → Option ℕ
 earlier_header numbers s before = option_map (slice_index numbers) (first_sharing 0 s before)
 
--- a program header by its index: its segment, tested, goes to what follows, behind those before it, and its index behind theirs
+-- a program header's segment, tested, goes to what follows, behind those before it, and its index behind theirs
 abbrev pub load_then : Test → List ℕ → ℕ → List ℕ → List SegmentValue → ProgramHeader → (List ℕ → List SegmentValue → Segments) → Segments
 load_then test file index numbers before h follows =
     if not (brings_bytes h) then follows numbers before
@@ -108,17 +108,18 @@ elf_segments test file =
 
 -- ---- how an image is written
 
--- the file header up to e_phnum: the magic, 32 bits, the low byte first, version 1; an executable for Arm, version 1; the table at 52, entries of 32 bytes
+-- the file header up to e_phnum: e_ident, e_type, e_machine, e_version; e_entry, e_phoff, e_shoff, e_flags, e_ehsize, e_phentsize
 abbrev pub fixed_header : List ℕ
 fixed_header =
-    (0x7F ∷ 0x45 ∷ 0x4C ∷ 0x46 ∷ 1 ∷ 1 ∷ 1 ∷ 0 ∷ []) ++ (0 ∷ 0 ∷ 0 ∷ 0 ∷ 0 ∷ 0 ∷ 0 ∷ 0 ∷ []) ++ to_le_bytes w16 2 ++ to_le_bytes w16 40 ++ to_le_bytes w32 1
+    (0x7F ∷ 0x45 ∷ 0x4C ∷ 0x46 ∷ 1 ∷ 1 ∷ 1 ∷ 0 ∷ []) ++ (0 ∷ 0 ∷ 0 ∷ 0 ∷ 0 ∷ 0 ∷ 0 ∷ 0 ∷ [])
+    ++ to_le_bytes w16 2 ++ to_le_bytes w16 40 ++ to_le_bytes w32 1
     ++ to_le_bytes w32 0 ++ to_le_bytes w32 52 ++ to_le_bytes w32 0 ++ to_le_bytes w32 0 ++ to_le_bytes w16 52 ++ to_le_bytes w16 32
 
 -- the file header for so many program headers, without section headers
 abbrev pub header_bytes : ℕ → List ℕ
 header_bytes count = fixed_header ++ (to_le_bytes w16 count ++ (0 ∷ 0 ∷ 0 ∷ 0 ∷ 0 ∷ 0 ∷ []))
 
--- the program header of so many bytes at an offset, which are put at a base: PT_LOAD, p_vaddr as p_paddr, p_memsz as p_filesz, p_flags 7, p_align 1
+-- p_type (PT_LOAD), p_offset, p_vaddr, p_paddr, p_filesz, p_memsz, p_flags (7) and p_align (1) of bytes that are put at a base
 abbrev pub entry_bytes : ℕ → ℕ → ℕ → List ℕ
 entry_bytes offset base size =
     to_le_bytes w32 1 ++ (to_le_bytes w32 offset ++ (to_le_bytes w32 base ++ (to_le_bytes w32 base
