@@ -1,12 +1,11 @@
 -- Numbers of decimal digits, one digit at a time.
 use Rattle.std.proofs.Common.{◌≡◌, ◌∙◌, add-one, ◌<◌, ◌≤◌, ◌+◌, ◌-◌, ◌*◌, ◌^◌, ℕ, zero, suc, ap, arith, true, false, List, length, drop, get_or, Some, None, nat_le}
 use Rattle.std.proofs.lemmas.Bool.{and_right, le-leb, lt-leb}
-use Rattle.std.proofs.lemmas.List.{drop_more}
+use Rattle.std.proofs.lemmas.List.{drop_all, drop_more}
 use Rattle.std.proofs.Math.Nat.{pow-succ'}
 use Rattle.std.specs.Char.{is_ascii_digit}
 use Rattle.tz_model.specs.Board.{within}
 use Rattle.tz_sem.specs.Scripts.{digits_from, number_of}
-use Rattle.tz_board.proofs.Lists.{nothing_left}
 
 pub number_of-none : (xs : List ℕ) → length xs ≡ 0 → number_of xs ≡ None
 unfolding number_of
@@ -32,7 +31,7 @@ no_digit xs i n h is = rw (drop_more xs i 0 h, is)
 
 pub all_digits : (xs : List ℕ) (i n : ℕ) → length xs ≤ i → digits_from n (drop i xs) ≡ Some n
 unfolding digits_from
-all_digits xs i n h = rw (nothing_left xs i h)
+all_digits xs i n h = rw (drop_all i xs h)
 
 pub longer : (n i d : ℕ) → n < 10 ^ i → d ≤ 9 → 10 * n + d < 10 ^ (i + 1)
 longer n i d h small = let step : 10 ^ (i + 1) ≡ 10 * 10 ^ i = ap (λ (k : ℕ). 10 ^ k) (add-one i) ∙ pow-succ' 10 i in omega arith

@@ -1,6 +1,6 @@
 -- Lists of tables, and what is read from each of them.
-use Rattle.std.proofs.Common.{◌≡◌, ◌∙◌, ◌<◌, ◌≤◌, ◌+◌, ℕ, zero, suc, refl, sym, ap, arith, List, [], ◌∷◌, ◌++◌, length, drop, get_or, append_assoc, String, Global, Option, Some, None, Ok, Err, BTreeMap, Bor}
-use Rattle.std.proofs.lemmas.List.{drop_more}
+use Rattle.std.proofs.Common.{◌≡◌, ◌∙◌, ◌<◌, ◌≤◌, ◌+◌, ℕ, refl, sym, ap, List, [], ◌∷◌, ◌++◌, length, drop, get_or, append_assoc, String, Global, Option, Some, None, Ok, Err, BTreeMap, Bor}
+use Rattle.std.proofs.lemmas.List.{append-nil, drop_all, drop_more}
 use Rattle.toml.proofs.Views.{items_view-drop}
 use Rattle.toml.specs.Data.{Members, as_table}
 use Rattle.toml.specs.View.{items_view, table_view, view}
@@ -21,16 +21,6 @@ joined xs (Some ys) = Some (xs ++ ys)
 abbrev pub after : {A : Type 0} → List A → Read (List A) → Read (List A)
 after xs (Ok ys) = Ok (xs ++ ys)
 after xs (Err e) = Err e
-
-append-none : {A : Type 0} → (xs : List A) → xs ++ [] ≡ xs
-append-none [] = refl
-append-none (x ∷ xs) = ap (λ ys. x ∷ ys) (append-none xs)
-
-pub nothing_left : {A : Type 0} → (xs : List A) (i : ℕ) → length xs ≤ i → drop i xs ≡ []
-nothing_left [] zero h = refl
-nothing_left [] (suc i) h = refl
-nothing_left (x ∷ xs) zero h = absurd (omega arith)
-nothing_left (x ∷ xs) (suc i) h = nothing_left xs i (omega arith)
 
 pub views-last : (ts : List TableRef) (t : TableRef) → views (ts ++ t ∷ []) ≡ views ts ++ table_view t.now ∷ []
 views-last [] t = refl
@@ -58,7 +48,7 @@ no_table vs i v xs h at is =
 
 pub all_tables : (vs : List Value) (i : ℕ) (xs : List Members) → length vs ≤ i → joined xs (tables_of (items_view (drop i vs))) ≡ Some xs
 unfolding tables_of
-all_tables vs i xs h = rw (nothing_left vs i h) (ap Some (append-none xs))
+all_tables vs i xs h = rw (drop_all i vs h) (ap Some (append-nil xs))
 
 after-one : {A : Type 0} → (xs : List A) (x : A) (rest : Read (List A)) → after xs (rest >>= (λ ys. Ok (x ∷ ys))) ≡ after (xs ++ x ∷ []) rest
 after-one xs x (Ok ys) = ap Ok (sym (append_assoc xs (x ∷ []) ys))
@@ -88,4 +78,4 @@ read_stops e read ts i t xs h at is = told_stops (refusal_of e) read ts i t xs h
 
 pub all_read : {A : Type 0} → (read : ℕ → Members → Read A) (ts : List TableRef) (i : ℕ) (xs : List A) → length ts ≤ i → after xs (each read i (views (drop i ts))) ≡ Ok xs
 unfolding each
-all_read read ts i xs h = rw (nothing_left ts i h) (ap Ok (append-none xs))
+all_read read ts i xs h = rw (drop_all i ts h) (ap Ok (append-nil xs))

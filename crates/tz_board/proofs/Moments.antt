@@ -1,7 +1,7 @@
 -- Scripts as they are kept: what is due, and one more event.
 use Rattle.std.proofs.Common.{◌≡◌, ◌∙◌, ◌<◌, ◌≤◌, ℕ, zero, suc, refl, ap, arith, nat_lt, List, [], ◌∷◌, ◌++◌, length, get_or, map, IsTrue}
 use Rattle.std.proofs.lemmas.Bool.{and_parts, eq-eqb, ltb-true, ne_eqb}
-use Rattle.std.proofs.lemmas.List.{length-append, length-map}
+use Rattle.std.proofs.lemmas.List.{append-nil, length-append, length-map}
 use Rattle.tz_model.specs.declared.report.ScriptEvent.{ScriptEvent}
 use Rattle.tz_sem.specs.Scripts.{Timed, due_at}
 use Rattle.tz_board.specs.Script.{all_timed, ascend, have_events, is_below_all, steps_of, timed_of}
@@ -26,10 +26,6 @@ due_at-none step [] h = refl
 due_at-none step (m ∷ ms) h =
     due_at-other step m.step m.events.items (all_timed ms) (h 0 (omega arith)) ∙ due_at-none step ms (λ k lt. h (suc k) (omega arith))
 
-append-none : {A : Type 0} → (xs : List A) → xs ++ [] ≡ xs
-append-none [] = refl
-append-none (x ∷ xs) = ap (λ ys. x ∷ ys) (append-none xs)
-
 -- the moment that has the step
 pub due_at-found : (step : ℕ) (ms : List Moment) (i : ℕ) (d : Moment) → IsTrue (ascend (steps_of ms)) → i < length ms → get_or (steps_of ms) i 0 ≡ step → due_at step (all_timed ms) ≡ (get_or ms i d).events.items
 due_at-found step [] i d up lt h = absurd (omega arith)
@@ -37,7 +33,7 @@ due_at-found step (m ∷ ms) zero d up lt h =
     let above = (and_parts (is_below_all m.step (steps_of ms)) (ascend (steps_of ms)) up).0 in
     let none : due_at step (all_timed ms) ≡ [] =
     due_at-none step ms (λ k within is. let later : m.step < get_or (steps_of ms) k 0 = below_all-at m.step (steps_of ms) k above (omega (arith, length-steps_of ms)) in omega arith) in
-    due_at-same step m.step m.events.items (all_timed ms) h ∙ rw none (append-none m.events.items)
+    due_at-same step m.step m.events.items (all_timed ms) h ∙ rw none (append-nil m.events.items)
 due_at-found step (m ∷ ms) (suc i) d up lt h =
     let parts = and_parts (is_below_all m.step (steps_of ms)) (ascend (steps_of ms)) up in
     let later : m.step < get_or (steps_of ms) i 0 = below_all-at m.step (steps_of ms) i parts.0 (omega (arith, length-steps_of ms)) in

@@ -1,7 +1,7 @@
 -- One more event at the end of a script.
 use Rattle.std.proofs.Common.{◌≡◌, ◌∙◌, ◌<◌, ◌≤◌, ℕ, zero, suc, refl, sym, ap, arith, true, nat_le, nat_lt, List, [], ◌∷◌, ◌++◌, append_assoc, length, map, get_or, take, ◌-◌, IsTrue}
 use Rattle.std.proofs.lemmas.Bool.{and_from, and_parts, le-leb, leb-true, lt-ltb, ltb-true}
-use Rattle.std.proofs.lemmas.List.{length_push, nil_from_length, take_more}
+use Rattle.std.proofs.lemmas.List.{append-nil, length_push, nil_from_length, take_more}
 use Rattle.std.proofs.Math.Seq.{take-length}
 use Rattle.tz_model.specs.declared.report.ScriptEvent.{ScriptEvent}
 use Rattle.tz_sem.specs.Scripts.{Timed, follow, last_step, most_events}
@@ -12,12 +12,8 @@ steps_of-last : (ms : List Moment) (m : Moment) → steps_of (ms ++ m ∷ []) �
 steps_of-last [] m = refl
 steps_of-last (x ∷ ms) m = ap (λ (ss : List ℕ). x.step ∷ ss) (steps_of-last ms m)
 
-append-none : {A : Type 0} → (xs : List A) → xs ++ [] ≡ xs
-append-none [] = refl
-append-none (x ∷ xs) = ap (λ ys. x ∷ ys) (append-none xs)
-
 all_timed-last : (ms : List Moment) (m : Moment) → all_timed (ms ++ m ∷ []) ≡ all_timed ms ++ timed_of m
-all_timed-last [] m = append-none (timed_of m)
+all_timed-last [] m = append-nil (timed_of m)
 all_timed-last (x ∷ ms) m = ap (λ (ts : List Timed). timed_of x ++ ts) (all_timed-last ms m) ∙ sym (append_assoc (timed_of x) (all_timed ms) (timed_of m))
 
 have_events-last : (ms : List Moment) (m : Moment) → IsTrue (have_events (ms ++ m ∷ [])) → IsTrue (have_events ms) × (0 < length m.events.items)
@@ -89,7 +85,7 @@ opens_new old ms last m step is kept order other step_is none =
     let same : steps_of old ≡ steps_of ms ++ last.step ∷ [] = ap steps_of is ∙ steps_of-last ms last in
     record {
       step_is = step_is;
-      events = rw none (sym (append-none (all_timed old)));
+      events = rw none (sym (append-nil (all_timed old)));
       ascending = rw same (ascend-push (steps_of ms) last.step step (rw same at kept.ascending) (omega arith));
       some_events = kept.some_events;
     }

@@ -1,13 +1,12 @@
 -- The first overlap of a list of regions, step by step, and what it means that there is none.
 use Rattle.std.proofs.Common.{◌≡◌, ◌<◌, ◌≤◌, ◌+◌, ℕ, refl, ap, arith, Bool, true, false, ◌&&◌, if◌then◌else◌, List, [], ◌∷◌, ◌++◌, length, drop, take, get_or, Option, Some, None}
 use Rattle.std.proofs.lemmas.Bool.{and_from, and_parts}
-use Rattle.std.proofs.lemmas.List.{drop_more, length-take-le, take_more}
+use Rattle.std.proofs.lemmas.List.{drop_all, drop_more, length-take-le, take_more}
 use Rattle.tz_model.specs.Board.{apart_from, are_apart, is_apart}
 use Rattle.tz_model.specs.declared.board.Region.{Region}
 use Rattle.tz_model.specs.declared.board.RegionKind.TheVariants.{Rom}
 use Rattle.tz_model.specs.declared.board.RegionSide.TheVariants.{Secure}
 use Rattle.tz_board.specs.Boards.{first_overlap, first_shared, shared_first}
-use Rattle.tz_board.proofs.Lists.{nothing_left}
 
 -- what an index past a list of regions gives
 abbrev pub no_region : Region
@@ -23,7 +22,7 @@ shares_later rs i r h is = rw (drop_more rs i no_region h, is)
 
 pub shares_none : (rs : List Region) (i : ℕ) (r : Region) → length rs ≤ i → first_shared i (drop i rs) r ≡ None
 unfolding first_shared
-shares_none rs i r h = rw (nothing_left rs i h)
+shares_none rs i r h = rw (drop_all i rs h)
 
 length-take_within : (rs : List Region) (j : ℕ) → j < length rs → length (take j rs) ≡ j
 length-take_within rs j h = length-take-le j rs (omega arith)
@@ -38,7 +37,7 @@ overlaps_later rs j h is = rw (drop_more rs j no_region h, is, take_more rs j no
 
 pub overlaps_none : (rs : List Region) (j : ℕ) → length rs ≤ j → first_overlap (take j rs) (drop j rs) ≡ None
 unfolding first_overlap
-overlaps_none rs j h = rw (nothing_left rs j h)
+overlaps_none rs j h = rw (drop_all j rs h)
 
 -- a region that shares no byte with any of some regions
 apart_of_all : List Region → Region → Bool

@@ -10,6 +10,7 @@ use Rattle.tz_board.specs.declared.error.Place.TheVariants as places
 use Rattle.tz_board.specs.declared.error.BoardError.{BoardError}
 use Rattle.tz_board.specs.declared.error.BoardError.TheVariants as errors
 
+-- a key as the grammar has it
 abbrev pub key_of : Key → FileKey
 key_of keys.SecureVtor = SecureVtor
 key_of keys.NonsecureVtor = NonsecureVtor
@@ -27,6 +28,7 @@ key_of keys.Sau = Sau
 key_of keys.Limit = Limit
 key_of keys.Nsc = Nsc
 
+-- a place as the grammar has it
 abbrev pub place_of : Place → FilePlace
 place_of (places.Top key) = Top (key_of key)
 place_of (places.Region index key) = InRegion index (key_of key)
@@ -42,6 +44,7 @@ refusal_of (errors.Overlap i j) = Some (Overlap i j)
 refusal_of errors.TooMany = Some TooMany
 refusal_of errors.Memory = None
 
+-- what was read is this refusal, where there is one
 abbrev pub IsTold : {A : Type 0} → Option BoardRefusal → Read A → Type 0
 IsTold None read = Unit {0}
 IsTold (Some refusal) read = read ≡ Err refusal

@@ -43,6 +43,7 @@ pub data Place : Type 0 where
   InRegion : ℕ → Key → Place
   InSau : ℕ → Key → Place
 
+-- the key of a place
 abbrev pub key_at : Place → Key
 key_at (Top key) = key
 key_at (InRegion index key) = key
@@ -110,6 +111,7 @@ abbrev pub kind_named : Place → List ℕ → Read RegionKind
 kind_named place text = if bytes_eq text (codes "rom") then Ok Rom
     else if bytes_eq text (codes "ram") then Ok Ram else Err (Range place)
 
+-- what a region takes, at a key
 abbrev pub kind_at : Place → Members → Read RegionKind
 kind_at place ms = text_at place ms >>= kind_named place
 
@@ -119,6 +121,7 @@ side_named place text = if bytes_eq text (codes "secure") then Ok sides.Secure
     else if bytes_eq text (codes "nsc") then Ok sides.Nsc
     else if bytes_eq text (codes "nonsecure") then Ok sides.NonSecure else Err (Range place)
 
+-- how a region is attributed, at a key
 abbrev pub side_at : Place → Members → Read RegionSide
 side_at place ms = text_at place ms >>= side_named place
 
@@ -132,6 +135,7 @@ abbrev pub profile_in : Place → Option Data → Read ProfileValue
 profile_in place None = Ok V80
 profile_in place (Some d) = of_kind place (as_str d) >>= profile_named place
 
+-- the profile at a key, which may be absent
 abbrev pub profile_at : Place → Members → Read ProfileValue
 profile_at place ms = profile_in place (found_at place ms)
 
@@ -156,6 +160,7 @@ sau_region_in index ms = do
   nsc ← flag_at (InSau index Nsc) ms
   Ok (record { base = base; limit = limit; nsc = nsc })
 
+-- a table in front of others
 abbrev pub with_table : Option Members → Option (List Members) → Option (List Members)
 with_table None tables = None
 with_table (Some table) None = None
@@ -192,6 +197,7 @@ regions_listed d = do
   tables ← some_table tables
   each region_in 0 tables
 
+-- the regions of a board file
 abbrev pub regions_at : Members → Read (List RegionValue)
 regions_at ms = required (Top Region) (found_at (Top Region) ms) >>= regions_listed
 
@@ -204,6 +210,7 @@ abbrev pub sau_in : Option Data → Read (List SauRegion)
 sau_in None = Ok []
 sau_in (Some d) = sau_listed d
 
+-- the SAU regions of a board file
 abbrev pub sau_at : Members → Read (List SauRegion)
 sau_at ms = sau_in (found_at (Top Sau) ms)
 
@@ -212,6 +219,7 @@ unfoldable pub first_shared : ℕ → List RegionValue → RegionValue → Optio
 first_shared index [] r = None
 first_shared index (q ∷ more) r = if is_apart q r then first_shared (index + 1) more r else Some index
 
+-- a region that shares a byte with an earlier one, before those of later regions
 abbrev pub shared_first : Option ℕ → ℕ → Option (ℕ × ℕ) → Option (ℕ × ℕ)
 shared_first (Some i) j later = Some (i, j)
 shared_first None j later = later
@@ -226,6 +234,7 @@ first_overlap earlier (r ∷ more) =
 abbrev pub is_small : BoardValue → Bool
 is_small b = nat_le (length b.regions) 32 && (nat_le (length b.sau) b.sau_regions && nat_le (bytes_of b.regions) most_bytes)
 
+-- the board, unless there is an overlap
 abbrev pub without_overlap : Option (ℕ × ℕ) → BoardValue → Read BoardValue
 without_overlap None b = Ok b
 without_overlap (Some pair) b = Err (Overlap pair.0 pair.1)
@@ -243,6 +252,7 @@ pub record Numbers : Type 0 where
   pub mpu_secure : ℕ
   pub mpu_nonsecure : ℕ
 
+-- the numbers in their order, each with its range
 abbrev pub numbers_at : Members → Read Numbers
 numbers_at ms = do
   secure_vtor ← number_at (Top SecureVtor) 0 0xFFFFFFFF 128 ms
@@ -260,6 +270,7 @@ numbers_at ms = do
     mpu_nonsecure = mpu_nonsecure;
   })
 
+-- the board of its parts
 abbrev pub board_with : Numbers → ProfileValue → List RegionValue → List SauRegion → BoardValue
 board_with n profile regions sau = record {
   secure_vtor = n.secure_vtor;
@@ -286,6 +297,7 @@ board_in ms = do
 unfoldable pub document_of : List ℕ → Option Members
 document_of bytes = if is_utf8 bytes then parse_document bytes else None
 
+-- a document, which there has to be
 abbrev pub documented : Option Members → Read Members
 documented None = Err NotToml
 documented (Some ms) = Ok ms

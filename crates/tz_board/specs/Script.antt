@@ -3,6 +3,7 @@ use Rattle.std.specs.Prelude.{◌≡◌, ℕ, nat_lt, Bool, true, ◌&&◌, List
 use Rattle.tz_sem.specs.Scripts.{IsScript, Timed}
 use Rattle.tz_board.specs.declared.script.Moment.{Moment}
 
+-- the steps of some moments
 abbrev pub steps_of : List Moment → List ℕ
 steps_of moments = map (λ m. m.step) moments
 
@@ -15,6 +16,7 @@ abbrev pub all_timed : List Moment → List Timed
 all_timed [] = []
 all_timed (m ∷ more) = timed_of m ++ all_timed more
 
+-- a step is below some others
 abbrev pub is_below_all : ℕ → List ℕ → Bool
 is_below_all step [] = true
 is_below_all step (s ∷ more) = nat_lt step s && is_below_all step more

@@ -29,6 +29,7 @@ script_refusal_of (errors.NoSuchInterrupt number) = Some (NoSuchInterrupt number
 script_refusal_of errors.TooMany = Some TooMany
 script_refusal_of errors.Memory = None
 
+-- what was read is this refusal, where there is one
 abbrev pub IsToldScript : Option ScriptRefusal → Read → Type 0
 IsToldScript None read = Unit {0}
 IsToldScript (Some refusal) read = read ≡ Err refusal

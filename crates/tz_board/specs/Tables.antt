@@ -7,5 +7,6 @@ use Rattle.toml.specs.Data.{Members}
 use Rattle.toml.specs.View.{table_view}
 use Rattle.toml.specs.declared.value.Value.{Value}
 
+-- the members of some tables
 abbrev pub views : List (Bor (BTreeMap (String Global) Value)) → List Members
 views tables = map (λ t. table_view t.now) tables

@@ -42,6 +42,7 @@ without_returns (b ∷ []) = b ∷ []
 without_returns (b ∷ c ∷ more) =
     if (b == 13) && (c == 10) then without_returns (c ∷ more) else b ∷ without_returns (c ∷ more)
 
+-- a byte at the front of the first piece
 abbrev pub before_first : ℕ → List (List ℕ) → List (List ℕ)
 before_first b [] = (b ∷ []) ∷ []
 before_first b (piece ∷ more) = (b ∷ piece) ∷ more
@@ -87,6 +88,7 @@ pub data Line : Type 0 where
   Event : Timed → Line
   Bad : Line
 
+-- a step and an event, where both can be read
 abbrev pub timed : Option ℕ → Option ScriptEvent → Line
 timed None event = Bad
 timed (Some step) None = Bad
@@ -135,6 +137,7 @@ with_line interrupts number events Passed = Ok events
 with_line interrupts number events Bad = Err (BadLine number)
 with_line interrupts number events (Event t) = with_event interrupts number events t
 
+-- one reading after another; the first refusal is the refusal of both
 infixl 10 ◌>>=◌
 abbrev pub ◌>>=◌ : Read → (List Timed → Read) → Read
 Ok events >>= f = f events
