@@ -12,13 +12,16 @@ mod outside;
 mod report;
 mod shelf_double;
 mod sink_double;
+#[cfg(test)]
+mod tests;
 
 pub use board::{Board, Profile, Region, RegionKind, RegionSide, SauRegion};
 pub use fetch::{FetchAnswer, Fetched};
 pub use image::{Image, Segment};
 pub use outside::{Shelf, ShelfError, Sink, SinkError};
 pub use report::{
-    Before, Change, CrossKind, Fault, Outcome, Report, ScriptEvent, Slot, StepKind, Store, View, Way,
+    Before, Change, CrossKind, Fault, Outcome, Report, ScriptEvent, Slot, StepKind, Store, View,
+    Way,
 };
 pub use shelf_double::{FailingShelf, File, MemoryShelf};
 pub use sink_double::{FailingSink, MemorySink};
