@@ -23,7 +23,8 @@ pub struct MemoryShelf {
 impl MemoryShelf {
     /// A shelf of these files. Of two files of one name it shows the first.
     pub fn new(files: Vec<File>) -> Self
-        ensures { result.files.items ≡ files.items }
+        ensures files { result.files.items ≡ files.items }
+        ensures faults { result.faults ≡ 0 }
     {
         MemoryShelf { files, faults: 0 }
     }
@@ -90,7 +91,10 @@ pub struct FailingShelf {
 impl FailingShelf {
     /// A shelf of these files that fails at these calls.
     pub fn new(files: Vec<File>, failing: Vec<u64>) -> Self
-        ensures { result.files.items ≡ files.items }
+        ensures files { result.files.items ≡ files.items }
+        ensures failing { result.failing.items ≡ failing.items }
+        ensures calls { result.calls ≡ 0 }
+        ensures faults { result.faults ≡ 0 }
     {
         FailingShelf {
             files,

@@ -17,7 +17,9 @@ pub struct MemorySink {
 impl MemorySink {
     /// An empty sink with this space.
     pub fn new(alloc: Global, space: usize) -> Result<Self, AllocError>
-        ensures { IfOk result (λ s. s.bytes.items ≡ []) }
+        ensures bytes { IfOk result (λ s. s.bytes.items ≡ []) }
+        ensures space { IfOk result (λ s. s.space ≡ space) }
+        ensures faults { IfOk result (λ s. s.faults ≡ 0) }
     {
         let bytes = Vec::with_capacity(alloc, space)?;
         Ok(MemorySink {
@@ -74,7 +76,10 @@ pub struct FailingSink {
 impl FailingSink {
     /// An empty sink that fails at these calls.
     pub fn new(alloc: Global, failing: Vec<u64>) -> Self
-        ensures { result.bytes.items ≡ [] }
+        ensures bytes { result.bytes.items ≡ [] }
+        ensures failing { result.failing.items ≡ failing.items }
+        ensures calls { result.calls ≡ 0 }
+        ensures faults { result.faults ≡ 0 }
     {
         FailingSink {
             bytes: Vec::new(alloc),
