@@ -4,9 +4,11 @@
 //! Nothing here runs an instruction; it only names them.
 #![tactic(auto)]
 
+mod decoded;
 mod instruction;
 mod units;
 
+pub use decoded::Decoded;
 pub use instruction::{
     Address, BarrierOp, DataOp, ExtendOp, FieldOp, Flags, Insn, LongOp, MultiplyOp, ReverseOp,
 };

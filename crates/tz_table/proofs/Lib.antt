@@ -1,0 +1,4 @@
+pub mod Reduction
+pub mod Cubes
+pub mod Scans
+pub mod Apart
