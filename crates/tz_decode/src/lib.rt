@@ -1,0 +1,5 @@
+//! temp
+#![tactic(auto)]
+pub mod fields;
+pub mod limits;
+pub mod narrow;
