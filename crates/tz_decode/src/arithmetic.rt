@@ -68,7 +68,13 @@ fn shifts_and_extensions(first: u16, second: u16) -> Decoded
         let flags = flags(field(first, 4, 1));
         wide_if(
             plain3(rd, rn, rm),
-            Insn::ShiftReg { kind, flags, rd, rn, rm },
+            Insn::ShiftReg {
+                kind,
+                flags,
+                rd,
+                rn,
+                rm,
+            },
         )
     }
 }
@@ -168,13 +174,43 @@ fn multiplications(first: u16, second: u16) -> Decoded
     }
     if field(second, 4, 1) != 0 {
         let op = MultiplyOp::Mls;
-        wide_if(plain4(rd, rn, rm, ra), Insn::Multiply { op, flags, rd, rn, rm, ra })
+        wide_if(
+            plain4(rd, rn, rm, ra),
+            Insn::Multiply {
+                op,
+                flags,
+                rd,
+                rn,
+                rm,
+                ra,
+            },
+        )
     } else if ra == 15 {
         let op = MultiplyOp::Mul;
-        wide_if(plain3(rd, rn, rm), Insn::Multiply { op, flags, rd, rn, rm, ra: 0 })
+        wide_if(
+            plain3(rd, rn, rm),
+            Insn::Multiply {
+                op,
+                flags,
+                rd,
+                rn,
+                rm,
+                ra: 0,
+            },
+        )
     } else {
         let op = MultiplyOp::Mla;
-        wide_if(plain4(rd, rn, rm, ra), Insn::Multiply { op, flags, rd, rn, rm, ra })
+        wide_if(
+            plain4(rd, rn, rm, ra),
+            Insn::Multiply {
+                op,
+                flags,
+                rd,
+                rn,
+                rm,
+                ra,
+            },
+        )
     }
 }
 
@@ -226,8 +262,24 @@ fn divisions(first: u16, second: u16) -> Decoded
         return undefined();
     }
     match field(first, 5, 2) {
-        0 => wide_if(allowed, Insn::Divide { signed: true, rd, rn, rm }),
-        1 => wide_if(allowed, Insn::Divide { signed: false, rd, rn, rm }),
+        0 => wide_if(
+            allowed,
+            Insn::Divide {
+                signed: true,
+                rd,
+                rn,
+                rm,
+            },
+        ),
+        1 => wide_if(
+            allowed,
+            Insn::Divide {
+                signed: false,
+                rd,
+                rn,
+                rm,
+            },
+        ),
         _ => undefined(),
     }
 }

@@ -109,9 +109,18 @@ fn barriers(first: u16, second: u16) -> Decoded
     }
     match field(second, 4, 4) {
         2 => clear_exclusive(first, second),
-        4 => always(Insn::Barrier { op: BarrierOp::Dsb, option }),
-        5 => always(Insn::Barrier { op: BarrierOp::Dmb, option }),
-        6 => always(Insn::Barrier { op: BarrierOp::Isb, option }),
+        4 => always(Insn::Barrier {
+            op: BarrierOp::Dsb,
+            option,
+        }),
+        5 => always(Insn::Barrier {
+            op: BarrierOp::Dmb,
+            option,
+        }),
+        6 => always(Insn::Barrier {
+            op: BarrierOp::Isb,
+            option,
+        }),
         _ => undefined(),
     }
 }
@@ -125,7 +134,10 @@ fn clear_exclusive(first: u16, second: u16) -> Decoded
     if field(second, 0, 4) != 15 {
         undefined()
     } else {
-        always(Insn::Barrier { op: BarrierOp::Clrex, option: 15 })
+        always(Insn::Barrier {
+            op: BarrierOp::Clrex,
+            option: 15,
+        })
     }
 }
 

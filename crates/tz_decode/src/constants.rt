@@ -12,7 +12,7 @@ ghost use Rattle.tz_table.specs.declared.Flags.TheVariants as flags;
 ghost use Rattle.tz_table.specs.declared.Insn.TheVariants as insns;
 ghost use Rattle.tz_table.specs.declared.Width.TheVariants.{Wide};
 
-use crate::fields::{field, flags, imm12, imm5, wide_if};
+use crate::fields::{field, flags, imm5, imm12, wide_if};
 use crate::limits::{
     can_add, can_add_constant, can_clear, can_compare, can_extract, can_insert, can_saturate,
     can_set, can_set_from, plain,
@@ -46,7 +46,10 @@ fn of_two(op: DataOp, first: u16, second: u16) -> Decoded
     let rd = field(second, 8, 4);
     let rn = field(first, 0, 4);
     let imm12 = imm12(first, second);
-    wide_if(can_set_from(rd, rn, imm12), constant(op, first, rd, rn, imm12))
+    wide_if(
+        can_set_from(rd, rn, imm12),
+        constant(op, first, rd, rn, imm12),
+    )
 }
 
 /// A sum or a difference, which may be of SP.
@@ -56,7 +59,10 @@ fn sum(op: DataOp, first: u16, second: u16) -> Decoded
     let rd = field(second, 8, 4);
     let rn = field(first, 0, 4);
     let imm12 = imm12(first, second);
-    wide_if(can_add_constant(rd, rn, imm12), constant(op, first, rd, rn, imm12))
+    wide_if(
+        can_add_constant(rd, rn, imm12),
+        constant(op, first, rd, rn, imm12),
+    )
 }
 
 /// A move of a constant.
@@ -75,7 +81,16 @@ fn tested(op: DataOp, first: u16, second: u16) -> Decoded
     let rn = field(first, 0, 4);
     let imm12 = imm12(first, second);
     let flags = Flags::Always;
-    wide_if(can_set(rn, imm12), Insn::DataImm { op, flags, rd: 0, rn, imm12 })
+    wide_if(
+        can_set(rn, imm12),
+        Insn::DataImm {
+            op,
+            flags,
+            rd: 0,
+            rn,
+            imm12,
+        },
+    )
 }
 
 /// A comparison of a register, which may be SP.
@@ -85,7 +100,16 @@ fn compared(op: DataOp, first: u16, second: u16) -> Decoded
     let rn = field(first, 0, 4);
     let imm12 = imm12(first, second);
     let flags = Flags::Always;
-    wide_if(can_compare(rn, imm12), Insn::DataImm { op, flags, rd: 0, rn, imm12 })
+    wide_if(
+        can_compare(rn, imm12),
+        Insn::DataImm {
+            op,
+            flags,
+            rd: 0,
+            rn,
+            imm12,
+        },
+    )
 }
 
 /// The codes 11110.0 with 0 in the second halfword.
@@ -224,9 +248,23 @@ fn add_wide(first: u16, second: u16) -> Decoded
     let rn = field(first, 0, 4);
     let imm = imm12(first, second);
     if rn == 15 {
-        wide_if(plain(rd), Insn::Adr { rd, offset: i32::from(imm) })
+        wide_if(
+            plain(rd),
+            Insn::Adr {
+                rd,
+                offset: i32::from(imm),
+            },
+        )
     } else {
-        wide_if(can_add(rd, rn), Insn::AddWide { sub: false, rd, rn, imm })
+        wide_if(
+            can_add(rd, rn),
+            Insn::AddWide {
+                sub: false,
+                rd,
+                rn,
+                imm,
+            },
+        )
     }
 }
 
@@ -258,7 +296,15 @@ fn subtract_wide(first: u16, second: u16) -> Decoded
     if rn == 15 {
         adr_before(first, second)
     } else {
-        wide_if(can_add(rd, rn), Insn::AddWide { sub: true, rd, rn, imm })
+        wide_if(
+            can_add(rd, rn),
+            Insn::AddWide {
+                sub: true,
+                rd,
+                rn,
+                imm,
+            },
+        )
     }
 }
 
@@ -314,7 +360,14 @@ fn saturate(signed: bool, first: u16, second: u16) -> Decoded
     let bits = if signed { number + 1 } else { number };
     wide_if(
         can_saturate(rd, rn, bit, amount),
-        Insn::Saturate { signed, rd, rn, bits, asr, amount },
+        Insn::Saturate {
+            signed,
+            rd,
+            rn,
+            bits,
+            asr,
+            amount,
+        },
     )
 }
 
@@ -329,7 +382,13 @@ fn extract(op: FieldOp, first: u16, second: u16) -> Decoded
     let width = less_one + 1;
     wide_if(
         can_extract(rd, rn, low, less_one),
-        Insn::BitField { op, rd, rn, low, width },
+        Insn::BitField {
+            op,
+            rd,
+            rn,
+            low,
+            width,
+        },
     )
 }
 
@@ -354,9 +413,27 @@ fn insert(first: u16, second: u16) -> Decoded
     let width = width_between(low, high);
     if rn == 15 {
         let op = FieldOp::Bfc;
-        wide_if(can_clear(rd, low, high), Insn::BitField { op, rd, rn: 0, low, width })
+        wide_if(
+            can_clear(rd, low, high),
+            Insn::BitField {
+                op,
+                rd,
+                rn: 0,
+                low,
+                width,
+            },
+        )
     } else {
         let op = FieldOp::Bfi;
-        wide_if(can_insert(rd, rn, low, high), Insn::BitField { op, rd, rn, low, width })
+        wide_if(
+            can_insert(rd, rn, low, high),
+            Insn::BitField {
+                op,
+                rd,
+                rn,
+                low,
+                width,
+            },
+        )
     }
 }

@@ -58,7 +58,11 @@ pub fn high_register(first: u16) -> u8
 pub fn flags(bit: u8) -> Flags
     ensures { result ≡ flags_of bit }
 {
-    if bit == 1 { Flags::Always } else { Flags::Never }
+    if bit == 1 {
+        Flags::Always
+    } else {
+        Flags::Never
+    }
 }
 
 /// One of the four shifts.

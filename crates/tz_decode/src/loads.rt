@@ -14,8 +14,8 @@ ghost use Rattle.tz_table.specs.declared.Width.TheVariants.{Wide};
 
 use crate::fields::{field, indexed, long_field, plus_or_minus, size, wide_if};
 use crate::limits::{
-    can_load, can_load_back, can_load_index, can_store, can_store_back, can_store_index, is_preload,
-    is_signed_word, plain,
+    can_load, can_load_back, can_load_index, can_store, can_store_back, can_store_index,
+    is_preload, is_signed_word, plain,
 };
 use tz_table::{Address, Decoded, Insn, Width};
 
@@ -56,7 +56,10 @@ fn imm12_address(first: u16, second: u16) -> Address
     ensures { result ≡ addresses.Offset (bits first 0 4) (pos (bits second 0 12)) }
 {
     let offset = i32::from(long_field(second, 0, 12));
-    Address::Offset { rn: field(first, 0, 4), offset }
+    Address::Offset {
+        rn: field(first, 0, 4),
+        offset,
+    }
 }
 
 /// A base minus eight bits.
@@ -64,7 +67,10 @@ fn negative_address(first: u16, second: u16) -> Address
     ensures { result ≡ addresses.Offset (bits first 0 4) (neg_ℤ (pos (bits second 0 8))) }
 {
     let offset = -i32::from(field(second, 0, 8));
-    Address::Offset { rn: field(first, 0, 4), offset }
+    Address::Offset {
+        rn: field(first, 0, 4),
+        offset,
+    }
 }
 
 /// A base plus eight bits.
@@ -72,7 +78,10 @@ fn user_address(first: u16, second: u16) -> Address
     ensures { result ≡ addresses.Offset (bits first 0 4) (pos (bits second 0 8)) }
 {
     let offset = i32::from(field(second, 0, 8));
-    Address::Offset { rn: field(first, 0, 4), offset }
+    Address::Offset {
+        rn: field(first, 0, 4),
+        offset,
+    }
 }
 
 /// A base that is written back.
@@ -100,7 +109,9 @@ fn literal_address(first: u16, second: u16) -> Address
     ensures { result ≡ addresses.Literal (plus_or_minus_of (bits first 7 1) (bits second 0 12)) }
 {
     let distance = long_field(second, 0, 12);
-    Address::Literal { offset: plus_or_minus(field(first, 7, 1), distance) }
+    Address::Literal {
+        offset: plus_or_minus(field(first, 7, 1), distance),
+    }
 }
 
 /// The codes 1111100.

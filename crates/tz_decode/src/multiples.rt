@@ -71,11 +71,27 @@ fn several(first: u16, second: u16) -> Decoded
     if field(second, 13, 1) != 0 {
         undefined()
     } else if field(first, 4, 1) == 1 {
-        wide_if(allowed, Insn::LoadMany { rn, list, down, back })
+        wide_if(
+            allowed,
+            Insn::LoadMany {
+                rn,
+                list,
+                down,
+                back,
+            },
+        )
     } else if field(second, 15, 1) != 0 {
         undefined()
     } else {
-        wide_if(allowed, Insn::StoreMany { rn, list, down, back })
+        wide_if(
+            allowed,
+            Insn::StoreMany {
+                rn,
+                list,
+                down,
+                back,
+            },
+        )
     }
 }
 
@@ -92,11 +108,27 @@ fn several_down(first: u16, second: u16) -> Decoded
     if field(second, 13, 1) != 0 {
         undefined()
     } else if field(first, 4, 1) == 1 {
-        wide_if(allowed, Insn::LoadMany { rn, list, down, back })
+        wide_if(
+            allowed,
+            Insn::LoadMany {
+                rn,
+                list,
+                down,
+                back,
+            },
+        )
     } else if field(second, 15, 1) != 0 {
         undefined()
     } else {
-        wide_if(allowed, Insn::StoreMany { rn, list, down, back })
+        wide_if(
+            allowed,
+            Insn::StoreMany {
+                rn,
+                list,
+                down,
+                back,
+            },
+        )
     }
 }
 

@@ -436,7 +436,12 @@ fn extensions(first: u16, second: u16) -> Decoded
         2 => ExtendOp::Uxth,
         _ => ExtendOp::Uxtb,
     };
-    always(Insn::Extend { op, rd, rm, rotate: 0 })
+    always(Insn::Extend {
+        op,
+        rd,
+        rm,
+        rotate: 0,
+    })
 }
 
 /// The codes 1011010.
@@ -506,10 +511,22 @@ fn reversals(first: u16, second: u16) -> Decoded
     let rd = field(first, 0, 3);
     let rm = field(first, 3, 3);
     match field(first, 6, 2) {
-        0 => always(Insn::Reverse { op: ReverseOp::Rev, rd, rm }),
-        1 => always(Insn::Reverse { op: ReverseOp::Rev16, rd, rm }),
+        0 => always(Insn::Reverse {
+            op: ReverseOp::Rev,
+            rd,
+            rm,
+        }),
+        1 => always(Insn::Reverse {
+            op: ReverseOp::Rev16,
+            rd,
+            rm,
+        }),
         2 => Decoded::Undefined(Width::Narrow),
-        _ => always(Insn::Reverse { op: ReverseOp::Revsh, rd, rm }),
+        _ => always(Insn::Reverse {
+            op: ReverseOp::Revsh,
+            rd,
+            rm,
+        }),
     }
 }
 
@@ -567,8 +584,12 @@ fn conditional(first: u16, second: u16) -> Decoded
 {
     let low = field(first, 0, 8);
     match field(first, 8, 4) {
-        14 => always(Insn::Undefined { imm: u16::from(low) }),
-        15 => always(Insn::Supervisor { imm: u16::from(low) }),
+        14 => always(Insn::Undefined {
+            imm: u16::from(low),
+        }),
+        15 => always(Insn::Supervisor {
+            imm: u16::from(low),
+        }),
         cond => always(Insn::BranchIf {
             cond,
             offset: signed(u32::from(low) * 2, 256),

@@ -11,8 +11,8 @@ ghost use Rattle.tz_table.specs.declared.Flags.TheVariants as flags;
 ghost use Rattle.tz_table.specs.declared.Insn.TheVariants as insns;
 ghost use Rattle.tz_table.specs.declared.Width.TheVariants.{Wide};
 
-use crate::fields::{field, flags, imm5, imm_amount, imm_shift, wide_if};
-use crate::limits::{can_add_register, can_move, plain2, plain3, plain_base};
+use crate::fields::{field, flags, imm_amount, imm_shift, imm5, wide_if};
+use crate::limits::{can_add_register, can_move, plain_base, plain2, plain3};
 use tz_table::{DataOp, Decoded, Flags, Insn, Width};
 
 /// The refusal of all codes here.

@@ -1,8 +1,8 @@
 -- Tests on rows that compute: which sets of codes are apart, and what is left of a row where fields are
 -- known.
-use Rattle.std.specs.Prelude.{ℕ, ◌+◌, ◌-◌, ◌*◌, ◌^◌, if◌then◌else◌, Bool, true, false, not, ◌&&◌, ◌||◌, bit_and, bit_or, ◌==◌, List, [], ◌∷◌}
+use Rattle.std.specs.Prelude.{◌+◌, ◌-◌, ◌*◌, ◌^◌, if◌then◌else◌, Bool, true, not, ◌&&◌, ◌||◌, bit_and, bit_or, ◌==◌, List, [], ◌∷◌}
 use Rattle.std.specs.List.{list_all, list_any}
-use Rattle.tz_table.specs.Patterns.{Cube, Field, first, second, Pattern, in_cube}
+use Rattle.tz_table.specs.Patterns.{Cube, Field, first, second, Pattern}
 use Rattle.tz_table.specs.Rows.{TableRow, Refusal}
 
 -- ---- tests on constants, which compute

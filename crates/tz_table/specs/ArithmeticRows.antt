@@ -1,6 +1,6 @@
 -- The rows of 32 bits for shifts by a register, extensions, reversals, multiplications, divisions, and of
 -- the Security Extension.
-use Rattle.std.specs.Prelude.{◌-◌, ◌*◌, true, false, not, [], ◌∷◌}
+use Rattle.std.specs.Prelude.{◌*◌, true, false, [], ◌∷◌}
 use Rattle.tz_table.specs.Fields.{bits}
 use Rattle.tz_table.specs.Patterns.{second}
 use Rattle.tz_table.specs.Rows.{TableRow, wide, always}
@@ -96,4 +96,3 @@ sg = wide 0xffff 0xe97f 0xffff 0xe97f [] always (λ f s. insns.SecureGateway)
 -- 11101100001 l nnnn | 0000101000000000: vlstm rn, vlldm rn
 abbrev pub vlstm : TableRow
 vlstm = wide 0xffe0 0xec20 0xffff 0x0a00 [] (λ f s. not_pc (bits f 0 4)) (λ f s. insns.LazyState (is_one (bits f 4 1)) (bits f 0 4))
-

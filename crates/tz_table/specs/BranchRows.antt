@@ -1,5 +1,5 @@
 -- The rows of 32 bits for branches, special registers, hints and barriers.
-use Rattle.std.specs.Prelude.{◌+◌, ◌-◌, ◌*◌, [], ◌∷◌}
+use Rattle.std.specs.Prelude.{◌+◌, ◌*◌, [], ◌∷◌}
 use Rattle.tz_table.specs.Fields.{bits}
 use Rattle.tz_table.specs.Patterns.{first}
 use Rattle.tz_table.specs.Rows.{TableRow, wide, always}
@@ -51,4 +51,3 @@ isb = wide 0xffff 0xf3bf 0xfff0 0x8f60 [] always (λ f s. insns.Barrier barriers
 -- 111101111111 iiii | 1010 iiiiiiiiiiii: udf.w #i
 abbrev pub udf_w : TableRow
 udf_w = wide 0xfff0 0xf7f0 0xf000 0xa000 [] always (λ f s. insns.Undefined (bits f 0 4 * 4096 + bits s 0 12))
-

@@ -182,4 +182,3 @@ bfi = wide 0xfff0 0xf360 0x8020 0x0000 ((first 0 4 15 ∷ []) ∷ []) (λ f s. c
 -- 111100110110 1111 | 0 iii dddd ii 0 mmmmm: bfc rd, #i, #m - i + 1
 abbrev pub bfc : TableRow
 bfc = wide 0xffff 0xf36f 0x8020 0x0000 [] (λ f s. can_clear (bits s 8 4) (imm5_of s) (bits s 0 5)) (λ f s. insns.BitField fields.Bfc (bits s 8 4) 0 (imm5_of s) (bits s 0 5 + 1 - imm5_of s))
-

@@ -1,6 +1,6 @@
 -- The rows of 32 bits that load and store one register. zz is the size (byte, half, word), x a sign; only a
 -- load of a byte or a half has one. A load of a byte into PC preloads where no base is written back.
-use Rattle.std.specs.Prelude.{◌-◌, true, false, [], ◌∷◌, pos, neg_ℤ}
+use Rattle.std.specs.Prelude.{true, false, [], ◌∷◌, pos, neg_ℤ}
 use Rattle.tz_table.specs.Fields.{bits}
 use Rattle.tz_table.specs.Patterns.{first, second}
 use Rattle.tz_table.specs.Rows.{TableRow, wide, always}
@@ -68,4 +68,3 @@ ldr_literal_w = wide 0xfe1f 0xf81f 0x0000 0x0000 ((first 5 2 3 ∷ []) ∷ (firs
 -- 1111100 x u 00 1 1111 | 1111 iiiiiiiiiiii: pld
 abbrev pub pld_literal : TableRow
 pld_literal = wide 0xfe7f 0xf81f 0xf000 0xf000 [] always (λ f s. insns.Preload)
-

@@ -1,6 +1,6 @@
 -- The rows of 32 bits that move several registers, pairs, exclusives, acquire and release, and the table
 -- branches. Letters in a comment are fields of the first and of the second halfword.
-use Rattle.std.specs.Prelude.{◌-◌, ◌*◌, true, false, [], ◌∷◌, pos}
+use Rattle.std.specs.Prelude.{◌*◌, true, false, [], ◌∷◌, pos}
 use Rattle.tz_table.specs.Fields.{bits}
 use Rattle.tz_table.specs.Patterns.{first, second}
 use Rattle.tz_table.specs.Rows.{TableRow, wide}
@@ -117,4 +117,3 @@ ldaex = wide 0xfff0 0xe8d0 0x0fff 0x0fef [] (λ f s. plain_base (bits s 12 4) (b
 -- 111010001101 nnnn | 11110000000 h mmmm: tbb [rn, rm]; tbh [rn, rm, lsl #1]
 abbrev pub tbb : TableRow
 tbb = wide 0xfff0 0xe8d0 0xffe0 0xf000 [] (λ f s. can_branch_table (bits f 0 4) (bits s 0 4)) (λ f s. insns.TableBranch (is_one (bits s 4 1)) (bits f 0 4) (bits s 0 4))
-

@@ -1,6 +1,6 @@
 -- The rows of 16 bits, in the manual's order of leading bits. Letters in a comment are fields: d, n, m and
 -- t are registers, i a constant, l and s single bits.
-use Rattle.std.specs.Prelude.{ℕ, ◌+◌, ◌*◌, Bool, true, false, not, ◌&&◌, ◌||◌, ◌==◌, List, [], ◌∷◌, pos, if◌then◌else◌}
+use Rattle.std.specs.Prelude.{ℕ, ◌+◌, ◌*◌, Bool, true, false, not, [], ◌∷◌, pos}
 use Rattle.tz_table.specs.Fields.{bits}
 use Rattle.tz_table.specs.Patterns.{first}
 use Rattle.tz_table.specs.Rows.{TableRow, narrow}
@@ -307,4 +307,3 @@ svc = narrow 0xff00 0xdf00 [] any (λ f. insns.Supervisor (bits f 0 8))
 -- 11100 iiiiiiiiiii: b target
 abbrev pub branch : TableRow
 branch = narrow 0xf800 0xe000 [] any (λ f. insns.Branch (signed_by 2048 (bits f 0 11 * 2)))
-

@@ -1,5 +1,5 @@
 -- What the fields of a code stand for.
-use Rattle.std.specs.Prelude.{ℕ, ◌+◌, ◌-◌, ◌*◌, ◌/◌, ◌%◌, ◌^◌, Bool, not, ◌&&◌, ◌||◌, ◌==◌, nat_lt, ℤ, pos, neg_ℤ, if◌then◌else◌}
+use Rattle.std.specs.Prelude.{ℕ, ◌+◌, ◌-◌, ◌*◌, ◌%◌, ◌^◌, Bool, ◌&&◌, ◌==◌, nat_lt, ℤ, pos, neg_ℤ, if◌then◌else◌}
 use Rattle.tz_table.specs.Fields.{bits}
 use Rattle.tz_table.specs.declared.instruction.Flags.{Flags}
 use Rattle.tz_table.specs.declared.instruction.Flags.TheVariants as flags
