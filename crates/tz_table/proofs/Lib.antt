@@ -2,3 +2,4 @@ pub mod Reduction
 pub mod Cubes
 pub mod Scans
 pub mod Apart
+pub mod Data

@@ -1,6 +1,8 @@
 -- A row of the instruction table, what it holds, and how a code is looked up.
 use Rattle.std.specs.Prelude.{ℕ, Bool, true, ◌&&◌, List, [], ◌∷◌, if◌then◌else◌}
 use Rattle.tz_table.specs.Patterns.{Cube, Field, Pattern, fits, in_cube}
+use Rattle.tz_table.specs.Forms.{form_of}
+use Rattle.tz_table.specs.declared.rows.Row.{Row}
 use Rattle.tz_table.specs.declared.units.Width.{Width}
 use Rattle.tz_table.specs.declared.units.Width.TheVariants.{Narrow, Wide}
 use Rattle.tz_table.specs.declared.instruction.Insn.{Insn}
@@ -49,3 +51,13 @@ wide mask value mask2 value2 others limits insn = record { pattern = record { cu
 -- no limit
 abbrev pub always : ℕ → ℕ → Bool
 always f s = true
+
+-- ---- rows as data
+
+-- the data of a row: the form is that of its instructions
+abbrev pub row_of : TableRow → Row
+row_of r = record { width = r.width; first_mask = r.pattern.cube.first_mask; first_value = r.pattern.cube.first_value; second_mask = r.pattern.cube.second_mask; second_value = r.pattern.cube.second_value; form = form_of (r.insn r.pattern.cube.first_value r.pattern.cube.second_value) }
+
+abbrev pub rows_of : List TableRow → List Row
+rows_of [] = []
+rows_of (r ∷ rs) = row_of r ∷ rows_of rs

@@ -6,10 +6,12 @@
 
 mod decoded;
 mod instruction;
+mod rows;
 mod units;
 
 pub use decoded::Decoded;
 pub use instruction::{
     Address, BarrierOp, DataOp, ExtendOp, FieldOp, Flags, Insn, LongOp, MultiplyOp, ReverseOp,
 };
+pub use rows::{Row, row_at, row_count};
 pub use units::{Code, Shift, Side, Size, Width};
