@@ -1,7 +1,7 @@
 -- Which codes arithmetic of 32 bits mean, row by row.
-use Rattle.std.proofs.Common.{◌≡◌, ◌≢◌, ℕ, ◌+◌, ◌-◌, ◌*◌, ◌/◌, ◌%◌, ◌<◌, ◌≤◌, true, false, [], ◌∷◌, refl, sym, ap, ◌∙◌, Ok, Err, arith}
+use Rattle.std.proofs.Common.{◌≡◌, ◌≢◌, ℕ, ◌+◌, ◌-◌, ◌*◌, ◌/◌, ◌%◌, ◌<◌, ◌≤◌, true, false, [], ◌∷◌, refl, sym, ap, subst, ◌∙◌, Ok, Err, arith}
 use Rattle.std.specs.Prelude.{ℤ, pos, neg_ℤ, nat_abs, ◌==◌, ◌&&◌, ◌||◌, not, nat_lt, nat_le}
-use Rattle.std.proofs.lemmas.Bool.{and_from, and_parts, or_from, or_parts, eq-eqb, eqb-true, ne_eqb, eqb-false, both_ways}
+use Rattle.std.proofs.lemmas.Bool.{and_from, and_parts, or_from, or_parts, eq-eqb, eqb-true, ne_eqb, eqb-false, leb-true, both_ways}
 use Rattle.tz_table.specs.Fields.{bits}
 use Rattle.tz_table.specs.Patterns.{first, second}
 use Rattle.tz_table.specs.Rows.{holds}
@@ -10,9 +10,9 @@ use Rattle.tz_table.specs.Terms.{is_one, flags_of, shift_of, imm_shift_of, imm_a
 use Rattle.tz_table.proofs.Scans.{fixed, made, holds_parts}
 use Rattle.tz_encode.specs.Codes.{Encodes, IsCode}
 use Rattle.tz_encode.specs.Numbers.{prefix}
-use Rattle.tz_encode.specs.Tests.{is_low, is_below, is_same, is_stepped, is_counted, is_plain, is_base, is_forward, is_backward, is_near, is_reach, is_high_addend, is_high_operand, is_target, is_mask, is_store_list, is_load_list, is_list_with, is_plain_other, kind_for, imm5_for, is_amount, is_left, is_sum_rd, is_sum_rn, is_sum_amount, is_bare, is_move_rd, is_move_rm, is_move_amount, is_constant, is_saturation, is_width, is_sysm, is_table}
+use Rattle.tz_encode.specs.Tests.{is_low, is_below, is_same, is_stepped, is_counted, is_plain, is_base, is_forward, is_backward, is_near, is_reach, is_high_addend, is_high_operand, is_target, is_mask, is_store_list, is_load_list, is_list_with, is_plain_other, kind_for, imm5_for, is_amount, is_left, is_sum_rd, is_sum_rn, is_sum_amount, is_bare, is_move_rd, is_move_rm, is_move_amount, is_constant, is_saturation, is_width, is_sysm, is_table, is_load_rt, is_store_rt, is_base_other, raw_of, of_positive}
 use Rattle.tz_encode.specs.declared.error.FieldName.TheVariants as names
-use Rattle.tz_encode.proofs.Facts.{low_fact, low_from, below_fact, below_from, same_fact, same_from, stepped_fact, stepped_from, counted_fact, counted_from, plain_fact, plain_from, base_fact, base_from, plain_not_pc, not_pc_not, limited, limited_from, right_amount, right_amount_back, can_add_zero, can_compare_eight, high_base, target_zero, abs_neg, plain_other_fact, plain_other_from, other_of, other_plain, plain_not15, same_pair, long_limit, long_parts, flags_once, shift_once, size_once, amount_fits, kind_fits, shift_made, amount_made, shifted, sum_limit, sum_back, sum_rd_not15, base_for, base_for_sum, amount_for, amount_for_is, amount_for_sum, move_limit, move_back, move_rm_zero, amount_for_move, constant_limit, constant_from, width_fact, width_from, add_limit, add_back, base_for_add, sum_zero, move_zero, sum_rn_not_pc, forward_fact, forward_from, backward_fact, backward_from, near_fact, one_once}
+use Rattle.tz_encode.proofs.Facts.{low_fact, low_from, below_fact, below_from, same_fact, same_from, stepped_fact, stepped_from, counted_fact, counted_from, plain_fact, plain_from, base_fact, base_from, plain_not_pc, not_pc_not, limited, limited_from, right_amount, right_amount_back, can_add_zero, can_compare_eight, high_base, target_zero, abs_neg, plain_other_fact, plain_other_from, other_of, other_plain, plain_not15, same_pair, long_limit, long_parts, flags_once, shift_once, size_once, amount_fits, kind_fits, shift_made, amount_made, shifted, sum_limit, sum_back, sum_rd_not15, base_for, base_for_sum, amount_for, amount_for_is, amount_for_sum, move_limit, move_back, move_rm_zero, amount_for_move, constant_limit, constant_from, width_fact, width_from, add_limit, add_back, base_for_add, sum_zero, move_zero, sum_rn_not_pc, saturation_one, extract_limit, insert_limit, width_one, preload_not, ldr_zero, str_zero, reach_fact, raw_signed, reach_from, positive_fits, near_made, near_abs, near_positive, near_from, base_other_fact, base_other_from, far_back, forward_fact, forward_from, backward_fact, backward_from, near_fact, one_once}
 use Rattle.tz_table.specs.declared.Insn.TheVariants as insns
 use Rattle.tz_table.specs.declared.DataOp.TheVariants as ops
 use Rattle.tz_table.specs.declared.FieldOp.TheVariants as fields

@@ -1,7 +1,7 @@
 -- Which codes instructions of 32 bits with a constant mean, row by row.
-use Rattle.std.proofs.Common.{◌≡◌, ◌≢◌, ℕ, ◌+◌, ◌-◌, ◌*◌, ◌/◌, ◌%◌, ◌<◌, ◌≤◌, true, false, [], ◌∷◌, refl, sym, ap, ◌∙◌, Ok, Err, arith}
+use Rattle.std.proofs.Common.{◌≡◌, ◌≢◌, ℕ, ◌+◌, ◌-◌, ◌*◌, ◌/◌, ◌%◌, ◌<◌, ◌≤◌, true, false, [], ◌∷◌, refl, sym, ap, subst, ◌∙◌, Ok, Err, arith}
 use Rattle.std.specs.Prelude.{ℤ, pos, neg_ℤ, nat_abs, ◌==◌, ◌&&◌, ◌||◌, not, nat_lt, nat_le}
-use Rattle.std.proofs.lemmas.Bool.{and_from, and_parts, or_from, or_parts, eq-eqb, eqb-true, ne_eqb, eqb-false, both_ways}
+use Rattle.std.proofs.lemmas.Bool.{and_from, and_parts, or_from, or_parts, eq-eqb, eqb-true, ne_eqb, eqb-false, leb-true, both_ways}
 use Rattle.tz_table.specs.Fields.{bits}
 use Rattle.tz_table.specs.Patterns.{first, second}
 use Rattle.tz_table.specs.Rows.{holds}
@@ -10,9 +10,9 @@ use Rattle.tz_table.specs.Terms.{is_one, flags_of, shift_of, imm_shift_of, imm_a
 use Rattle.tz_table.proofs.Scans.{fixed, made, holds_parts}
 use Rattle.tz_encode.specs.Codes.{Encodes, IsCode}
 use Rattle.tz_encode.specs.Numbers.{prefix}
-use Rattle.tz_encode.specs.Tests.{is_low, is_below, is_same, is_stepped, is_counted, is_plain, is_base, is_forward, is_backward, is_near, is_reach, is_high_addend, is_high_operand, is_target, is_mask, is_store_list, is_load_list, is_list_with, is_plain_other, kind_for, imm5_for, is_amount, is_left, is_sum_rd, is_sum_rn, is_sum_amount, is_bare, is_move_rd, is_move_rm, is_move_amount, is_constant, is_saturation, is_width, is_sysm, is_table}
+use Rattle.tz_encode.specs.Tests.{is_low, is_below, is_same, is_stepped, is_counted, is_plain, is_base, is_forward, is_backward, is_near, is_reach, is_high_addend, is_high_operand, is_target, is_mask, is_store_list, is_load_list, is_list_with, is_plain_other, kind_for, imm5_for, is_amount, is_left, is_sum_rd, is_sum_rn, is_sum_amount, is_bare, is_move_rd, is_move_rm, is_move_amount, is_constant, is_saturation, is_width, is_sysm, is_table, is_load_rt, is_store_rt, is_base_other, raw_of, of_positive}
 use Rattle.tz_encode.specs.declared.error.FieldName.TheVariants as names
-use Rattle.tz_encode.proofs.Facts.{low_fact, low_from, below_fact, below_from, same_fact, same_from, stepped_fact, stepped_from, counted_fact, counted_from, plain_fact, plain_from, base_fact, base_from, plain_not_pc, not_pc_not, limited, limited_from, right_amount, right_amount_back, can_add_zero, can_compare_eight, high_base, target_zero, abs_neg, plain_other_fact, plain_other_from, other_of, other_plain, plain_not15, same_pair, long_limit, long_parts, flags_once, shift_once, size_once, amount_fits, kind_fits, shift_made, amount_made, shifted, sum_limit, sum_back, sum_rd_not15, base_for, base_for_sum, amount_for, amount_for_is, amount_for_sum, move_limit, move_back, move_rm_zero, amount_for_move, constant_limit, constant_from, width_fact, width_from, add_limit, add_back, base_for_add, sum_zero, move_zero, sum_rn_not_pc, forward_fact, forward_from, backward_fact, backward_from, near_fact, one_once}
+use Rattle.tz_encode.proofs.Facts.{low_fact, low_from, below_fact, below_from, same_fact, same_from, stepped_fact, stepped_from, counted_fact, counted_from, plain_fact, plain_from, base_fact, base_from, plain_not_pc, not_pc_not, limited, limited_from, right_amount, right_amount_back, can_add_zero, can_compare_eight, high_base, target_zero, abs_neg, plain_other_fact, plain_other_from, other_of, other_plain, plain_not15, same_pair, long_limit, long_parts, flags_once, shift_once, size_once, amount_fits, kind_fits, shift_made, amount_made, shifted, sum_limit, sum_back, sum_rd_not15, base_for, base_for_sum, amount_for, amount_for_is, amount_for_sum, move_limit, move_back, move_rm_zero, amount_for_move, constant_limit, constant_from, width_fact, width_from, add_limit, add_back, base_for_add, sum_zero, move_zero, sum_rn_not_pc, saturation_one, extract_limit, insert_limit, width_one, preload_not, ldr_zero, str_zero, reach_fact, raw_signed, reach_from, positive_fits, near_made, near_abs, near_positive, near_from, base_other_fact, base_other_from, far_back, forward_fact, forward_from, backward_fact, backward_from, near_fact, one_once}
 use Rattle.tz_table.specs.declared.Insn.TheVariants as insns
 use Rattle.tz_table.specs.declared.DataOp.TheVariants as ops
 use Rattle.tz_table.specs.declared.FieldOp.TheVariants as fields
@@ -26,7 +26,7 @@ use Rattle.tz_table.specs.declared.Shift.{Shift}
 use Rattle.tz_table.specs.declared.Shift.TheVariants as shifts
 use Rattle.tz_table.specs.declared.Size.TheVariants as sizes
 use Rattle.tz_table.specs.declared.Address.TheVariants as addresses
-use Rattle.tz_table.specs.DataRows.{and_imm_w, bic_imm_w, orr_imm_w, orn_imm_w, eor_imm_w, add_imm_w, adc_imm_w, sbc_imm_w, sub_imm_w, rsb_imm_w, mov_imm_w, mvn_imm_w, tst_imm_w, teq_imm_w, cmn_imm_w, cmp_imm_w, addw, subw, adr_after, adr_before, movw}
+use Rattle.tz_table.specs.DataRows.{and_imm_w, bic_imm_w, orr_imm_w, orn_imm_w, eor_imm_w, add_imm_w, adc_imm_w, sbc_imm_w, sub_imm_w, rsb_imm_w, mov_imm_w, mvn_imm_w, tst_imm_w, teq_imm_w, cmn_imm_w, cmp_imm_w, addw, subw, adr_after, adr_before, movw, ssat, usat, sbfx, ubfx, bfi, bfc}
 
 and_imm_w_made : (sets : ℕ) (rd : ℕ) (rn : ℕ) (imm12 : ℕ) (f s : ℕ) → sets < 2 → is_plain rd ≡ true → is_plain rn ≡ true → is_constant imm12 ≡ true → f ≡ 61440 + sets * 16 + rn + imm12 / 2048 * 1024 → s ≡ imm12 / 256 % 8 * 4096 + rd * 256 + imm12 % 256 → IsCode and_imm_w (insns.DataImm ops.And (flags_of sets) rd rn imm12) f s
 and_imm_w_made sets rd rn imm12 f s q0 h0 h1 h2 e es =
@@ -1987,4 +1987,712 @@ movw_imm top rd imm q0 h0 bad =
     }
 
 pub ruleset movw_laws = (movw_ok, movw_rd, movw_imm)
+
+ssat_made : (asr : ℕ) (rd : ℕ) (rn : ℕ) (count : ℕ) (amount : ℕ) (f s : ℕ) → asr < 2 → is_plain rd ≡ true → is_plain rn ≡ true → is_counted 32 count ≡ true → is_saturation asr amount ≡ true → f ≡ 62208 + asr * 32 + rn → s ≡ amount / 4 * 4096 + rd * 256 + amount % 4 * 64 + (count - 1) → IsCode ssat (insns.Saturate true rd rn count (is_one asr) amount) f s
+ssat_made asr rd rn count amount f s q0 h0 h1 h2 h3 e es =
+    let k0a : rd < 16 = (plain_fact rd h0).0 in
+    let k0b : plain rd ≡ true = (plain_fact rd h0).1 in
+    let k1a : rn < 16 = (plain_fact rn h1).0 in
+    let k1b : plain rn ≡ true = (plain_fact rn h1).1 in
+    let k2a : 1 ≤ count = (counted_fact 32 count h2).0 in
+    let k2b : count ≤ 32 = (counted_fact 32 count h2).1 in
+    let k3a : amount < 32 = (limited amount 32 (not (asr == 1 && amount == 0)) h3).0 in
+    let k3b : not (asr == 1 && amount == 0) ≡ true = (limited amount 32 (not (asr == 1 && amount == 0)) h3).1 in
+    let r_rd : bits s 8 4 ≡ rd = omega arith in
+    let r_rn : bits f 0 4 ≡ rn = omega arith in
+    let r_count : bits s 0 5 + 1 ≡ count = omega arith in
+    let r_amount : imm5_of s ≡ amount = omega arith in
+    let r_asr : bits f 5 1 ≡ asr = omega arith in
+    let t0 : bits f 8 8 ≡ 243 = omega arith in
+    let t1 : bits f 6 2 ≡ 0 = omega arith in
+    let t2 : bits f 4 1 ≡ 0 = omega arith in
+    let t3 : bits s 15 1 ≡ 0 = omega arith in
+    let t4 : bits s 5 1 ≡ 0 = omega arith in
+    let l : can_saturate (bits s 8 4) (bits f 0 4) (bits f 5 1) (imm5_of s) ≡ true = ap (λ x. can_saturate x ((bits f 0 4)) ((bits f 5 1)) ((imm5_of s))) r_rd ∙ ap (λ x. can_saturate rd x ((bits f 5 1)) ((imm5_of s))) r_rn ∙ ap (λ x. can_saturate rd rn x ((imm5_of s))) r_asr ∙ ap (λ x. can_saturate rd rn asr x) r_amount ∙ (and_from _ _ (and_from _ _ k0b k1b) k3b) in
+    record { first_fits = omega arith; second_fits = omega arith; held = made ssat (first 8 8 243 ∷ first 6 2 0 ∷ first 4 1 0 ∷ second 15 1 0 ∷ second 5 1 0 ∷ []) f s refl (and_from _ _ (eq-eqb _ _ t0) (and_from _ _ (eq-eqb _ _ t1) (and_from _ _ (eq-eqb _ _ t2) (and_from _ _ (eq-eqb _ _ t3) (eq-eqb _ _ t4))))) refl l; means = cc }
+
+ssat_known : (f s : ℕ) → f < 65536 → s < 65536 → holds ssat f s ≡ true → (is_plain (bits s 8 4) ≡ true) × (is_plain (bits f 0 4) ≡ true) × (is_counted 32 (bits s 0 5 + 1) ≡ true) × (is_saturation (bits f 5 1) (imm5_of s) ≡ true) × ((62208 + (bits f 5 1) * 32 + (bits f 0 4)) * 65536 + ((imm5_of s) / 4 * 4096 + (bits s 8 4) * 256 + (imm5_of s) % 4 * 64 + ((bits s 0 5 + 1) - 1)) ≤ f * 65536 + s)
+ssat_known f s a b h =
+    let t0 : bits f 8 8 ≡ 243 = eqb-true _ _ (fixed ssat (first 8 8 243) f s refl h) in
+    let t1 : bits f 6 2 ≡ 0 = eqb-true _ _ (fixed ssat (first 6 2 0) f s refl h) in
+    let t2 : bits f 4 1 ≡ 0 = eqb-true _ _ (fixed ssat (first 4 1 0) f s refl h) in
+    let t3 : bits s 15 1 ≡ 0 = eqb-true _ _ (fixed ssat (second 15 1 0) f s refl h) in
+    let t4 : bits s 5 1 ≡ 0 = eqb-true _ _ (fixed ssat (second 5 1 0) f s refl h) in
+    let parts = holds_parts ssat f s h in
+    let l : can_saturate (bits s 8 4) (bits f 0 4) (bits f 5 1) (imm5_of s) ≡ true = parts.0 in
+    let p = and_parts (plain2 (bits s 8 4) (bits f 0 4)) (not (bits f 5 1 == 1 && imm5_of s == 0)) l in
+    let q = and_parts (plain (bits s 8 4)) (plain (bits f 0 4)) p.0 in
+    (plain_from (bits s 8 4) (omega arith) q.0, plain_from (bits f 0 4) (omega arith) q.1, counted_from 32 (bits s 0 5 + 1) (omega arith) (omega arith), limited_from (imm5_of s) 32 _ (omega arith) p.1, omega arith)
+
+pub ssat_ok : (asr : ℕ) (rd : ℕ) (rn : ℕ) (count : ℕ) (amount : ℕ) (f s : ℕ) → asr < 2 → is_plain rd ≡ true → is_plain rn ≡ true → is_counted 32 count ≡ true → is_saturation asr amount ≡ true → f ≡ 62208 + asr * 32 + rn → s ≡ amount / 4 * 4096 + rd * 256 + amount % 4 * 64 + (count - 1) → Encodes ssat (insns.Saturate true rd rn count (is_one asr) amount) (Ok (f , s))
+unfolding Encodes
+ssat_ok asr rd rn count amount f s q0 h0 h1 h2 h3 e es =
+    record {
+      code = ssat_made asr rd rn count amount f s q0 h0 h1 h2 h3 e es;
+      least = λ g t h.
+          let k = ssat_known g t h.first_fits h.second_fits h.held in
+          let same = h.means in
+          let g_rd : bits t 8 4 ≡ rd = cc in
+          let g_rn : bits g 0 4 ≡ rn = cc in
+          let g_count : bits t 0 5 + 1 ≡ count = cc in
+          let g_amount : imm5_of t ≡ amount = cc in
+          let c_asr : is_one (bits g 5 1) ≡ is_one (asr) = cc in
+          let g_asr : bits g 5 1 ≡ asr = one_once (bits g 5 1) asr (omega arith) q0 c_asr in
+          let last = k.4 in
+          omega arith;
+    }
+
+pub ssat_rd : (asr : ℕ) (rd : ℕ) (rn : ℕ) (count : ℕ) (amount : ℕ) → asr < 2 → is_plain rd ≡ false → Encodes ssat (insns.Saturate true rd rn count (is_one asr) amount) (Err names.Rd)
+unfolding Encodes
+ssat_rd asr rd rn count amount q0 bad =
+    let d = ssat_made asr 0 0 1 1 (62208 + asr * 32 + 0) (1 / 4 * 4096 + 0 * 256 + 1 % 4 * 64 + (1 - 1)) q0 refl refl refl (saturation_one asr) refl refl in
+    record {
+      place = 0;
+      named = refl;
+      before = (62208 + asr * 32 + 0, ((1 / 4 * 4096 + 0 * 256 + 1 % 4 * 64 + (1 - 1)), record { first_fits = d.first_fits; second_fits = d.second_fits; held = d.held; means = ap (prefix 0) d.means }));
+      never = λ f s h.
+          let k = ssat_known f s h.first_fits h.second_fits h.held in
+          let same = h.means in
+          let g_rd : bits s 8 4 ≡ rd = cc in
+          both_ways _ bad (ap (λ x. is_plain x) (sym g_rd) ∙ k.0);
+    }
+
+pub ssat_rn : (asr : ℕ) (rd : ℕ) (rn : ℕ) (count : ℕ) (amount : ℕ) → asr < 2 → is_plain rd ≡ true → is_plain rn ≡ false → Encodes ssat (insns.Saturate true rd rn count (is_one asr) amount) (Err names.Rn)
+unfolding Encodes
+ssat_rn asr rd rn count amount q0 h0 bad =
+    let d = ssat_made asr rd 0 1 1 (62208 + asr * 32 + 0) (1 / 4 * 4096 + rd * 256 + 1 % 4 * 64 + (1 - 1)) q0 h0 refl refl (saturation_one asr) refl refl in
+    record {
+      place = 1;
+      named = refl;
+      before = (62208 + asr * 32 + 0, ((1 / 4 * 4096 + rd * 256 + 1 % 4 * 64 + (1 - 1)), record { first_fits = d.first_fits; second_fits = d.second_fits; held = d.held; means = ap (prefix 1) d.means }));
+      never = λ f s h.
+          let k = ssat_known f s h.first_fits h.second_fits h.held in
+          let same = h.means in
+          let g_rd : bits s 8 4 ≡ rd = cc in
+          let g_rn : bits f 0 4 ≡ rn = cc in
+          both_ways _ bad (ap (λ x. is_plain x) (sym g_rn) ∙ k.1);
+    }
+
+pub ssat_count : (asr : ℕ) (rd : ℕ) (rn : ℕ) (count : ℕ) (amount : ℕ) → asr < 2 → is_plain rd ≡ true → is_plain rn ≡ true → is_counted 32 count ≡ false → Encodes ssat (insns.Saturate true rd rn count (is_one asr) amount) (Err names.Bits)
+unfolding Encodes
+ssat_count asr rd rn count amount q0 h0 h1 bad =
+    let d = ssat_made asr rd rn 1 1 (62208 + asr * 32 + rn) (1 / 4 * 4096 + rd * 256 + 1 % 4 * 64 + (1 - 1)) q0 h0 h1 refl (saturation_one asr) refl refl in
+    record {
+      place = 2;
+      named = refl;
+      before = (62208 + asr * 32 + rn, ((1 / 4 * 4096 + rd * 256 + 1 % 4 * 64 + (1 - 1)), record { first_fits = d.first_fits; second_fits = d.second_fits; held = d.held; means = ap (prefix 2) d.means }));
+      never = λ f s h.
+          let k = ssat_known f s h.first_fits h.second_fits h.held in
+          let same = h.means in
+          let g_rd : bits s 8 4 ≡ rd = cc in
+          let g_rn : bits f 0 4 ≡ rn = cc in
+          let g_count : bits s 0 5 + 1 ≡ count = cc in
+          both_ways _ bad (ap (λ x. is_counted 32 x) (sym g_count) ∙ k.2);
+    }
+
+pub ssat_amount : (asr : ℕ) (rd : ℕ) (rn : ℕ) (count : ℕ) (amount : ℕ) → asr < 2 → is_plain rd ≡ true → is_plain rn ≡ true → is_counted 32 count ≡ true → is_saturation asr amount ≡ false → Encodes ssat (insns.Saturate true rd rn count (is_one asr) amount) (Err names.Amount)
+unfolding Encodes
+ssat_amount asr rd rn count amount q0 h0 h1 h2 bad =
+    let d = ssat_made asr rd rn count 1 (62208 + asr * 32 + rn) (1 / 4 * 4096 + rd * 256 + 1 % 4 * 64 + (count - 1)) q0 h0 h1 h2 (saturation_one asr) refl refl in
+    record {
+      place = 3;
+      named = refl;
+      before = (62208 + asr * 32 + rn, ((1 / 4 * 4096 + rd * 256 + 1 % 4 * 64 + (count - 1)), record { first_fits = d.first_fits; second_fits = d.second_fits; held = d.held; means = ap (prefix 3) d.means }));
+      never = λ f s h.
+          let k = ssat_known f s h.first_fits h.second_fits h.held in
+          let same = h.means in
+          let g_rd : bits s 8 4 ≡ rd = cc in
+          let g_rn : bits f 0 4 ≡ rn = cc in
+          let g_count : bits s 0 5 + 1 ≡ count = cc in
+          let g_amount : imm5_of s ≡ amount = cc in
+          let c_asr : is_one (bits f 5 1) ≡ is_one (asr) = cc in
+          let g_asr : bits f 5 1 ≡ asr = one_once (bits f 5 1) asr (omega arith) q0 c_asr in
+          both_ways _ bad (ap (λ x. is_saturation x amount) (sym g_asr) ∙ ap (λ x. is_saturation (((bits f 5 1))) x) (sym g_amount) ∙ k.3);
+    }
+
+pub ruleset ssat_laws = (ssat_ok, ssat_rd, ssat_rn, ssat_count, ssat_amount)
+
+usat_made : (asr : ℕ) (rd : ℕ) (rn : ℕ) (count : ℕ) (amount : ℕ) (f s : ℕ) → asr < 2 → is_plain rd ≡ true → is_plain rn ≡ true → is_below 32 count ≡ true → is_saturation asr amount ≡ true → f ≡ 62336 + asr * 32 + rn → s ≡ amount / 4 * 4096 + rd * 256 + amount % 4 * 64 + count → IsCode usat (insns.Saturate false rd rn count (is_one asr) amount) f s
+usat_made asr rd rn count amount f s q0 h0 h1 h2 h3 e es =
+    let k0a : rd < 16 = (plain_fact rd h0).0 in
+    let k0b : plain rd ≡ true = (plain_fact rd h0).1 in
+    let k1a : rn < 16 = (plain_fact rn h1).0 in
+    let k1b : plain rn ≡ true = (plain_fact rn h1).1 in
+    let k2a : count < 32 = below_fact 32 count h2 in
+    let k3a : amount < 32 = (limited amount 32 (not (asr == 1 && amount == 0)) h3).0 in
+    let k3b : not (asr == 1 && amount == 0) ≡ true = (limited amount 32 (not (asr == 1 && amount == 0)) h3).1 in
+    let r_rd : bits s 8 4 ≡ rd = omega arith in
+    let r_rn : bits f 0 4 ≡ rn = omega arith in
+    let r_count : bits s 0 5 ≡ count = omega arith in
+    let r_amount : imm5_of s ≡ amount = omega arith in
+    let r_asr : bits f 5 1 ≡ asr = omega arith in
+    let t0 : bits f 8 8 ≡ 243 = omega arith in
+    let t1 : bits f 6 2 ≡ 2 = omega arith in
+    let t2 : bits f 4 1 ≡ 0 = omega arith in
+    let t3 : bits s 15 1 ≡ 0 = omega arith in
+    let t4 : bits s 5 1 ≡ 0 = omega arith in
+    let l : can_saturate (bits s 8 4) (bits f 0 4) (bits f 5 1) (imm5_of s) ≡ true = ap (λ x. can_saturate x ((bits f 0 4)) ((bits f 5 1)) ((imm5_of s))) r_rd ∙ ap (λ x. can_saturate rd x ((bits f 5 1)) ((imm5_of s))) r_rn ∙ ap (λ x. can_saturate rd rn x ((imm5_of s))) r_asr ∙ ap (λ x. can_saturate rd rn asr x) r_amount ∙ (and_from _ _ (and_from _ _ k0b k1b) k3b) in
+    record { first_fits = omega arith; second_fits = omega arith; held = made usat (first 8 8 243 ∷ first 6 2 2 ∷ first 4 1 0 ∷ second 15 1 0 ∷ second 5 1 0 ∷ []) f s refl (and_from _ _ (eq-eqb _ _ t0) (and_from _ _ (eq-eqb _ _ t1) (and_from _ _ (eq-eqb _ _ t2) (and_from _ _ (eq-eqb _ _ t3) (eq-eqb _ _ t4))))) refl l; means = cc }
+
+usat_known : (f s : ℕ) → f < 65536 → s < 65536 → holds usat f s ≡ true → (is_plain (bits s 8 4) ≡ true) × (is_plain (bits f 0 4) ≡ true) × (is_below 32 (bits s 0 5) ≡ true) × (is_saturation (bits f 5 1) (imm5_of s) ≡ true) × ((62336 + (bits f 5 1) * 32 + (bits f 0 4)) * 65536 + ((imm5_of s) / 4 * 4096 + (bits s 8 4) * 256 + (imm5_of s) % 4 * 64 + (bits s 0 5)) ≤ f * 65536 + s)
+usat_known f s a b h =
+    let t0 : bits f 8 8 ≡ 243 = eqb-true _ _ (fixed usat (first 8 8 243) f s refl h) in
+    let t1 : bits f 6 2 ≡ 2 = eqb-true _ _ (fixed usat (first 6 2 2) f s refl h) in
+    let t2 : bits f 4 1 ≡ 0 = eqb-true _ _ (fixed usat (first 4 1 0) f s refl h) in
+    let t3 : bits s 15 1 ≡ 0 = eqb-true _ _ (fixed usat (second 15 1 0) f s refl h) in
+    let t4 : bits s 5 1 ≡ 0 = eqb-true _ _ (fixed usat (second 5 1 0) f s refl h) in
+    let parts = holds_parts usat f s h in
+    let l : can_saturate (bits s 8 4) (bits f 0 4) (bits f 5 1) (imm5_of s) ≡ true = parts.0 in
+    let p = and_parts (plain2 (bits s 8 4) (bits f 0 4)) (not (bits f 5 1 == 1 && imm5_of s == 0)) l in
+    let q = and_parts (plain (bits s 8 4)) (plain (bits f 0 4)) p.0 in
+    (plain_from (bits s 8 4) (omega arith) q.0, plain_from (bits f 0 4) (omega arith) q.1, below_from 32 (bits s 0 5) (omega arith), limited_from (imm5_of s) 32 _ (omega arith) p.1, omega arith)
+
+pub usat_ok : (asr : ℕ) (rd : ℕ) (rn : ℕ) (count : ℕ) (amount : ℕ) (f s : ℕ) → asr < 2 → is_plain rd ≡ true → is_plain rn ≡ true → is_below 32 count ≡ true → is_saturation asr amount ≡ true → f ≡ 62336 + asr * 32 + rn → s ≡ amount / 4 * 4096 + rd * 256 + amount % 4 * 64 + count → Encodes usat (insns.Saturate false rd rn count (is_one asr) amount) (Ok (f , s))
+unfolding Encodes
+usat_ok asr rd rn count amount f s q0 h0 h1 h2 h3 e es =
+    record {
+      code = usat_made asr rd rn count amount f s q0 h0 h1 h2 h3 e es;
+      least = λ g t h.
+          let k = usat_known g t h.first_fits h.second_fits h.held in
+          let same = h.means in
+          let g_rd : bits t 8 4 ≡ rd = cc in
+          let g_rn : bits g 0 4 ≡ rn = cc in
+          let g_count : bits t 0 5 ≡ count = cc in
+          let g_amount : imm5_of t ≡ amount = cc in
+          let c_asr : is_one (bits g 5 1) ≡ is_one (asr) = cc in
+          let g_asr : bits g 5 1 ≡ asr = one_once (bits g 5 1) asr (omega arith) q0 c_asr in
+          let last = k.4 in
+          omega arith;
+    }
+
+pub usat_rd : (asr : ℕ) (rd : ℕ) (rn : ℕ) (count : ℕ) (amount : ℕ) → asr < 2 → is_plain rd ≡ false → Encodes usat (insns.Saturate false rd rn count (is_one asr) amount) (Err names.Rd)
+unfolding Encodes
+usat_rd asr rd rn count amount q0 bad =
+    let d = usat_made asr 0 0 1 1 (62336 + asr * 32 + 0) (1 / 4 * 4096 + 0 * 256 + 1 % 4 * 64 + 1) q0 refl refl refl (saturation_one asr) refl refl in
+    record {
+      place = 0;
+      named = refl;
+      before = (62336 + asr * 32 + 0, ((1 / 4 * 4096 + 0 * 256 + 1 % 4 * 64 + 1), record { first_fits = d.first_fits; second_fits = d.second_fits; held = d.held; means = ap (prefix 0) d.means }));
+      never = λ f s h.
+          let k = usat_known f s h.first_fits h.second_fits h.held in
+          let same = h.means in
+          let g_rd : bits s 8 4 ≡ rd = cc in
+          both_ways _ bad (ap (λ x. is_plain x) (sym g_rd) ∙ k.0);
+    }
+
+pub usat_rn : (asr : ℕ) (rd : ℕ) (rn : ℕ) (count : ℕ) (amount : ℕ) → asr < 2 → is_plain rd ≡ true → is_plain rn ≡ false → Encodes usat (insns.Saturate false rd rn count (is_one asr) amount) (Err names.Rn)
+unfolding Encodes
+usat_rn asr rd rn count amount q0 h0 bad =
+    let d = usat_made asr rd 0 1 1 (62336 + asr * 32 + 0) (1 / 4 * 4096 + rd * 256 + 1 % 4 * 64 + 1) q0 h0 refl refl (saturation_one asr) refl refl in
+    record {
+      place = 1;
+      named = refl;
+      before = (62336 + asr * 32 + 0, ((1 / 4 * 4096 + rd * 256 + 1 % 4 * 64 + 1), record { first_fits = d.first_fits; second_fits = d.second_fits; held = d.held; means = ap (prefix 1) d.means }));
+      never = λ f s h.
+          let k = usat_known f s h.first_fits h.second_fits h.held in
+          let same = h.means in
+          let g_rd : bits s 8 4 ≡ rd = cc in
+          let g_rn : bits f 0 4 ≡ rn = cc in
+          both_ways _ bad (ap (λ x. is_plain x) (sym g_rn) ∙ k.1);
+    }
+
+pub usat_count : (asr : ℕ) (rd : ℕ) (rn : ℕ) (count : ℕ) (amount : ℕ) → asr < 2 → is_plain rd ≡ true → is_plain rn ≡ true → is_below 32 count ≡ false → Encodes usat (insns.Saturate false rd rn count (is_one asr) amount) (Err names.Bits)
+unfolding Encodes
+usat_count asr rd rn count amount q0 h0 h1 bad =
+    let d = usat_made asr rd rn 1 1 (62336 + asr * 32 + rn) (1 / 4 * 4096 + rd * 256 + 1 % 4 * 64 + 1) q0 h0 h1 refl (saturation_one asr) refl refl in
+    record {
+      place = 2;
+      named = refl;
+      before = (62336 + asr * 32 + rn, ((1 / 4 * 4096 + rd * 256 + 1 % 4 * 64 + 1), record { first_fits = d.first_fits; second_fits = d.second_fits; held = d.held; means = ap (prefix 2) d.means }));
+      never = λ f s h.
+          let k = usat_known f s h.first_fits h.second_fits h.held in
+          let same = h.means in
+          let g_rd : bits s 8 4 ≡ rd = cc in
+          let g_rn : bits f 0 4 ≡ rn = cc in
+          let g_count : bits s 0 5 ≡ count = cc in
+          both_ways _ bad (ap (λ x. is_below 32 x) (sym g_count) ∙ k.2);
+    }
+
+pub usat_amount : (asr : ℕ) (rd : ℕ) (rn : ℕ) (count : ℕ) (amount : ℕ) → asr < 2 → is_plain rd ≡ true → is_plain rn ≡ true → is_below 32 count ≡ true → is_saturation asr amount ≡ false → Encodes usat (insns.Saturate false rd rn count (is_one asr) amount) (Err names.Amount)
+unfolding Encodes
+usat_amount asr rd rn count amount q0 h0 h1 h2 bad =
+    let d = usat_made asr rd rn count 1 (62336 + asr * 32 + rn) (1 / 4 * 4096 + rd * 256 + 1 % 4 * 64 + count) q0 h0 h1 h2 (saturation_one asr) refl refl in
+    record {
+      place = 3;
+      named = refl;
+      before = (62336 + asr * 32 + rn, ((1 / 4 * 4096 + rd * 256 + 1 % 4 * 64 + count), record { first_fits = d.first_fits; second_fits = d.second_fits; held = d.held; means = ap (prefix 3) d.means }));
+      never = λ f s h.
+          let k = usat_known f s h.first_fits h.second_fits h.held in
+          let same = h.means in
+          let g_rd : bits s 8 4 ≡ rd = cc in
+          let g_rn : bits f 0 4 ≡ rn = cc in
+          let g_count : bits s 0 5 ≡ count = cc in
+          let g_amount : imm5_of s ≡ amount = cc in
+          let c_asr : is_one (bits f 5 1) ≡ is_one (asr) = cc in
+          let g_asr : bits f 5 1 ≡ asr = one_once (bits f 5 1) asr (omega arith) q0 c_asr in
+          both_ways _ bad (ap (λ x. is_saturation x amount) (sym g_asr) ∙ ap (λ x. is_saturation (((bits f 5 1))) x) (sym g_amount) ∙ k.3);
+    }
+
+pub ruleset usat_laws = (usat_ok, usat_rd, usat_rn, usat_count, usat_amount)
+
+sbfx_made : (rd : ℕ) (rn : ℕ) (low : ℕ) (width : ℕ) (f s : ℕ) → is_plain rd ≡ true → is_plain rn ≡ true → is_below 32 low ≡ true → is_width low width ≡ true → f ≡ 62272 + rn → s ≡ low / 4 * 4096 + rd * 256 + low % 4 * 64 + (width - 1) → IsCode sbfx (insns.BitField fields.Sbfx rd rn low width) f s
+sbfx_made rd rn low width f s h0 h1 h2 h3 e es =
+    let k0a : rd < 16 = (plain_fact rd h0).0 in
+    let k0b : plain rd ≡ true = (plain_fact rd h0).1 in
+    let k1a : rn < 16 = (plain_fact rn h1).0 in
+    let k1b : plain rn ≡ true = (plain_fact rn h1).1 in
+    let k2a : low < 32 = below_fact 32 low h2 in
+    let k3a : 1 ≤ width = (width_fact low width h3).0 in
+    let k3b : low + width ≤ 32 = (width_fact low width h3).1 in
+    let r_less : bits s 0 5 ≡ width - 1 = omega arith in
+    let r_rd : bits s 8 4 ≡ rd = omega arith in
+    let r_rn : bits f 0 4 ≡ rn = omega arith in
+    let r_low : imm5_of s ≡ low = omega arith in
+    let r_width : bits s 0 5 + 1 ≡ width = omega arith in
+    let t0 : bits f 4 12 ≡ 3892 = omega arith in
+    let t1 : bits s 15 1 ≡ 0 = omega arith in
+    let t2 : bits s 5 1 ≡ 0 = omega arith in
+    let l : can_extract (bits s 8 4) (bits f 0 4) (imm5_of s) (bits s 0 5) ≡ true = ap (λ x. can_extract x ((bits f 0 4)) ((imm5_of s)) ((bits s 0 5))) r_rd ∙ ap (λ x. can_extract rd x ((imm5_of s)) ((bits s 0 5))) r_rn ∙ ap (λ x. can_extract rd rn x ((bits s 0 5))) r_low ∙ ap (λ x. can_extract rd rn low x) r_less ∙ (and_from _ _ (and_from _ _ k0b k1b) (extract_limit low width k3a k3b)) in
+    record { first_fits = omega arith; second_fits = omega arith; held = made sbfx (first 4 12 3892 ∷ second 15 1 0 ∷ second 5 1 0 ∷ []) f s refl (and_from _ _ (eq-eqb _ _ t0) (and_from _ _ (eq-eqb _ _ t1) (eq-eqb _ _ t2))) refl l; means = cc }
+
+sbfx_known : (f s : ℕ) → f < 65536 → s < 65536 → holds sbfx f s ≡ true → (is_plain (bits s 8 4) ≡ true) × (is_plain (bits f 0 4) ≡ true) × (is_below 32 (imm5_of s) ≡ true) × (is_width (imm5_of s) (bits s 0 5 + 1) ≡ true) × ((62272 + (bits f 0 4)) * 65536 + ((imm5_of s) / 4 * 4096 + (bits s 8 4) * 256 + (imm5_of s) % 4 * 64 + ((bits s 0 5 + 1) - 1)) ≤ f * 65536 + s)
+sbfx_known f s a b h =
+    let t0 : bits f 4 12 ≡ 3892 = eqb-true _ _ (fixed sbfx (first 4 12 3892) f s refl h) in
+    let t1 : bits s 15 1 ≡ 0 = eqb-true _ _ (fixed sbfx (second 15 1 0) f s refl h) in
+    let t2 : bits s 5 1 ≡ 0 = eqb-true _ _ (fixed sbfx (second 5 1 0) f s refl h) in
+    let parts = holds_parts sbfx f s h in
+    let l : can_extract (bits s 8 4) (bits f 0 4) (imm5_of s) (bits s 0 5) ≡ true = parts.0 in
+    let p = and_parts (plain2 (bits s 8 4) (bits f 0 4)) (nat_le (imm5_of s + bits s 0 5 + 1) 32) l in
+    let q = and_parts (plain (bits s 8 4)) (plain (bits f 0 4)) p.0 in
+    let below = leb-true (imm5_of s + bits s 0 5 + 1) 32 p.1 in
+    (plain_from (bits s 8 4) (omega arith) q.0, plain_from (bits f 0 4) (omega arith) q.1, below_from 32 (imm5_of s) (omega arith), width_from (imm5_of s) (bits s 0 5 + 1) (omega arith) (omega arith), omega arith)
+
+pub sbfx_ok : (rd : ℕ) (rn : ℕ) (low : ℕ) (width : ℕ) (f s : ℕ) → is_plain rd ≡ true → is_plain rn ≡ true → is_below 32 low ≡ true → is_width low width ≡ true → f ≡ 62272 + rn → s ≡ low / 4 * 4096 + rd * 256 + low % 4 * 64 + (width - 1) → Encodes sbfx (insns.BitField fields.Sbfx rd rn low width) (Ok (f , s))
+unfolding Encodes
+sbfx_ok rd rn low width f s h0 h1 h2 h3 e es =
+    record {
+      code = sbfx_made rd rn low width f s h0 h1 h2 h3 e es;
+      least = λ g t h.
+          let k = sbfx_known g t h.first_fits h.second_fits h.held in
+          let same = h.means in
+          let g_rd : bits t 8 4 ≡ rd = cc in
+          let g_rn : bits g 0 4 ≡ rn = cc in
+          let g_low : imm5_of t ≡ low = cc in
+          let g_width : bits t 0 5 + 1 ≡ width = cc in
+          let last = k.4 in
+          omega arith;
+    }
+
+pub sbfx_rd : (rd : ℕ) (rn : ℕ) (low : ℕ) (width : ℕ) → is_plain rd ≡ false → Encodes sbfx (insns.BitField fields.Sbfx rd rn low width) (Err names.Rd)
+unfolding Encodes
+sbfx_rd rd rn low width  bad =
+    let d = sbfx_made 0 0 0 1 (62272 + 0) (0 / 4 * 4096 + 0 * 256 + 0 % 4 * 64 + (1 - 1)) refl refl refl (width_one 0 refl) refl refl in
+    record {
+      place = 0;
+      named = refl;
+      before = (62272 + 0, ((0 / 4 * 4096 + 0 * 256 + 0 % 4 * 64 + (1 - 1)), record { first_fits = d.first_fits; second_fits = d.second_fits; held = d.held; means = ap (prefix 0) d.means }));
+      never = λ f s h.
+          let k = sbfx_known f s h.first_fits h.second_fits h.held in
+          let same = h.means in
+          let g_rd : bits s 8 4 ≡ rd = cc in
+          both_ways _ bad (ap (λ x. is_plain x) (sym g_rd) ∙ k.0);
+    }
+
+pub sbfx_rn : (rd : ℕ) (rn : ℕ) (low : ℕ) (width : ℕ) → is_plain rd ≡ true → is_plain rn ≡ false → Encodes sbfx (insns.BitField fields.Sbfx rd rn low width) (Err names.Rn)
+unfolding Encodes
+sbfx_rn rd rn low width h0 bad =
+    let d = sbfx_made rd 0 0 1 (62272 + 0) (0 / 4 * 4096 + rd * 256 + 0 % 4 * 64 + (1 - 1)) h0 refl refl (width_one 0 refl) refl refl in
+    record {
+      place = 1;
+      named = refl;
+      before = (62272 + 0, ((0 / 4 * 4096 + rd * 256 + 0 % 4 * 64 + (1 - 1)), record { first_fits = d.first_fits; second_fits = d.second_fits; held = d.held; means = ap (prefix 1) d.means }));
+      never = λ f s h.
+          let k = sbfx_known f s h.first_fits h.second_fits h.held in
+          let same = h.means in
+          let g_rd : bits s 8 4 ≡ rd = cc in
+          let g_rn : bits f 0 4 ≡ rn = cc in
+          both_ways _ bad (ap (λ x. is_plain x) (sym g_rn) ∙ k.1);
+    }
+
+pub sbfx_low : (rd : ℕ) (rn : ℕ) (low : ℕ) (width : ℕ) → is_plain rd ≡ true → is_plain rn ≡ true → is_below 32 low ≡ false → Encodes sbfx (insns.BitField fields.Sbfx rd rn low width) (Err names.Low)
+unfolding Encodes
+sbfx_low rd rn low width h0 h1 bad =
+    let d = sbfx_made rd rn 0 1 (62272 + rn) (0 / 4 * 4096 + rd * 256 + 0 % 4 * 64 + (1 - 1)) h0 h1 refl (width_one 0 refl) refl refl in
+    record {
+      place = 2;
+      named = refl;
+      before = (62272 + rn, ((0 / 4 * 4096 + rd * 256 + 0 % 4 * 64 + (1 - 1)), record { first_fits = d.first_fits; second_fits = d.second_fits; held = d.held; means = ap (prefix 2) d.means }));
+      never = λ f s h.
+          let k = sbfx_known f s h.first_fits h.second_fits h.held in
+          let same = h.means in
+          let g_rd : bits s 8 4 ≡ rd = cc in
+          let g_rn : bits f 0 4 ≡ rn = cc in
+          let g_low : imm5_of s ≡ low = cc in
+          both_ways _ bad (ap (λ x. is_below 32 x) (sym g_low) ∙ k.2);
+    }
+
+pub sbfx_width : (rd : ℕ) (rn : ℕ) (low : ℕ) (width : ℕ) → is_plain rd ≡ true → is_plain rn ≡ true → is_below 32 low ≡ true → is_width low width ≡ false → Encodes sbfx (insns.BitField fields.Sbfx rd rn low width) (Err names.Width)
+unfolding Encodes
+sbfx_width rd rn low width h0 h1 h2 bad =
+    let d = sbfx_made rd rn low 1 (62272 + rn) (low / 4 * 4096 + rd * 256 + low % 4 * 64 + (1 - 1)) h0 h1 h2 (width_one low h2) refl refl in
+    record {
+      place = 3;
+      named = refl;
+      before = (62272 + rn, ((low / 4 * 4096 + rd * 256 + low % 4 * 64 + (1 - 1)), record { first_fits = d.first_fits; second_fits = d.second_fits; held = d.held; means = ap (prefix 3) d.means }));
+      never = λ f s h.
+          let k = sbfx_known f s h.first_fits h.second_fits h.held in
+          let same = h.means in
+          let g_rd : bits s 8 4 ≡ rd = cc in
+          let g_rn : bits f 0 4 ≡ rn = cc in
+          let g_low : imm5_of s ≡ low = cc in
+          let g_width : bits s 0 5 + 1 ≡ width = cc in
+          both_ways _ bad (ap (λ x. is_width x width) (sym g_low) ∙ ap (λ x. is_width (((imm5_of s))) x) (sym g_width) ∙ k.3);
+    }
+
+pub ruleset sbfx_laws = (sbfx_ok, sbfx_rd, sbfx_rn, sbfx_low, sbfx_width)
+
+ubfx_made : (rd : ℕ) (rn : ℕ) (low : ℕ) (width : ℕ) (f s : ℕ) → is_plain rd ≡ true → is_plain rn ≡ true → is_below 32 low ≡ true → is_width low width ≡ true → f ≡ 62400 + rn → s ≡ low / 4 * 4096 + rd * 256 + low % 4 * 64 + (width - 1) → IsCode ubfx (insns.BitField fields.Ubfx rd rn low width) f s
+ubfx_made rd rn low width f s h0 h1 h2 h3 e es =
+    let k0a : rd < 16 = (plain_fact rd h0).0 in
+    let k0b : plain rd ≡ true = (plain_fact rd h0).1 in
+    let k1a : rn < 16 = (plain_fact rn h1).0 in
+    let k1b : plain rn ≡ true = (plain_fact rn h1).1 in
+    let k2a : low < 32 = below_fact 32 low h2 in
+    let k3a : 1 ≤ width = (width_fact low width h3).0 in
+    let k3b : low + width ≤ 32 = (width_fact low width h3).1 in
+    let r_less : bits s 0 5 ≡ width - 1 = omega arith in
+    let r_rd : bits s 8 4 ≡ rd = omega arith in
+    let r_rn : bits f 0 4 ≡ rn = omega arith in
+    let r_low : imm5_of s ≡ low = omega arith in
+    let r_width : bits s 0 5 + 1 ≡ width = omega arith in
+    let t0 : bits f 4 12 ≡ 3900 = omega arith in
+    let t1 : bits s 15 1 ≡ 0 = omega arith in
+    let t2 : bits s 5 1 ≡ 0 = omega arith in
+    let l : can_extract (bits s 8 4) (bits f 0 4) (imm5_of s) (bits s 0 5) ≡ true = ap (λ x. can_extract x ((bits f 0 4)) ((imm5_of s)) ((bits s 0 5))) r_rd ∙ ap (λ x. can_extract rd x ((imm5_of s)) ((bits s 0 5))) r_rn ∙ ap (λ x. can_extract rd rn x ((bits s 0 5))) r_low ∙ ap (λ x. can_extract rd rn low x) r_less ∙ (and_from _ _ (and_from _ _ k0b k1b) (extract_limit low width k3a k3b)) in
+    record { first_fits = omega arith; second_fits = omega arith; held = made ubfx (first 4 12 3900 ∷ second 15 1 0 ∷ second 5 1 0 ∷ []) f s refl (and_from _ _ (eq-eqb _ _ t0) (and_from _ _ (eq-eqb _ _ t1) (eq-eqb _ _ t2))) refl l; means = cc }
+
+ubfx_known : (f s : ℕ) → f < 65536 → s < 65536 → holds ubfx f s ≡ true → (is_plain (bits s 8 4) ≡ true) × (is_plain (bits f 0 4) ≡ true) × (is_below 32 (imm5_of s) ≡ true) × (is_width (imm5_of s) (bits s 0 5 + 1) ≡ true) × ((62400 + (bits f 0 4)) * 65536 + ((imm5_of s) / 4 * 4096 + (bits s 8 4) * 256 + (imm5_of s) % 4 * 64 + ((bits s 0 5 + 1) - 1)) ≤ f * 65536 + s)
+ubfx_known f s a b h =
+    let t0 : bits f 4 12 ≡ 3900 = eqb-true _ _ (fixed ubfx (first 4 12 3900) f s refl h) in
+    let t1 : bits s 15 1 ≡ 0 = eqb-true _ _ (fixed ubfx (second 15 1 0) f s refl h) in
+    let t2 : bits s 5 1 ≡ 0 = eqb-true _ _ (fixed ubfx (second 5 1 0) f s refl h) in
+    let parts = holds_parts ubfx f s h in
+    let l : can_extract (bits s 8 4) (bits f 0 4) (imm5_of s) (bits s 0 5) ≡ true = parts.0 in
+    let p = and_parts (plain2 (bits s 8 4) (bits f 0 4)) (nat_le (imm5_of s + bits s 0 5 + 1) 32) l in
+    let q = and_parts (plain (bits s 8 4)) (plain (bits f 0 4)) p.0 in
+    let below = leb-true (imm5_of s + bits s 0 5 + 1) 32 p.1 in
+    (plain_from (bits s 8 4) (omega arith) q.0, plain_from (bits f 0 4) (omega arith) q.1, below_from 32 (imm5_of s) (omega arith), width_from (imm5_of s) (bits s 0 5 + 1) (omega arith) (omega arith), omega arith)
+
+pub ubfx_ok : (rd : ℕ) (rn : ℕ) (low : ℕ) (width : ℕ) (f s : ℕ) → is_plain rd ≡ true → is_plain rn ≡ true → is_below 32 low ≡ true → is_width low width ≡ true → f ≡ 62400 + rn → s ≡ low / 4 * 4096 + rd * 256 + low % 4 * 64 + (width - 1) → Encodes ubfx (insns.BitField fields.Ubfx rd rn low width) (Ok (f , s))
+unfolding Encodes
+ubfx_ok rd rn low width f s h0 h1 h2 h3 e es =
+    record {
+      code = ubfx_made rd rn low width f s h0 h1 h2 h3 e es;
+      least = λ g t h.
+          let k = ubfx_known g t h.first_fits h.second_fits h.held in
+          let same = h.means in
+          let g_rd : bits t 8 4 ≡ rd = cc in
+          let g_rn : bits g 0 4 ≡ rn = cc in
+          let g_low : imm5_of t ≡ low = cc in
+          let g_width : bits t 0 5 + 1 ≡ width = cc in
+          let last = k.4 in
+          omega arith;
+    }
+
+pub ubfx_rd : (rd : ℕ) (rn : ℕ) (low : ℕ) (width : ℕ) → is_plain rd ≡ false → Encodes ubfx (insns.BitField fields.Ubfx rd rn low width) (Err names.Rd)
+unfolding Encodes
+ubfx_rd rd rn low width  bad =
+    let d = ubfx_made 0 0 0 1 (62400 + 0) (0 / 4 * 4096 + 0 * 256 + 0 % 4 * 64 + (1 - 1)) refl refl refl (width_one 0 refl) refl refl in
+    record {
+      place = 0;
+      named = refl;
+      before = (62400 + 0, ((0 / 4 * 4096 + 0 * 256 + 0 % 4 * 64 + (1 - 1)), record { first_fits = d.first_fits; second_fits = d.second_fits; held = d.held; means = ap (prefix 0) d.means }));
+      never = λ f s h.
+          let k = ubfx_known f s h.first_fits h.second_fits h.held in
+          let same = h.means in
+          let g_rd : bits s 8 4 ≡ rd = cc in
+          both_ways _ bad (ap (λ x. is_plain x) (sym g_rd) ∙ k.0);
+    }
+
+pub ubfx_rn : (rd : ℕ) (rn : ℕ) (low : ℕ) (width : ℕ) → is_plain rd ≡ true → is_plain rn ≡ false → Encodes ubfx (insns.BitField fields.Ubfx rd rn low width) (Err names.Rn)
+unfolding Encodes
+ubfx_rn rd rn low width h0 bad =
+    let d = ubfx_made rd 0 0 1 (62400 + 0) (0 / 4 * 4096 + rd * 256 + 0 % 4 * 64 + (1 - 1)) h0 refl refl (width_one 0 refl) refl refl in
+    record {
+      place = 1;
+      named = refl;
+      before = (62400 + 0, ((0 / 4 * 4096 + rd * 256 + 0 % 4 * 64 + (1 - 1)), record { first_fits = d.first_fits; second_fits = d.second_fits; held = d.held; means = ap (prefix 1) d.means }));
+      never = λ f s h.
+          let k = ubfx_known f s h.first_fits h.second_fits h.held in
+          let same = h.means in
+          let g_rd : bits s 8 4 ≡ rd = cc in
+          let g_rn : bits f 0 4 ≡ rn = cc in
+          both_ways _ bad (ap (λ x. is_plain x) (sym g_rn) ∙ k.1);
+    }
+
+pub ubfx_low : (rd : ℕ) (rn : ℕ) (low : ℕ) (width : ℕ) → is_plain rd ≡ true → is_plain rn ≡ true → is_below 32 low ≡ false → Encodes ubfx (insns.BitField fields.Ubfx rd rn low width) (Err names.Low)
+unfolding Encodes
+ubfx_low rd rn low width h0 h1 bad =
+    let d = ubfx_made rd rn 0 1 (62400 + rn) (0 / 4 * 4096 + rd * 256 + 0 % 4 * 64 + (1 - 1)) h0 h1 refl (width_one 0 refl) refl refl in
+    record {
+      place = 2;
+      named = refl;
+      before = (62400 + rn, ((0 / 4 * 4096 + rd * 256 + 0 % 4 * 64 + (1 - 1)), record { first_fits = d.first_fits; second_fits = d.second_fits; held = d.held; means = ap (prefix 2) d.means }));
+      never = λ f s h.
+          let k = ubfx_known f s h.first_fits h.second_fits h.held in
+          let same = h.means in
+          let g_rd : bits s 8 4 ≡ rd = cc in
+          let g_rn : bits f 0 4 ≡ rn = cc in
+          let g_low : imm5_of s ≡ low = cc in
+          both_ways _ bad (ap (λ x. is_below 32 x) (sym g_low) ∙ k.2);
+    }
+
+pub ubfx_width : (rd : ℕ) (rn : ℕ) (low : ℕ) (width : ℕ) → is_plain rd ≡ true → is_plain rn ≡ true → is_below 32 low ≡ true → is_width low width ≡ false → Encodes ubfx (insns.BitField fields.Ubfx rd rn low width) (Err names.Width)
+unfolding Encodes
+ubfx_width rd rn low width h0 h1 h2 bad =
+    let d = ubfx_made rd rn low 1 (62400 + rn) (low / 4 * 4096 + rd * 256 + low % 4 * 64 + (1 - 1)) h0 h1 h2 (width_one low h2) refl refl in
+    record {
+      place = 3;
+      named = refl;
+      before = (62400 + rn, ((low / 4 * 4096 + rd * 256 + low % 4 * 64 + (1 - 1)), record { first_fits = d.first_fits; second_fits = d.second_fits; held = d.held; means = ap (prefix 3) d.means }));
+      never = λ f s h.
+          let k = ubfx_known f s h.first_fits h.second_fits h.held in
+          let same = h.means in
+          let g_rd : bits s 8 4 ≡ rd = cc in
+          let g_rn : bits f 0 4 ≡ rn = cc in
+          let g_low : imm5_of s ≡ low = cc in
+          let g_width : bits s 0 5 + 1 ≡ width = cc in
+          both_ways _ bad (ap (λ x. is_width x width) (sym g_low) ∙ ap (λ x. is_width (((imm5_of s))) x) (sym g_width) ∙ k.3);
+    }
+
+pub ruleset ubfx_laws = (ubfx_ok, ubfx_rd, ubfx_rn, ubfx_low, ubfx_width)
+
+bfi_made : (rd : ℕ) (rn : ℕ) (low : ℕ) (width : ℕ) (f s : ℕ) → is_plain rd ≡ true → is_plain rn ≡ true → is_below 32 low ≡ true → is_width low width ≡ true → f ≡ 62304 + rn → s ≡ low / 4 * 4096 + rd * 256 + low % 4 * 64 + (low + width - 1) → IsCode bfi (insns.BitField fields.Bfi rd rn low width) f s
+bfi_made rd rn low width f s h0 h1 h2 h3 e es =
+    let k0a : rd < 16 = (plain_fact rd h0).0 in
+    let k0b : plain rd ≡ true = (plain_fact rd h0).1 in
+    let k1a : rn < 16 = (plain_fact rn h1).0 in
+    let k1b : plain rn ≡ true = (plain_fact rn h1).1 in
+    let k2a : low < 32 = below_fact 32 low h2 in
+    let k3a : 1 ≤ width = (width_fact low width h3).0 in
+    let k3b : low + width ≤ 32 = (width_fact low width h3).1 in
+    let r_high : bits s 0 5 ≡ low + width - 1 = omega arith in
+    let r_rd : bits s 8 4 ≡ rd = omega arith in
+    let r_rn : bits f 0 4 ≡ rn = omega arith in
+    let r_low : imm5_of s ≡ low = omega arith in
+    let r_width : bits s 0 5 + 1 - imm5_of s ≡ width = omega arith in
+    let t0 : bits f 4 12 ≡ 3894 = omega arith in
+    let t1 : bits s 15 1 ≡ 0 = omega arith in
+    let t2 : bits s 5 1 ≡ 0 = omega arith in
+    let l : can_insert (bits s 8 4) (bits f 0 4) (imm5_of s) (bits s 0 5) ≡ true = ap (λ x. can_insert x ((bits f 0 4)) ((imm5_of s)) ((bits s 0 5))) r_rd ∙ ap (λ x. can_insert rd x ((imm5_of s)) ((bits s 0 5))) r_rn ∙ ap (λ x. can_insert rd rn x ((bits s 0 5))) r_low ∙ ap (λ x. can_insert rd rn low x) r_high ∙ (and_from _ _ (and_from _ _ k0b k1b) (insert_limit low width k3a)) in
+    record { first_fits = omega arith; second_fits = omega arith; held = made bfi (first 4 12 3894 ∷ second 15 1 0 ∷ second 5 1 0 ∷ []) f s refl (and_from _ _ (eq-eqb _ _ t0) (and_from _ _ (eq-eqb _ _ t1) (eq-eqb _ _ t2))) (ne_eqb _ _ (plain_not15 (bits f 0 4) (ap plain r_rn ∙ k1b))) l; means = cc }
+
+bfi_known : (f s : ℕ) → f < 65536 → s < 65536 → holds bfi f s ≡ true → (is_plain (bits s 8 4) ≡ true) × (is_plain (bits f 0 4) ≡ true) × (is_below 32 (imm5_of s) ≡ true) × (is_width (imm5_of s) (bits s 0 5 + 1 - imm5_of s) ≡ true) × ((62304 + (bits f 0 4)) * 65536 + ((imm5_of s) / 4 * 4096 + (bits s 8 4) * 256 + (imm5_of s) % 4 * 64 + ((imm5_of s) + (bits s 0 5 + 1 - imm5_of s) - 1)) ≤ f * 65536 + s)
+bfi_known f s a b h =
+    let t0 : bits f 4 12 ≡ 3894 = eqb-true _ _ (fixed bfi (first 4 12 3894) f s refl h) in
+    let t1 : bits s 15 1 ≡ 0 = eqb-true _ _ (fixed bfi (second 15 1 0) f s refl h) in
+    let t2 : bits s 5 1 ≡ 0 = eqb-true _ _ (fixed bfi (second 5 1 0) f s refl h) in
+    let parts = holds_parts bfi f s h in
+    let l : can_insert (bits s 8 4) (bits f 0 4) (imm5_of s) (bits s 0 5) ≡ true = parts.0 in
+    let p = and_parts (plain2 (bits s 8 4) (bits f 0 4)) (nat_le (imm5_of s) (bits s 0 5)) l in
+    let q = and_parts (plain (bits s 8 4)) (plain (bits f 0 4)) p.0 in
+    let below = leb-true (imm5_of s) (bits s 0 5) p.1 in
+    (plain_from (bits s 8 4) (omega arith) q.0, plain_from (bits f 0 4) (omega arith) q.1, below_from 32 (imm5_of s) (omega arith), width_from (imm5_of s) (bits s 0 5 + 1 - imm5_of s) (omega arith) (omega arith), omega arith)
+
+pub bfi_ok : (rd : ℕ) (rn : ℕ) (low : ℕ) (width : ℕ) (f s : ℕ) → is_plain rd ≡ true → is_plain rn ≡ true → is_below 32 low ≡ true → is_width low width ≡ true → f ≡ 62304 + rn → s ≡ low / 4 * 4096 + rd * 256 + low % 4 * 64 + (low + width - 1) → Encodes bfi (insns.BitField fields.Bfi rd rn low width) (Ok (f , s))
+unfolding Encodes
+bfi_ok rd rn low width f s h0 h1 h2 h3 e es =
+    record {
+      code = bfi_made rd rn low width f s h0 h1 h2 h3 e es;
+      least = λ g t h.
+          let k = bfi_known g t h.first_fits h.second_fits h.held in
+          let same = h.means in
+          let g_rd : bits t 8 4 ≡ rd = cc in
+          let g_rn : bits g 0 4 ≡ rn = cc in
+          let g_low : imm5_of t ≡ low = cc in
+          let g_width : bits t 0 5 + 1 - imm5_of t ≡ width = cc in
+          let last = k.4 in
+          omega arith;
+    }
+
+pub bfi_rd : (rd : ℕ) (rn : ℕ) (low : ℕ) (width : ℕ) → is_plain rd ≡ false → Encodes bfi (insns.BitField fields.Bfi rd rn low width) (Err names.Rd)
+unfolding Encodes
+bfi_rd rd rn low width  bad =
+    let d = bfi_made 0 0 0 1 (62304 + 0) (0 / 4 * 4096 + 0 * 256 + 0 % 4 * 64 + (0 + 1 - 1)) refl refl refl (width_one 0 refl) refl refl in
+    record {
+      place = 0;
+      named = refl;
+      before = (62304 + 0, ((0 / 4 * 4096 + 0 * 256 + 0 % 4 * 64 + (0 + 1 - 1)), record { first_fits = d.first_fits; second_fits = d.second_fits; held = d.held; means = ap (prefix 0) d.means }));
+      never = λ f s h.
+          let k = bfi_known f s h.first_fits h.second_fits h.held in
+          let same = h.means in
+          let g_rd : bits s 8 4 ≡ rd = cc in
+          both_ways _ bad (ap (λ x. is_plain x) (sym g_rd) ∙ k.0);
+    }
+
+pub bfi_rn : (rd : ℕ) (rn : ℕ) (low : ℕ) (width : ℕ) → is_plain rd ≡ true → is_plain rn ≡ false → Encodes bfi (insns.BitField fields.Bfi rd rn low width) (Err names.Rn)
+unfolding Encodes
+bfi_rn rd rn low width h0 bad =
+    let d = bfi_made rd 0 0 1 (62304 + 0) (0 / 4 * 4096 + rd * 256 + 0 % 4 * 64 + (0 + 1 - 1)) h0 refl refl (width_one 0 refl) refl refl in
+    record {
+      place = 1;
+      named = refl;
+      before = (62304 + 0, ((0 / 4 * 4096 + rd * 256 + 0 % 4 * 64 + (0 + 1 - 1)), record { first_fits = d.first_fits; second_fits = d.second_fits; held = d.held; means = ap (prefix 1) d.means }));
+      never = λ f s h.
+          let k = bfi_known f s h.first_fits h.second_fits h.held in
+          let same = h.means in
+          let g_rd : bits s 8 4 ≡ rd = cc in
+          let g_rn : bits f 0 4 ≡ rn = cc in
+          both_ways _ bad (ap (λ x. is_plain x) (sym g_rn) ∙ k.1);
+    }
+
+pub bfi_low : (rd : ℕ) (rn : ℕ) (low : ℕ) (width : ℕ) → is_plain rd ≡ true → is_plain rn ≡ true → is_below 32 low ≡ false → Encodes bfi (insns.BitField fields.Bfi rd rn low width) (Err names.Low)
+unfolding Encodes
+bfi_low rd rn low width h0 h1 bad =
+    let d = bfi_made rd rn 0 1 (62304 + rn) (0 / 4 * 4096 + rd * 256 + 0 % 4 * 64 + (0 + 1 - 1)) h0 h1 refl (width_one 0 refl) refl refl in
+    record {
+      place = 2;
+      named = refl;
+      before = (62304 + rn, ((0 / 4 * 4096 + rd * 256 + 0 % 4 * 64 + (0 + 1 - 1)), record { first_fits = d.first_fits; second_fits = d.second_fits; held = d.held; means = ap (prefix 2) d.means }));
+      never = λ f s h.
+          let k = bfi_known f s h.first_fits h.second_fits h.held in
+          let same = h.means in
+          let g_rd : bits s 8 4 ≡ rd = cc in
+          let g_rn : bits f 0 4 ≡ rn = cc in
+          let g_low : imm5_of s ≡ low = cc in
+          both_ways _ bad (ap (λ x. is_below 32 x) (sym g_low) ∙ k.2);
+    }
+
+pub bfi_width : (rd : ℕ) (rn : ℕ) (low : ℕ) (width : ℕ) → is_plain rd ≡ true → is_plain rn ≡ true → is_below 32 low ≡ true → is_width low width ≡ false → Encodes bfi (insns.BitField fields.Bfi rd rn low width) (Err names.Width)
+unfolding Encodes
+bfi_width rd rn low width h0 h1 h2 bad =
+    let d = bfi_made rd rn low 1 (62304 + rn) (low / 4 * 4096 + rd * 256 + low % 4 * 64 + (low + 1 - 1)) h0 h1 h2 (width_one low h2) refl refl in
+    record {
+      place = 3;
+      named = refl;
+      before = (62304 + rn, ((low / 4 * 4096 + rd * 256 + low % 4 * 64 + (low + 1 - 1)), record { first_fits = d.first_fits; second_fits = d.second_fits; held = d.held; means = ap (prefix 3) d.means }));
+      never = λ f s h.
+          let k = bfi_known f s h.first_fits h.second_fits h.held in
+          let same = h.means in
+          let g_rd : bits s 8 4 ≡ rd = cc in
+          let g_rn : bits f 0 4 ≡ rn = cc in
+          let g_low : imm5_of s ≡ low = cc in
+          let g_width : bits s 0 5 + 1 - imm5_of s ≡ width = cc in
+          both_ways _ bad (ap (λ x. is_width x width) (sym g_low) ∙ ap (λ x. is_width (((imm5_of s))) x) (sym g_width) ∙ k.3);
+    }
+
+pub ruleset bfi_laws = (bfi_ok, bfi_rd, bfi_rn, bfi_low, bfi_width)
+
+bfc_made : (rd : ℕ) (rn : ℕ) (low : ℕ) (width : ℕ) (f s : ℕ) → is_plain rd ≡ true → is_same rn 0 ≡ true → is_below 32 low ≡ true → is_width low width ≡ true → f ≡ 62319 → s ≡ low / 4 * 4096 + rd * 256 + low % 4 * 64 + (low + width - 1) → IsCode bfc (insns.BitField fields.Bfc rd rn low width) f s
+bfc_made rd rn low width f s h0 h1 h2 h3 e es =
+    let k0a : rd < 16 = (plain_fact rd h0).0 in
+    let k0b : plain rd ≡ true = (plain_fact rd h0).1 in
+    let k1a : rn ≡ 0 = same_fact rn 0 h1 in
+    let k2a : low < 32 = below_fact 32 low h2 in
+    let k3a : 1 ≤ width = (width_fact low width h3).0 in
+    let k3b : low + width ≤ 32 = (width_fact low width h3).1 in
+    let r_high : bits s 0 5 ≡ low + width - 1 = omega arith in
+    let r_rd : bits s 8 4 ≡ rd = omega arith in
+    let r_low : imm5_of s ≡ low = omega arith in
+    let r_width : bits s 0 5 + 1 - imm5_of s ≡ width = omega arith in
+    let t0 : bits f 0 16 ≡ 62319 = omega arith in
+    let t1 : bits s 15 1 ≡ 0 = omega arith in
+    let t2 : bits s 5 1 ≡ 0 = omega arith in
+    let l : can_clear (bits s 8 4) (imm5_of s) (bits s 0 5) ≡ true = ap (λ x. can_clear x ((imm5_of s)) ((bits s 0 5))) r_rd ∙ ap (λ x. can_clear rd x ((bits s 0 5))) r_low ∙ ap (λ x. can_clear rd low x) r_high ∙ (and_from _ _ k0b (insert_limit low width k3a)) in
+    record { first_fits = omega arith; second_fits = omega arith; held = made bfc (first 0 16 62319 ∷ second 15 1 0 ∷ second 5 1 0 ∷ []) f s refl (and_from _ _ (eq-eqb _ _ t0) (and_from _ _ (eq-eqb _ _ t1) (eq-eqb _ _ t2))) refl l; means = cc }
+
+bfc_known : (f s : ℕ) → f < 65536 → s < 65536 → holds bfc f s ≡ true → (is_plain (bits s 8 4) ≡ true) × (is_same 0 0 ≡ true) × (is_below 32 (imm5_of s) ≡ true) × (is_width (imm5_of s) (bits s 0 5 + 1 - imm5_of s) ≡ true) × ((62319) * 65536 + ((imm5_of s) / 4 * 4096 + (bits s 8 4) * 256 + (imm5_of s) % 4 * 64 + ((imm5_of s) + (bits s 0 5 + 1 - imm5_of s) - 1)) ≤ f * 65536 + s)
+bfc_known f s a b h =
+    let t0 : bits f 0 16 ≡ 62319 = eqb-true _ _ (fixed bfc (first 0 16 62319) f s refl h) in
+    let t1 : bits s 15 1 ≡ 0 = eqb-true _ _ (fixed bfc (second 15 1 0) f s refl h) in
+    let t2 : bits s 5 1 ≡ 0 = eqb-true _ _ (fixed bfc (second 5 1 0) f s refl h) in
+    let parts = holds_parts bfc f s h in
+    let l : can_clear (bits s 8 4) (imm5_of s) (bits s 0 5) ≡ true = parts.0 in
+    let p = and_parts (plain (bits s 8 4)) (nat_le (imm5_of s) (bits s 0 5)) l in
+    let below = leb-true (imm5_of s) (bits s 0 5) p.1 in
+    (plain_from (bits s 8 4) (omega arith) p.0, same_from (0) (0) refl, below_from 32 (imm5_of s) (omega arith), width_from (imm5_of s) (bits s 0 5 + 1 - imm5_of s) (omega arith) (omega arith), omega arith)
+
+pub bfc_ok : (rd : ℕ) (rn : ℕ) (low : ℕ) (width : ℕ) (f s : ℕ) → is_plain rd ≡ true → is_same rn 0 ≡ true → is_below 32 low ≡ true → is_width low width ≡ true → f ≡ 62319 → s ≡ low / 4 * 4096 + rd * 256 + low % 4 * 64 + (low + width - 1) → Encodes bfc (insns.BitField fields.Bfc rd rn low width) (Ok (f , s))
+unfolding Encodes
+bfc_ok rd rn low width f s h0 h1 h2 h3 e es =
+    record {
+      code = bfc_made rd rn low width f s h0 h1 h2 h3 e es;
+      least = λ g t h.
+          let k = bfc_known g t h.first_fits h.second_fits h.held in
+          let same = h.means in
+          let g_rd : bits t 8 4 ≡ rd = cc in
+          let g_rn : 0 ≡ rn = cc in
+          let g_low : imm5_of t ≡ low = cc in
+          let g_width : bits t 0 5 + 1 - imm5_of t ≡ width = cc in
+          let last = k.4 in
+          omega arith;
+    }
+
+pub bfc_rd : (rd : ℕ) (rn : ℕ) (low : ℕ) (width : ℕ) → is_plain rd ≡ false → Encodes bfc (insns.BitField fields.Bfc rd rn low width) (Err names.Rd)
+unfolding Encodes
+bfc_rd rd rn low width  bad =
+    let d = bfc_made 0 0 0 1 (62319) (0 / 4 * 4096 + 0 * 256 + 0 % 4 * 64 + (0 + 1 - 1)) refl refl refl (width_one 0 refl) refl refl in
+    record {
+      place = 0;
+      named = refl;
+      before = (62319, ((0 / 4 * 4096 + 0 * 256 + 0 % 4 * 64 + (0 + 1 - 1)), record { first_fits = d.first_fits; second_fits = d.second_fits; held = d.held; means = ap (prefix 0) d.means }));
+      never = λ f s h.
+          let k = bfc_known f s h.first_fits h.second_fits h.held in
+          let same = h.means in
+          let g_rd : bits s 8 4 ≡ rd = cc in
+          both_ways _ bad (ap (λ x. is_plain x) (sym g_rd) ∙ k.0);
+    }
+
+pub bfc_rn : (rd : ℕ) (rn : ℕ) (low : ℕ) (width : ℕ) → is_plain rd ≡ true → is_same rn 0 ≡ false → Encodes bfc (insns.BitField fields.Bfc rd rn low width) (Err names.Rn)
+unfolding Encodes
+bfc_rn rd rn low width h0 bad =
+    let d = bfc_made rd 0 0 1 (62319) (0 / 4 * 4096 + rd * 256 + 0 % 4 * 64 + (0 + 1 - 1)) h0 refl refl (width_one 0 refl) refl refl in
+    record {
+      place = 1;
+      named = refl;
+      before = (62319, ((0 / 4 * 4096 + rd * 256 + 0 % 4 * 64 + (0 + 1 - 1)), record { first_fits = d.first_fits; second_fits = d.second_fits; held = d.held; means = ap (prefix 1) d.means }));
+      never = λ f s h.
+          let k = bfc_known f s h.first_fits h.second_fits h.held in
+          let same = h.means in
+          let g_rd : bits s 8 4 ≡ rd = cc in
+          let g_rn : 0 ≡ rn = cc in
+          both_ways _ bad (ap (λ x. is_same x 0) (sym g_rn) ∙ k.1);
+    }
+
+pub bfc_low : (rd : ℕ) (rn : ℕ) (low : ℕ) (width : ℕ) → is_plain rd ≡ true → is_same rn 0 ≡ true → is_below 32 low ≡ false → Encodes bfc (insns.BitField fields.Bfc rd rn low width) (Err names.Low)
+unfolding Encodes
+bfc_low rd rn low width h0 h1 bad =
+    let d = bfc_made rd rn 0 1 (62319) (0 / 4 * 4096 + rd * 256 + 0 % 4 * 64 + (0 + 1 - 1)) h0 h1 refl (width_one 0 refl) refl refl in
+    record {
+      place = 2;
+      named = refl;
+      before = (62319, ((0 / 4 * 4096 + rd * 256 + 0 % 4 * 64 + (0 + 1 - 1)), record { first_fits = d.first_fits; second_fits = d.second_fits; held = d.held; means = ap (prefix 2) d.means }));
+      never = λ f s h.
+          let k = bfc_known f s h.first_fits h.second_fits h.held in
+          let same = h.means in
+          let g_rd : bits s 8 4 ≡ rd = cc in
+          let g_rn : 0 ≡ rn = cc in
+          let g_low : imm5_of s ≡ low = cc in
+          both_ways _ bad (ap (λ x. is_below 32 x) (sym g_low) ∙ k.2);
+    }
+
+pub bfc_width : (rd : ℕ) (rn : ℕ) (low : ℕ) (width : ℕ) → is_plain rd ≡ true → is_same rn 0 ≡ true → is_below 32 low ≡ true → is_width low width ≡ false → Encodes bfc (insns.BitField fields.Bfc rd rn low width) (Err names.Width)
+unfolding Encodes
+bfc_width rd rn low width h0 h1 h2 bad =
+    let d = bfc_made rd rn low 1 (62319) (low / 4 * 4096 + rd * 256 + low % 4 * 64 + (low + 1 - 1)) h0 h1 h2 (width_one low h2) refl refl in
+    record {
+      place = 3;
+      named = refl;
+      before = (62319, ((low / 4 * 4096 + rd * 256 + low % 4 * 64 + (low + 1 - 1)), record { first_fits = d.first_fits; second_fits = d.second_fits; held = d.held; means = ap (prefix 3) d.means }));
+      never = λ f s h.
+          let k = bfc_known f s h.first_fits h.second_fits h.held in
+          let same = h.means in
+          let g_rd : bits s 8 4 ≡ rd = cc in
+          let g_rn : 0 ≡ rn = cc in
+          let g_low : imm5_of s ≡ low = cc in
+          let g_width : bits s 0 5 + 1 - imm5_of s ≡ width = cc in
+          both_ways _ bad (ap (λ x. is_width x width) (sym g_low) ∙ ap (λ x. is_width (((imm5_of s))) x) (sym g_width) ∙ k.3);
+    }
+
+pub ruleset bfc_laws = (bfc_ok, bfc_rd, bfc_rn, bfc_low, bfc_width)
 

@@ -1,11 +1,11 @@
 -- What the tests of numbers say.
-use Rattle.std.proofs.Common.{◌≡◌, ◌≢◌, ℕ, zero, suc, ◌+◌, ◌-◌, ◌*◌, ◌/◌, ◌%◌, ◌<◌, ◌≤◌, Bool, true, false, refl, sym, ap, ◌∙◌, arith}
+use Rattle.std.proofs.Common.{◌≡◌, ◌≢◌, ℕ, zero, suc, ◌+◌, ◌-◌, ◌*◌, ◌/◌, ◌%◌, ◌^◌, ◌<◌, ◌≤◌, Bool, true, false, refl, sym, ap, ◌∙◌, arith}
 use Rattle.std.specs.Prelude.{ℤ, pos, negsuc, neg_ℤ, nat_abs, ◌==◌, ◌&&◌, nat_lt, nat_le, int_le, int_lt, not, if◌then◌else◌}
 use Rattle.std.proofs.lemmas.Bool.{and_from, and_parts, cond-false, ne_eqb, ltb-true, lt-ltb, leb-true, eqb-true, eq-eqb}
 use Rattle.std.proofs.lemmas.Bool.Decides.{nat_tests}
 use Rattle.std.proofs.lemmas.Int.{ints}
-use Rattle.tz_encode.specs.Tests.{is_low, is_below, is_same, is_stepped, is_counted, is_plain, is_base, is_forward, is_backward, is_near, is_reach, is_high_operand, is_mask, is_plain_other, is_amount, kind_for, imm5_for, is_sum_rd, is_sum_rn, is_sum_amount, is_bare, is_left, is_move_rd, is_move_rm, is_move_amount, is_constant, is_saturation, is_width}
-use Rattle.tz_table.specs.Limits.{plain, not_pc, not_zero, can_add_high, can_compare_high, can_exchange, can_begin, plain2_same, plain4, can_multiply_long, can_add, can_add_register, can_move, copies_zero}
+use Rattle.tz_encode.specs.Tests.{is_low, is_below, is_same, is_stepped, is_counted, is_plain, is_base, is_forward, is_backward, is_near, is_reach, is_high_operand, is_mask, is_plain_other, is_amount, kind_for, imm5_for, is_sum_rd, is_sum_rn, is_sum_amount, is_bare, is_left, is_move_rd, is_move_rm, is_move_amount, is_constant, is_saturation, is_width, is_base_other, is_load_rt, is_store_rt, raw_of, of_positive}
+use Rattle.tz_table.specs.Limits.{plain, not_pc, not_zero, can_add_high, can_compare_high, can_exchange, can_begin, plain2_same, plain4, can_multiply_long, can_add, can_add_register, can_move, can_load, can_store, copies_zero}
 use Rattle.tz_table.specs.declared.Flags.{Flags}
 use Rattle.tz_table.specs.declared.Flags.TheVariants as flags
 use Rattle.tz_table.specs.declared.Shift.{Shift}
@@ -420,3 +420,84 @@ move_zero sets shift = refl
 
 pub sum_rn_not_pc : (d n : ℕ) → is_sum_rn d n ≡ true → not_pc n ≡ true
 sum_rn_not_pc d n h = grind (arith, nat_tests)
+
+-- ---- signed distances
+
+even_twice : (half n : ℕ) → half % 2 ≡ 0 → n % 2 ≡ 0 → n ≤ half → (2 * half - n) % 2 ≡ 0
+even_twice half n a b h = omega arith
+
+pub reach_fact : (half : ℕ) (z : ℤ) → half % 2 ≡ 0 → is_reach half z ≡ true → (raw_of half z < 2 * half) × (raw_of half z % 2 ≡ 0) × (signed_by half (raw_of half z) ≡ z)
+reach_fact half z e h = (grind (arith, ints, nat_tests), grind (arith, ints, nat_tests), grind (arith, ints, nat_tests))
+
+pub raw_signed : (half v : ℕ) → v < 2 * half → raw_of half (signed_by half v) ≡ v
+raw_signed half v h = grind (arith, ints, nat_tests)
+
+pub reach_from : (half v : ℕ) → half % 2 ≡ 0 → v < 2 * half → v % 2 ≡ 0 → is_reach half (signed_by half v) ≡ true
+reach_from half v e h k = grind (arith, ints, nat_tests)
+
+-- ---- distances with a bit for the sign
+
+pub positive_fits : (z : ℤ) → of_positive z < 2
+positive_fits z = grind (arith, ints, nat_tests)
+
+pub near_made : (z : ℤ) (u n : ℕ) → u ≡ of_positive z → n ≡ nat_abs z → plus_or_minus u n ≡ z
+near_made z u n a b = grind (arith, ints, nat_tests)
+
+pub near_abs : (u n : ℕ) → nat_abs (plus_or_minus u n) ≡ n
+near_abs u n = grind (arith, ints, nat_tests)
+
+pub near_positive : (u n : ℕ) → u < 2 → of_positive (plus_or_minus u n) ≤ u
+near_positive u n h = grind (arith, ints, nat_tests)
+
+pub near_from : (unit limit : ℕ) (z : ℤ) → nat_abs z < limit → nat_abs z % unit ≡ 0 → is_near unit limit z ≡ true
+near_from unit limit z h e = stepped_from unit limit (nat_abs z) h e
+
+-- ---- loads and stores
+
+pub base_other_fact : (other r : ℕ) → is_base_other other r ≡ true → (r < 16) × (not_pc r ≡ true) × (not (r == other) ≡ true)
+base_other_fact other r h =
+    let p = and_parts (is_base r) (not (r == other)) h in
+    let q = base_fact r p.0 in
+    (q.0, q.1, p.1)
+
+pub base_other_from : (other r : ℕ) → r < 16 → not_pc r ≡ true → not (r == other) ≡ true → is_base_other other r ≡ true
+base_other_from other r h p q = and_from _ _ (base_from r h p) q
+
+pub saturation_one : (asr : ℕ) → is_saturation asr 1 ≡ true
+saturation_one asr = grind (arith, nat_tests)
+
+pub extract_limit : (low width : ℕ) → 1 ≤ width → low + width ≤ 32 → nat_le (low + (width - 1) + 1) 32 ≡ true
+extract_limit low width h k = grind (arith, nat_tests)
+
+pub insert_limit : (low width : ℕ) → 1 ≤ width → nat_le low (low + width - 1) ≡ true
+insert_limit low width h = grind (arith, nat_tests)
+
+pub width_one : (low : ℕ) → is_below 32 low ≡ true → is_width low 1 ≡ true
+width_one low h = let p = below_fact 32 low h in width_from low 1 (omega arith) (omega arith)
+
+pub preload_not : (size rt : ℕ) → can_load size rt ≡ true → (size == 0 && rt == 15) ≡ false
+preload_not size rt h = grind (arith, nat_tests)
+
+pub ldr_zero : (size : ℕ) → is_load_rt size 0 ≡ true
+ldr_zero size = grind (arith, nat_tests)
+
+pub str_zero : (size : ℕ) → is_store_rt size 0 ≡ true
+str_zero size = grind (arith, nat_tests)
+
+-- ---- the parts of a far offset
+
+pub record Far (v s h j k l : ℕ) : Type 0 where
+  pub sign : v / 16777216 ≡ s
+  pub high : v / 4096 % 1024 ≡ h
+  pub low : v / 2 % 2048 ≡ l
+  pub j_is : 1 - (v / 8388608 % 2 + v / 16777216) % 2 ≡ j
+  pub k_is : 1 - (v / 4194304 % 2 + v / 16777216) % 2 ≡ k
+
+pub far_back : (v s h j k l : ℕ) → s < 2 → h < 1024 → j < 2 → k < 2 → l < 2048 → s * 2 ^ 24 + (1 - (j + s) % 2) * 2 ^ 23 + (1 - (k + s) % 2) * 2 ^ 22 + h * 2 ^ 12 + l * 2 ≡ v → Far v s h j k l
+far_back v s h j k l a b d e g x =
+    let i1 : 1 - (j + s) % 2 < 2 = omega arith in
+    let i2 : 1 - (k + s) % 2 < 2 = omega arith in
+    let sg : v / 16777216 ≡ s = omega arith in
+    let ii : v / 8388608 % 2 ≡ 1 - (j + s) % 2 = omega arith in
+    let mm : v / 4194304 % 2 ≡ 1 - (k + s) % 2 = omega arith in
+    record { sign = sg; high = omega arith; low = omega arith; j_is = omega arith; k_is = omega arith }

@@ -4,4 +4,6 @@ pub mod Facts
 pub mod NarrowCodes
 pub mod RegisterCodes
 pub mod ConstantCodes
+pub mod BranchCodes
+pub mod LoadCodes
 pub mod ArithmeticCodes

@@ -1,10 +1,10 @@
 -- Tests of a number that one field of a row holds.
-use Rattle.std.specs.Prelude.{ℕ, ◌+◌, ◌*◌, ◌/◌, ◌%◌, ◌^◌, Bool, true, false, not, ◌&&◌, ◌||◌, ◌==◌, nat_lt, nat_le, ℤ, pos, neg_ℤ, nat_abs, int_le, int_lt, Result, Ok, Err}
+use Rattle.std.specs.Prelude.{ℕ, ◌+◌, ◌-◌, ◌*◌, ◌/◌, ◌%◌, ◌^◌, Bool, true, false, not, ◌&&◌, ◌||◌, ◌==◌, nat_lt, nat_le, ℤ, pos, neg_ℤ, nat_abs, int_le, int_lt, if◌then◌else◌, Result, Ok, Err}
 use Rattle.tz_encode.specs.Codes.{code_of}
 use Rattle.tz_encode.specs.declared.error.FieldName.{FieldName}
 use Rattle.tz_encode.specs.declared.error.EncodeError.{EncodeError}
 use Rattle.tz_encode.specs.declared.error.EncodeError.TheVariants.{Range}
-use Rattle.tz_table.specs.Limits.{plain, plain2, not_pc, not_zero, copies_zero, is_special, can_add_high, can_compare_high, can_exchange, can_begin, can_store_many}
+use Rattle.tz_table.specs.Limits.{plain, plain2, can_load, can_store, not_pc, not_zero, copies_zero, is_special, can_add_high, can_compare_high, can_exchange, can_begin, can_store_many}
 use Rattle.tz_table.specs.declared.Code.{Code}
 use Rattle.tz_table.specs.declared.Shift.{Shift}
 use Rattle.tz_table.specs.declared.Shift.TheVariants as shifts
@@ -125,6 +125,28 @@ is_saturation asr n = nat_lt n 32 && not (asr == 1 && n == 0)
 -- the width of a field that begins at low
 abbrev pub is_width : ℕ → ℕ → Bool
 is_width low n = nat_le 1 n && nat_le (low + n) 32
+
+-- ---- loads and stores; sizes are 0 byte, 1 half, 2 word
+
+abbrev pub is_load_rt : ℕ → ℕ → Bool
+is_load_rt size rt = nat_lt rt 16 && can_load size rt
+
+abbrev pub is_store_rt : ℕ → ℕ → Bool
+is_store_rt size rt = nat_lt rt 16 && can_store size rt
+
+-- a base that isn't the other register
+abbrev pub is_base_other : ℕ → ℕ → Bool
+is_base_other other rn = is_base rn && not (rn == other)
+
+-- ---- distances
+
+-- the number of bits that a signed distance stands as
+abbrev pub raw_of : ℕ → ℤ → ℕ
+raw_of half z = if int_lt z (pos 0) then 2 * half - nat_abs z else nat_abs z
+
+-- the bit U of a distance: 0 is written as minus 0
+abbrev pub of_positive : ℤ → ℕ
+of_positive z = if int_lt (pos 0) z then 1 else 0
 
 -- ---- other rows
 

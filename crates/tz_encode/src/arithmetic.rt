@@ -1,6 +1,6 @@
 //! The codes of arithmetic of 32 bits, row by row: the least code, or the first field that no code has.
 
-ghost use Rattle.std.specs.Prelude.{◌≡◌, ◌<◌, true, false};
+ghost use Rattle.std.specs.Prelude.{◌≡◌, ◌<◌, ◌==◌, ◌&&◌, true, false};
 ghost use Rattle.tz_encode.specs.Codes.{Encodes};
 ghost use Rattle.tz_table.specs.ArithmeticRows.{shift_reg_w, sxth_w, uxth_w, sxtb_w, uxtb_w, rev_w, rev16_w, rbit, revsh_w, clz, mla, mls, mul_w, sdiv, udiv, smull, umull, smlal, umlal, vlstm};
 ghost use Rattle.tz_table.specs.Terms.{is_one, flags_of, shift_of, imm_shift_of, size_of};

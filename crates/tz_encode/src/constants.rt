@@ -1,15 +1,16 @@
 //! The codes of instructions of 32 bits with a constant, row by row: the least code, or the first field that no code has.
 
-ghost use Rattle.std.specs.Prelude.{◌≡◌, ◌<◌, true, false};
+ghost use Rattle.std.specs.Prelude.{◌≡◌, ◌<◌, ◌==◌, ◌&&◌, true, false};
 ghost use Rattle.tz_encode.specs.Codes.{Encodes};
-ghost use Rattle.tz_table.specs.DataRows.{and_imm_w, bic_imm_w, orr_imm_w, orn_imm_w, eor_imm_w, add_imm_w, adc_imm_w, sbc_imm_w, sub_imm_w, rsb_imm_w, mov_imm_w, mvn_imm_w, tst_imm_w, teq_imm_w, cmn_imm_w, cmp_imm_w, addw, subw, adr_after, adr_before, movw};
+ghost use Rattle.tz_table.specs.DataRows.{and_imm_w, bic_imm_w, orr_imm_w, orn_imm_w, eor_imm_w, add_imm_w, adc_imm_w, sbc_imm_w, sub_imm_w, rsb_imm_w, mov_imm_w, mvn_imm_w, tst_imm_w, teq_imm_w, cmn_imm_w, cmp_imm_w, addw, subw, adr_after, adr_before, movw, ssat, usat, sbfx, ubfx, bfi, bfc};
 ghost use Rattle.tz_table.specs.Terms.{is_one, flags_of, shift_of, imm_shift_of, size_of};
 ghost use Rattle.tz_table.specs.declared.DataOp.TheVariants as ops;
+ghost use Rattle.tz_table.specs.declared.FieldOp.TheVariants as fields;
 ghost use Rattle.tz_table.specs.declared.Flags.TheVariants as flags;
 ghost use Rattle.tz_table.specs.declared.Insn.TheVariants as insns;
 
 use crate::error::FieldName;
-use crate::tests::{Halves, is_sum_rn, is_constant, is_backward, is_base, is_below, is_forward, is_plain, is_same, magnitude};
+use crate::tests::{Halves, is_sum_rn, is_constant, is_saturation, is_width, is_backward, is_base, is_below, is_counted, is_forward, is_plain, is_same, magnitude};
 
 /// AND of a constant.
 #[tactic(auto, using(crate::proofs::ConstantCodes::and_imm_w_laws))]
@@ -351,6 +352,116 @@ pub fn movw(top: u16, rd: u8, imm: u16) -> Result<Halves, FieldName>
         Err(FieldName::Imm)
     } else {
         Ok((62016 + top * 128 + imm / 2048 % 2 * 1024 + imm / 4096, imm / 256 % 8 * 4096 + u16::from(rd) * 256 + imm % 256))
+    }
+}
+
+/// SSAT.
+#[tactic(auto, using(crate::proofs::ConstantCodes::ssat_laws))]
+pub fn ssat(asr: u16, rd: u8, rn: u8, count: u8, amount: u8) -> Result<Halves, FieldName>
+    requires { asr < 2 }
+    ensures { Encodes ssat (insns.Saturate true rd rn count (is_one asr) amount) result }
+{
+    if !is_plain(rd) {
+        Err(FieldName::Rd)
+    } else if !is_plain(rn) {
+        Err(FieldName::Rn)
+    } else if !is_counted(32, count) {
+        Err(FieldName::Bits)
+    } else if !is_saturation(asr, amount) {
+        Err(FieldName::Amount)
+    } else {
+        Ok((62208 + asr * 32 + u16::from(rn), u16::from(amount) / 4 * 4096 + u16::from(rd) * 256 + u16::from(amount) % 4 * 64 + (u16::from(count) - 1)))
+    }
+}
+
+/// USAT.
+#[tactic(auto, using(crate::proofs::ConstantCodes::usat_laws))]
+pub fn usat(asr: u16, rd: u8, rn: u8, count: u8, amount: u8) -> Result<Halves, FieldName>
+    requires { asr < 2 }
+    ensures { Encodes usat (insns.Saturate false rd rn count (is_one asr) amount) result }
+{
+    if !is_plain(rd) {
+        Err(FieldName::Rd)
+    } else if !is_plain(rn) {
+        Err(FieldName::Rn)
+    } else if !is_below(32, u32::from(count)) {
+        Err(FieldName::Bits)
+    } else if !is_saturation(asr, amount) {
+        Err(FieldName::Amount)
+    } else {
+        Ok((62336 + asr * 32 + u16::from(rn), u16::from(amount) / 4 * 4096 + u16::from(rd) * 256 + u16::from(amount) % 4 * 64 + u16::from(count)))
+    }
+}
+
+/// SBFX.
+#[tactic(auto, using(crate::proofs::ConstantCodes::sbfx_laws))]
+pub fn sbfx(rd: u8, rn: u8, low: u8, width: u8) -> Result<Halves, FieldName>
+    ensures { Encodes sbfx (insns.BitField fields.Sbfx rd rn low width) result }
+{
+    if !is_plain(rd) {
+        Err(FieldName::Rd)
+    } else if !is_plain(rn) {
+        Err(FieldName::Rn)
+    } else if !is_below(32, u32::from(low)) {
+        Err(FieldName::Low)
+    } else if !is_width(low, width) {
+        Err(FieldName::Width)
+    } else {
+        Ok((62272 + u16::from(rn), u16::from(low) / 4 * 4096 + u16::from(rd) * 256 + u16::from(low) % 4 * 64 + (u16::from(width) - 1)))
+    }
+}
+
+/// UBFX.
+#[tactic(auto, using(crate::proofs::ConstantCodes::ubfx_laws))]
+pub fn ubfx(rd: u8, rn: u8, low: u8, width: u8) -> Result<Halves, FieldName>
+    ensures { Encodes ubfx (insns.BitField fields.Ubfx rd rn low width) result }
+{
+    if !is_plain(rd) {
+        Err(FieldName::Rd)
+    } else if !is_plain(rn) {
+        Err(FieldName::Rn)
+    } else if !is_below(32, u32::from(low)) {
+        Err(FieldName::Low)
+    } else if !is_width(low, width) {
+        Err(FieldName::Width)
+    } else {
+        Ok((62400 + u16::from(rn), u16::from(low) / 4 * 4096 + u16::from(rd) * 256 + u16::from(low) % 4 * 64 + (u16::from(width) - 1)))
+    }
+}
+
+/// BFI.
+#[tactic(auto, using(crate::proofs::ConstantCodes::bfi_laws))]
+pub fn bfi(rd: u8, rn: u8, low: u8, width: u8) -> Result<Halves, FieldName>
+    ensures { Encodes bfi (insns.BitField fields.Bfi rd rn low width) result }
+{
+    if !is_plain(rd) {
+        Err(FieldName::Rd)
+    } else if !is_plain(rn) {
+        Err(FieldName::Rn)
+    } else if !is_below(32, u32::from(low)) {
+        Err(FieldName::Low)
+    } else if !is_width(low, width) {
+        Err(FieldName::Width)
+    } else {
+        Ok((62304 + u16::from(rn), u16::from(low) / 4 * 4096 + u16::from(rd) * 256 + u16::from(low) % 4 * 64 + (u16::from(low) + u16::from(width) - 1)))
+    }
+}
+
+/// BFC.
+#[tactic(auto, using(crate::proofs::ConstantCodes::bfc_laws))]
+pub fn bfc(rd: u8, rn: u8, low: u8, width: u8) -> Result<Halves, FieldName>
+    ensures { Encodes bfc (insns.BitField fields.Bfc rd rn low width) result }
+{
+    if !is_plain(rd) {
+        Err(FieldName::Rd)
+    } else if !is_same(u16::from(rn), 0) {
+        Err(FieldName::Rn)
+    } else if !is_below(32, u32::from(low)) {
+        Err(FieldName::Low)
+    } else if !is_width(low, width) {
+        Err(FieldName::Width)
+    } else {
+        Ok((62319, u16::from(low) / 4 * 4096 + u16::from(rd) * 256 + u16::from(low) % 4 * 64 + (u16::from(low) + u16::from(width) - 1)))
     }
 }
 

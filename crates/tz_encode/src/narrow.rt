@@ -1,6 +1,6 @@
 //! The codes of instructions of 16 bits, row by row: the least code, or the first field that no code has.
 
-ghost use Rattle.std.specs.Prelude.{◌≡◌, ◌<◌, true, false};
+ghost use Rattle.std.specs.Prelude.{◌≡◌, ◌<◌, ◌==◌, ◌&&◌, true, false};
 ghost use Rattle.tz_encode.specs.Codes.{Encodes};
 ghost use Rattle.tz_table.specs.NarrowRows.{lsl_imm, lsr_imm, asr_imm, add_reg, sub_reg, add_imm3, sub_imm3, mov_imm8, cmp_imm8, add_imm8, sub_imm8, and_low, eor_low, lsl_low, lsr_low, asr_low, adc_low, sbc_low, ror_low, tst_low, rsb_low, cmp_low, cmn_low, orr_low, mul_low, bic_low, mvn_low, add_high, cmp_high, mov_high, bx, blx, ldr_literal, str_index, strh_index, strb_index, ldrsb_index, ldr_index, ldrh_index, ldrb_index, ldrsh_index, str_offset, ldr_offset, strb_offset, ldrb_offset, strh_offset, ldrh_offset, str_sp, ldr_sp, adr, add_sp_imm8, add_sp_imm7, cbz, sxth, sxtb, uxth, uxtb, rev, rev16, revsh, bkpt, udf, svc, hint};
 ghost use Rattle.tz_table.specs.Terms.{is_one, flags_of, shift_of, imm_shift_of, size_of};

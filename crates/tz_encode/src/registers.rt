@@ -1,6 +1,6 @@
 //! The codes of instructions of 32 bits with a shifted register, row by row: the least code, or the first field that no code has.
 
-ghost use Rattle.std.specs.Prelude.{◌≡◌, ◌<◌, true, false};
+ghost use Rattle.std.specs.Prelude.{◌≡◌, ◌<◌, ◌==◌, ◌&&◌, true, false};
 ghost use Rattle.tz_encode.specs.Codes.{Encodes};
 ghost use Rattle.tz_table.specs.DataRows.{and_reg_w, bic_reg_w, orr_reg_w, orn_reg_w, eor_reg_w, add_reg_w, adc_reg_w, sbc_reg_w, sub_reg_w, rsb_reg_w, mvn_reg_w, mov_reg_w, tst_reg_w, teq_reg_w, cmn_reg_w, cmp_reg_w};
 ghost use Rattle.tz_table.specs.Terms.{is_one, flags_of, shift_of, imm_shift_of, size_of};

@@ -1,7 +1,7 @@
 //! Tests of the numbers that one field of a row holds, and the halves of codes.
 
 ghost use Rattle.std.specs.Prelude.{◌≡◌, ◌≤◌, ◌<◌, ◌+◌, ◌*◌, ◌/◌, ◌%◌, IsTrue, nat_abs, pos, ◌≤ℤ◌, ◌<ℤ◌, neg_ℤ};
-ghost use Rattle.tz_encode.specs.Tests.{is_low as is_low_of, is_below as is_below_of, is_same as is_same_of, is_stepped as is_stepped_of, is_counted as is_counted_of, is_plain as is_plain_of, is_base as is_base_of, is_plain_other as is_plain_other_of, is_forward as is_forward_of, is_backward as is_backward_of, is_near as is_near_of, is_reach as is_reach_of, kind_for as kind_for_of, imm5_for as imm5_for_of, is_amount as is_amount_of, is_left as is_left_of, is_sum_rd as is_sum_rd_of, is_sum_rn as is_sum_rn_of, is_sum_amount as is_sum_amount_of, is_bare as is_bare_of, is_move_rd as is_move_rd_of, is_move_rm as is_move_rm_of, is_move_amount as is_move_amount_of, is_constant as is_constant_of, is_saturation as is_saturation_of, is_width as is_width_of, is_sysm as is_sysm_of, is_table as is_table_of, is_high_addend as is_high_addend_of, is_high_operand as is_high_operand_of, is_target as is_target_of, is_mask as is_mask_of, is_store_list as is_store_list_of, is_load_list as is_load_list_of, is_list_with as is_list_with_of, answer_of};
+ghost use Rattle.tz_encode.specs.Tests.{is_low as is_low_of, is_below as is_below_of, is_same as is_same_of, is_stepped as is_stepped_of, is_counted as is_counted_of, is_plain as is_plain_of, is_base as is_base_of, is_plain_other as is_plain_other_of, is_forward as is_forward_of, is_backward as is_backward_of, is_near as is_near_of, is_reach as is_reach_of, is_load_rt as is_load_rt_of, is_store_rt as is_store_rt_of, is_base_other as is_base_other_of, raw_of, of_positive, kind_for as kind_for_of, imm5_for as imm5_for_of, is_amount as is_amount_of, is_left as is_left_of, is_sum_rd as is_sum_rd_of, is_sum_rn as is_sum_rn_of, is_sum_amount as is_sum_amount_of, is_bare as is_bare_of, is_move_rd as is_move_rd_of, is_move_rm as is_move_rm_of, is_move_amount as is_move_amount_of, is_constant as is_constant_of, is_saturation as is_saturation_of, is_width as is_width_of, is_sysm as is_sysm_of, is_table as is_table_of, is_high_addend as is_high_addend_of, is_high_operand as is_high_operand_of, is_target as is_target_of, is_mask as is_mask_of, is_store_list as is_store_list_of, is_load_list as is_load_list_of, is_list_with as is_list_with_of, answer_of};
 ghost use Rattle.tz_table.specs.Limits.{plain as plain_of, is_single as is_single_of, is_listed as is_listed_of};
 
 use crate::error::{EncodeError, FieldName};
@@ -280,6 +280,50 @@ pub fn is_table(rn: u8) -> bool
     ensures bound { IsTrue result → rn < 16 }
 {
     rn < 16 && rn != 13
+}
+
+/// The register of a load.
+pub fn is_load_rt(size: u16, rt: u8) -> bool
+    ensures word { result ≡ is_load_rt_of size rt }
+    ensures bound { IsTrue result → rt < 16 }
+{
+    rt < 16 && (size == 2 || plain(rt))
+}
+
+/// The register of a store.
+pub fn is_store_rt(size: u16, rt: u8) -> bool
+    ensures word { result ≡ is_store_rt_of size rt }
+    ensures bound { IsTrue result → rt < 16 }
+{
+    rt < 16 && (rt != 15 && (size == 2 || rt != 13))
+}
+
+/// A base that isn't the other register.
+pub fn is_base_other(other: u8, rn: u8) -> bool
+    ensures word { result ≡ is_base_other_of other rn }
+    ensures bound { IsTrue result → rn < 16 }
+{
+    is_base(rn) && rn != other
+}
+
+/// The bits that a signed distance stands as.
+pub fn raw(half: u32, offset: i32) -> u32
+    requires { (half ≤ 0x1000000) × (nat_abs offset ≤ half) }
+    ensures { result ≡ raw_of half offset }
+{
+    if offset < 0 {
+        2 * half - magnitude(offset)
+    } else {
+        magnitude(offset)
+    }
+}
+
+/// The bit U of a distance: 0 is written as minus 0.
+pub fn positive(offset: i32) -> u16
+    ensures word { result ≡ of_positive offset }
+    ensures bound { result < 2 }
+{
+    if 0 < offset { 1 } else { 0 }
 }
 
 /// A register of a sum with `rd`.
