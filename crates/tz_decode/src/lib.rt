@@ -14,13 +14,19 @@ ghost use Rattle.tz_table.specs.declared.Decoded.TheVariants.{One};
 
 mod arithmetic;
 mod branches;
+#[cfg(test)]
+mod codes;
 mod constants;
 mod fields;
 mod limits;
 mod loads;
 mod multiples;
 mod narrow;
+#[cfg(test)]
+mod numbers;
 mod registers;
+#[cfg(test)]
+mod tests;
 mod wide;
 
 pub use tz_table::Decoded;
