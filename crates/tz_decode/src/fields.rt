@@ -1,6 +1,6 @@
 //! Fields of codes, and the numbers and enums that they stand for.
 
-ghost use Rattle.std.specs.Prelude.{◌≡◌, ◌+◌, ◌*◌, ◌<◌, ◌≤◌, if◌then◌else◌};
+ghost use Rattle.std.specs.Prelude.{◌≡◌, ◌==◌, ◌&&◌, ◌+◌, ◌*◌, ◌<◌, ◌≤◌, if◌then◌else◌};
 ghost use Rattle.tz_table.specs.Fields.{bits};
 ghost use Rattle.tz_table.specs.Terms.{flags_of, shift_of, imm_shift_of, imm_amount_of, size_of, signed_by, plus_or_minus as plus_or_minus_of, imm12_of, imm5_of, high_register as high_register_of, indexed as indexed_of, far_offset as far_offset_of, condition_offset as condition_offset_of};
 ghost use Rattle.tz_table.specs.declared.Decoded.TheVariants.{One, Undefined};
@@ -188,4 +188,18 @@ pub fn condition_offset(first: u16, second: u16) -> u32
     let high = u32::from(field(first, 0, 6));
     let low = u32::from(long_field(second, 0, 11));
     sign * 0x10_0000 + k * 0x8_0000 + j * 0x4_0000 + high * 0x1000 + low * 2
+}
+
+/// Both tests: a load of a byte into PC preloads.
+pub fn is_preload(size: u8, rt: u8) -> bool
+    ensures { result ≡ (size == 0 && rt == 15) }
+{
+    size == 0 && rt == 15
+}
+
+/// Both tests: a word has no sign.
+pub fn is_signed_word(signed: u8, size: u8) -> bool
+    ensures { result ≡ (signed == 1 && size == 2) }
+{
+    signed == 1 && size == 2
 }

@@ -18,7 +18,6 @@ mod branches;
 mod codes;
 mod constants;
 mod fields;
-mod limits;
 mod loads;
 mod multiples;
 mod narrow;

@@ -12,11 +12,8 @@ ghost use Rattle.tz_table.specs.declared.Flags.TheVariants as flags;
 ghost use Rattle.tz_table.specs.declared.Insn.TheVariants as insns;
 ghost use Rattle.tz_table.specs.declared.Width.TheVariants.{Wide};
 
-use crate::fields::{field, indexed, long_field, plus_or_minus, size, wide_if};
-use crate::limits::{
-    can_load, can_load_back, can_load_index, can_store, can_store_back, can_store_index,
-    is_preload, is_signed_word, plain,
-};
+use crate::fields::{is_preload, is_signed_word, field, indexed, long_field, plus_or_minus, size, wide_if};
+use tz_table::limits::{can_load, can_load_back, can_load_index, can_store, can_store_back, can_store_index, plain};
 use tz_table::{Address, Decoded, Insn, Width};
 
 /// The refusal of all codes here.

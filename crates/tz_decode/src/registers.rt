@@ -12,7 +12,7 @@ ghost use Rattle.tz_table.specs.declared.Insn.TheVariants as insns;
 ghost use Rattle.tz_table.specs.declared.Width.TheVariants.{Wide};
 
 use crate::fields::{field, flags, imm_amount, imm_shift, imm5, wide_if};
-use crate::limits::{can_add_register, can_move, plain_base, plain2, plain3};
+use tz_table::limits::{can_add_register, can_move, plain_base, plain2, plain3};
 use tz_table::{DataOp, Decoded, Flags, Insn, Width};
 
 /// The refusal of all codes here.

@@ -3,3 +3,5 @@ pub mod Cubes
 pub mod Scans
 pub mod Apart
 pub mod Data
+pub mod RowLimits
+pub mod Numbers

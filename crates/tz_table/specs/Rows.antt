@@ -1,6 +1,6 @@
 -- A row of the instruction table, what it holds, and how a code is looked up.
-use Rattle.std.specs.Prelude.{ℕ, Bool, true, ◌&&◌, List, [], ◌∷◌, if◌then◌else◌}
-use Rattle.tz_table.specs.Patterns.{Cube, Field, Pattern, fits, in_cube}
+use Rattle.std.specs.Prelude.{ℕ, zero, suc, Bool, true, false, ◌==◌, ◌&&◌, List, [], ◌∷◌, if◌then◌else◌}
+use Rattle.tz_table.specs.Patterns.{Cube, Field, Pattern, fits, has_any, in_cube}
 use Rattle.tz_table.specs.Forms.{form_of}
 use Rattle.tz_table.specs.declared.rows.Row.{Row}
 use Rattle.tz_table.specs.declared.units.Width.{Width}
@@ -61,3 +61,29 @@ row_of r = record { width = r.width; first_mask = r.pattern.cube.first_mask; fir
 abbrev pub rows_of : List TableRow → List Row
 rows_of [] = []
 rows_of (r ∷ rs) = row_of r ∷ rows_of rs
+
+-- ---- the limits of a row by its data
+
+-- the limits of the row, with the values of fields that belong to other rows
+abbrev pub keeps : TableRow → ℕ → ℕ → Bool
+keeps r f s = if has_any r.pattern.excepts f s then false else r.limits f s
+
+-- those of row k of a list; past its end there are none
+abbrev pub limits_at : List TableRow → ℕ → ℕ → ℕ → Bool
+limits_at [] k f s = true
+limits_at (r ∷ rs) zero f s = keeps r f s
+limits_at (r ∷ rs) (suc k) f s = limits_at rs k f s
+
+abbrev pub same_width : Width → Width → Bool
+same_width Narrow Narrow = true
+same_width Narrow Wide = false
+same_width Wide Narrow = false
+same_width Wide Wide = true
+
+abbrev pub same_row : Row → Row → Bool
+same_row a b = same_width a.width b.width && (a.first_mask == b.first_mask && a.first_value == b.first_value) && (a.second_mask == b.second_mask && a.second_value == b.second_value) && a.form == b.form
+
+-- the limits of the first row of the list with this data; data of no row have none
+unfoldable pub limits_of : List TableRow → Row → ℕ → ℕ → Bool
+limits_of [] row f s = true
+limits_of (r ∷ rs) row f s = if same_row (row_of r) row then keeps r f s else limits_of rs row f s

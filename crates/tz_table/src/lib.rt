@@ -5,11 +5,17 @@
 #![tactic(auto)]
 
 mod decoded;
+mod holds;
 mod instruction;
+pub mod limits;
+mod narrow_limits;
+mod parts;
 mod rows;
 mod units;
+mod wide_limits;
 
 pub use decoded::Decoded;
+pub use holds::limits_hold;
 pub use instruction::{
     Address, BarrierOp, DataOp, ExtendOp, FieldOp, Flags, Insn, LongOp, MultiplyOp, ReverseOp,
 };

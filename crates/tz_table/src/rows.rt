@@ -33,7 +33,7 @@ macro_rules! row {
     };
 }
 
-static ROWS: [Row; 189] = [
+pub static ROWS: [Row; 189] = [
     // 00000 iiiii mmm ddd: lsls rd, rm, #i; movs rd, rm where i is 0
     row!(Narrow, 0xf800, 0x0000, 0x0000, 0x0000, 26),
     // 00001 iiiii mmm ddd: lsrs rd, rm, #i; 0 is 32

@@ -301,17 +301,3 @@ pub fn can_store_index(size: u8, rt: u8, rm: u8) -> bool
 {
     can_store(size, rt) && plain(rm)
 }
-
-/// Both tests: a load of a byte into PC preloads.
-pub fn is_preload(size: u8, rt: u8) -> bool
-    ensures { result ≡ (size == 0 && rt == 15) }
-{
-    size == 0 && rt == 15
-}
-
-/// Both tests: a word has no sign.
-pub fn is_signed_word(signed: u8, size: u8) -> bool
-    ensures { result ≡ (signed == 1 && size == 2) }
-{
-    signed == 1 && size == 2
-}
