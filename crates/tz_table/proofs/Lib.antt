@@ -5,3 +5,4 @@ pub mod Apart
 pub mod Data
 pub mod RowLimits
 pub mod Numbers
+pub mod WideLimits

@@ -4,15 +4,17 @@
 //! Nothing here runs an instruction; it only names them.
 #![tactic(auto)]
 
+mod data_limits;
 mod decoded;
 mod holds;
 mod instruction;
 pub mod limits;
+mod memory_limits;
 mod narrow_limits;
+mod other_limits;
 mod parts;
 mod rows;
 mod units;
-mod wide_limits;
 
 pub use decoded::Decoded;
 pub use holds::limits_hold;

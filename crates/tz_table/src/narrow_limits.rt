@@ -9,10 +9,10 @@ ghost use Rattle.tz_table.specs.Table.{rows};
 use crate::limits::{can_add_high, can_begin, can_compare_high, can_exchange, can_store_many};
 use crate::parts::{field, high_register, long_field};
 
-/// The limits of rows 0 to 29.
-#[tactic(auto, using(crate::proofs::RowLimits::low_limits))]
-pub fn low(number: usize, first: u16, second: u16) -> bool
-    requires { (0 ≤ number) × (number < 30) }
+/// The limits of rows 0 to 7.
+#[tactic(auto, using(crate::proofs::RowLimits::from_lsl_imm_limits))]
+pub fn from_lsl_imm(number: usize, first: u16, second: u16) -> bool
+    requires { (0 ≤ number) × (number < 8) }
     ensures { result ≡ limits_at rows number first second }
 {
     match number {
@@ -23,7 +23,17 @@ pub fn low(number: usize, first: u16, second: u16) -> bool
         4 => true,
         5 => true,
         6 => true,
-        7 => true,
+        _ => true,
+    }
+}
+
+/// The limits of rows 8 to 15.
+#[tactic(auto, using(crate::proofs::RowLimits::from_cmp_imm8_limits))]
+pub fn from_cmp_imm8(number: usize, first: u16, second: u16) -> bool
+    requires { (8 ≤ number) × (number < 16) }
+    ensures { result ≡ limits_at rows number first second }
+{
+    match number {
         8 => true,
         9 => true,
         10 => true,
@@ -31,7 +41,17 @@ pub fn low(number: usize, first: u16, second: u16) -> bool
         12 => true,
         13 => true,
         14 => true,
-        15 => true,
+        _ => true,
+    }
+}
+
+/// The limits of rows 16 to 23.
+#[tactic(auto, using(crate::proofs::RowLimits::from_adc_low_limits))]
+pub fn from_adc_low(number: usize, first: u16, second: u16) -> bool
+    requires { (16 ≤ number) × (number < 24) }
+    ensures { result ≡ limits_at rows number first second }
+{
+    match number {
         16 => true,
         17 => true,
         18 => true,
@@ -39,25 +59,35 @@ pub fn low(number: usize, first: u16, second: u16) -> bool
         20 => true,
         21 => true,
         22 => true,
-        23 => true,
+        _ => true,
+    }
+}
+
+/// The limits of rows 24 to 31.
+#[tactic(auto, using(crate::proofs::RowLimits::from_mul_low_limits))]
+pub fn from_mul_low(number: usize, first: u16, second: u16) -> bool
+    requires { (24 ≤ number) × (number < 32) }
+    ensures { result ≡ limits_at rows number first second }
+{
+    match number {
         24 => true,
         25 => true,
         26 => true,
         27 => can_add_high(high_register(first), field(first, 3, 4)),
         28 => can_compare_high(high_register(first), field(first, 3, 4)),
-        _ => true,
+        29 => true,
+        30 => can_exchange(field(first, 3, 4), field(first, 2, 1)),
+        _ => can_exchange(field(first, 3, 4), field(first, 2, 1)),
     }
 }
 
-/// The limits of rows 30 to 52.
-#[tactic(auto, using(crate::proofs::RowLimits::middle_limits))]
-pub fn middle(number: usize, first: u16, second: u16) -> bool
-    requires { (30 ≤ number) × (number < 53) }
+/// The limits of rows 32 to 39.
+#[tactic(auto, using(crate::proofs::RowLimits::from_ldr_literal_limits))]
+pub fn from_ldr_literal(number: usize, first: u16, second: u16) -> bool
+    requires { (32 ≤ number) × (number < 40) }
     ensures { result ≡ limits_at rows number first second }
 {
     match number {
-        30 => can_exchange(field(first, 3, 4), field(first, 2, 1)),
-        31 => can_exchange(field(first, 3, 4), field(first, 2, 1)),
         32 => true,
         33 => true,
         34 => true,
@@ -65,7 +95,17 @@ pub fn middle(number: usize, first: u16, second: u16) -> bool
         36 => true,
         37 => true,
         38 => true,
-        39 => true,
+        _ => true,
+    }
+}
+
+/// The limits of rows 40 to 47.
+#[tactic(auto, using(crate::proofs::RowLimits::from_ldrsh_index_limits))]
+pub fn from_ldrsh_index(number: usize, first: u16, second: u16) -> bool
+    requires { (40 ≤ number) × (number < 48) }
+    ensures { result ≡ limits_at rows number first second }
+{
+    match number {
         40 => true,
         41 => true,
         42 => true,
@@ -73,11 +113,42 @@ pub fn middle(number: usize, first: u16, second: u16) -> bool
         44 => true,
         45 => true,
         46 => true,
-        47 => true,
+        _ => true,
+    }
+}
+
+/// The limits of rows 48 to 55.
+#[tactic(auto, using(crate::proofs::RowLimits::from_ldr_sp_limits))]
+pub fn from_ldr_sp(number: usize, first: u16, second: u16) -> bool
+    requires { (48 ≤ number) × (number < 56) }
+    ensures { result ≡ limits_at rows number first second }
+{
+    match number {
         48 => true,
         49 => true,
         50 => true,
         51 => true,
+        52 => true,
+        53 => true,
+        54 => true,
+        _ => true,
+    }
+}
+
+/// The limits of rows 56 to 63.
+#[tactic(auto, using(crate::proofs::RowLimits::from_uxtb_limits))]
+pub fn from_uxtb(number: usize, first: u16, second: u16) -> bool
+    requires { (56 ≤ number) × (number < 64) }
+    ensures { result ≡ limits_at rows number first second }
+{
+    match number {
+        56 => true,
+        57 => long_field(first, 0, 9) != 0,
+        58 => long_field(first, 0, 9) != 0,
+        59 => field(first, 0, 2) != 0,
+        60 => true,
+        61 => true,
+        62 => true,
         _ => true,
     }
 }
@@ -105,24 +176,13 @@ pub fn bcond(first: u16, second: u16) -> bool
     true
 }
 
-/// The limits of rows 53 to 71.
-#[tactic(auto, using(crate::proofs::RowLimits::high_limits))]
-pub fn high(number: usize, first: u16, second: u16) -> bool
-    requires { (53 ≤ number) × (number < 72) }
+/// The limits of rows 64 to 71.
+#[tactic(auto, using(crate::proofs::RowLimits::from_if_then_limits))]
+pub fn from_if_then(number: usize, first: u16, second: u16) -> bool
+    requires { (64 ≤ number) × (number < 72) }
     ensures { result ≡ limits_at rows number first second }
 {
     match number {
-        53 => true,
-        54 => true,
-        55 => true,
-        56 => true,
-        57 => long_field(first, 0, 9) != 0,
-        58 => long_field(first, 0, 9) != 0,
-        59 => field(first, 0, 2) != 0,
-        60 => true,
-        61 => true,
-        62 => true,
-        63 => true,
         64 => if_then(first, second),
         65 => true,
         66 => can_store_many(field(first, 8, 3), u16::from(field(first, 0, 8))),
