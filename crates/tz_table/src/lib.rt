@@ -14,6 +14,8 @@ mod narrow_limits;
 mod other_limits;
 mod parts;
 mod rows;
+#[cfg(test)]
+mod tests;
 mod units;
 
 pub use decoded::Decoded;
