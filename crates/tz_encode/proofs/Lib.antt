@@ -1,9 +1,0 @@
-pub mod Forms
-pub mod Finding
-pub mod Facts
-pub mod NarrowCodes
-pub mod RegisterCodes
-pub mod ConstantCodes
-pub mod BranchCodes
-pub mod LoadCodes
-pub mod ArithmeticCodes
