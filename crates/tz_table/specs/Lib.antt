@@ -1,1 +1,13 @@
 pub mod Fields
+pub mod Patterns
+pub mod Forms
+pub mod Rows
+pub mod Terms
+pub mod Limits
+pub mod NarrowRows
+pub mod MultipleRows
+pub mod DataRows
+pub mod BranchRows
+pub mod LoadRows
+pub mod ArithmeticRows
+pub mod Table

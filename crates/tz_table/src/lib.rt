@@ -4,10 +4,24 @@
 //! Nothing here runs an instruction; it only names them.
 #![tactic(auto)]
 
+mod data_limits;
+mod decoded;
+mod holds;
 mod instruction;
+pub mod limits;
+mod memory_limits;
+mod narrow_limits;
+mod other_limits;
+mod parts;
+mod rows;
+#[cfg(test)]
+mod tests;
 mod units;
 
+pub use decoded::Decoded;
+pub use holds::limits_hold;
 pub use instruction::{
     Address, BarrierOp, DataOp, ExtendOp, FieldOp, Flags, Insn, LongOp, MultiplyOp, ReverseOp,
 };
+pub use rows::{Row, row_at, row_count};
 pub use units::{Code, Shift, Side, Size, Width};

@@ -1,0 +1,89 @@
+-- A row of the instruction table, what it holds, and how a code is looked up.
+use Rattle.std.specs.Prelude.{ℕ, zero, suc, Bool, true, false, ◌==◌, ◌&&◌, List, [], ◌∷◌, if◌then◌else◌}
+use Rattle.tz_table.specs.Patterns.{Cube, Field, Pattern, fits, has_any, in_cube}
+use Rattle.tz_table.specs.Forms.{form_of}
+use Rattle.tz_table.specs.declared.rows.Row.{Row}
+use Rattle.tz_table.specs.declared.units.Width.{Width}
+use Rattle.tz_table.specs.declared.units.Width.TheVariants.{Narrow, Wide}
+use Rattle.tz_table.specs.declared.instruction.Insn.{Insn}
+use Rattle.tz_table.specs.declared.decoded.Decoded.{Decoded}
+use Rattle.tz_table.specs.declared.decoded.Decoded.TheVariants.{One, Undefined}
+
+-- the fixed bits with the values of fields that belong to other rows, the other limits, and the
+-- instruction of a code
+pub record TableRow : Type 0 where
+  pub pattern : Pattern
+  pub width : Width
+  pub limits : ℕ → ℕ → Bool
+  pub insn : ℕ → ℕ → Insn
+
+-- the code has the row's fixed bits and keeps its limits
+abbrev pub holds : TableRow → ℕ → ℕ → Bool
+holds r f s = r.limits f s && fits r.pattern f s
+
+-- what a code of a cube is where no row holds it
+pub record Refusal : Type 0 where
+  pub cube : Cube
+  pub answer : Decoded
+
+abbrev pub refused : List Refusal → ℕ → ℕ → Decoded
+refused [] f s = Undefined Narrow
+refused (r ∷ rs) f s = if in_cube r.cube f s then r.answer else refused rs f s
+
+-- the instruction of the first row that holds the code
+abbrev pub scan : List Refusal → List TableRow → ℕ → ℕ → Decoded
+scan rs [] f s = refused rs f s
+scan rs (r ∷ rest) f s = if holds r f s then One (r.insn f s) r.width else scan rs rest f s
+
+-- ---- how rows are written
+
+abbrev pub cube : ℕ → ℕ → ℕ → ℕ → Cube
+cube a b c d = record { first_mask = a; first_value = b; second_mask = c; second_value = d }
+
+-- a row of 16 bits: mask, value, values of other rows, limits, instruction
+abbrev pub narrow : ℕ → ℕ → List (List Field) → (ℕ → Bool) → (ℕ → Insn) → TableRow
+narrow mask value others limits insn = record { pattern = record { cube = cube mask value 0 0; excepts = others }; width = Narrow; limits = λ f s. limits f; insn = λ f s. insn f }
+
+-- a row of 32 bits: mask and value of either halfword, and the same
+abbrev pub wide : ℕ → ℕ → ℕ → ℕ → List (List Field) → (ℕ → ℕ → Bool) → (ℕ → ℕ → Insn) → TableRow
+wide mask value mask2 value2 others limits insn = record { pattern = record { cube = cube mask value mask2 value2; excepts = others }; width = Wide; limits = limits; insn = insn }
+
+-- no limit
+abbrev pub always : ℕ → ℕ → Bool
+always f s = true
+
+-- ---- rows as data
+
+-- the data of a row: the form is that of its instructions
+abbrev pub row_of : TableRow → Row
+row_of r = record { width = r.width; first_mask = r.pattern.cube.first_mask; first_value = r.pattern.cube.first_value; second_mask = r.pattern.cube.second_mask; second_value = r.pattern.cube.second_value; form = form_of (r.insn r.pattern.cube.first_value r.pattern.cube.second_value) }
+
+abbrev pub rows_of : List TableRow → List Row
+rows_of [] = []
+rows_of (r ∷ rs) = row_of r ∷ rows_of rs
+
+-- ---- the limits of a row by its data
+
+-- the limits of the row, with the values of fields that belong to other rows
+abbrev pub keeps : TableRow → ℕ → ℕ → Bool
+keeps r f s = if has_any r.pattern.excepts f s then false else r.limits f s
+
+-- those of row k of a list; past its end there are none
+abbrev pub limits_at : List TableRow → ℕ → ℕ → ℕ → Bool
+limits_at [] k f s = true
+limits_at (r ∷ rs) zero f s = keeps r f s
+limits_at (r ∷ rs) (suc k) f s = limits_at rs k f s
+
+abbrev pub same_width : Width → Width → Bool
+same_width Narrow Narrow = true
+same_width Narrow Wide = false
+same_width Wide Narrow = false
+same_width Wide Wide = true
+
+abbrev pub same_row : Row → Row → Bool
+same_row a b = same_width a.width b.width && (a.first_mask == b.first_mask && a.first_value == b.first_value) && (a.second_mask == b.second_mask && a.second_value == b.second_value) && a.form == b.form
+
+-- the limits of the first row of the list with this data; data of no row have none
+unfoldable pub limits_of : List TableRow → Row → ℕ → ℕ → Bool
+limits_of [] row f s = true
+limits_of (r ∷ rs) row f s = if same_row (row_of r) row then keeps r f s else limits_of rs row f s
