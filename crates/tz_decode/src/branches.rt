@@ -13,7 +13,7 @@ ghost use Rattle.tz_table.specs.declared.Insn.TheVariants as insns;
 ghost use Rattle.tz_table.specs.declared.Width.TheVariants.{Wide};
 
 use crate::fields::{condition_offset, far_offset, field, long_field, signed, wide_if};
-use tz_table::limits::{can_name};
+use tz_table::limits::can_name;
 use tz_table::{BarrierOp, Decoded, Insn, Width};
 
 /// The refusal of all codes here.

@@ -13,7 +13,10 @@ ghost use Rattle.tz_table.specs.declared.Insn.TheVariants as insns;
 ghost use Rattle.tz_table.specs.declared.Width.TheVariants.{Wide};
 
 use crate::fields::{field, flags, imm5, imm12, wide_if};
-use tz_table::limits::{can_add, can_add_constant, can_clear, can_compare, can_extract, can_insert, can_saturate, can_set, can_set_from, plain};
+use tz_table::limits::{
+    can_add, can_add_constant, can_clear, can_compare, can_extract, can_insert, can_saturate,
+    can_set, can_set_from, plain,
+};
 use tz_table::{DataOp, Decoded, FieldOp, Flags, Insn, Width};
 
 /// The refusal of all codes here.

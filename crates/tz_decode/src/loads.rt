@@ -12,8 +12,12 @@ ghost use Rattle.tz_table.specs.declared.Flags.TheVariants as flags;
 ghost use Rattle.tz_table.specs.declared.Insn.TheVariants as insns;
 ghost use Rattle.tz_table.specs.declared.Width.TheVariants.{Wide};
 
-use crate::fields::{is_preload, is_signed_word, field, indexed, long_field, plus_or_minus, size, wide_if};
-use tz_table::limits::{can_load, can_load_back, can_load_index, can_store, can_store_back, can_store_index, plain};
+use crate::fields::{
+    field, indexed, is_preload, is_signed_word, long_field, plus_or_minus, size, wide_if,
+};
+use tz_table::limits::{
+    can_load, can_load_back, can_load_index, can_store, can_store_back, can_store_index, plain,
+};
 use tz_table::{Address, Decoded, Insn, Width};
 
 /// The refusal of all codes here.
