@@ -1,0 +1,36 @@
+//! One instruction of each kind of address, field by field.
+
+use crate::{FieldName, field_name, values};
+use tz_table::{Address, DataOp, Flags, Insn, Shift, Size};
+
+#[test]
+fn numbers_of_an_addition(rt: HostRuntime) {
+    let insn = Insn::DataReg {
+        op: DataOp::Add,
+        flags: Flags::OutsideIt,
+        rd: 4,
+        rn: 5,
+        rm: 6,
+        shift: Shift::Lsr,
+        amount: 7,
+    };
+    assert_eq!(rt; values(&insn), [21, 2, 1, 0, 0, 4, 5, 6, 7]);
+    assert_eq!(rt; field_name(&insn, 0), Some(FieldName::Rd));
+    assert_eq!(rt; field_name(&insn, 3), Some(FieldName::Amount));
+    assert_eq!(rt; field_name(&insn, 4), None);
+}
+
+#[test]
+fn numbers_of_a_literal_load(rt: HostRuntime) {
+    let insn = Insn::Load {
+        size: Size::Half,
+        signed: true,
+        rt: 3,
+        address: Address::Literal { offset: -20 },
+        user: false,
+    };
+    assert_eq!(rt; values(&insn), [58, 1, 1, 4, 0, 3, -20, 0, 0]);
+    assert_eq!(rt; field_name(&insn, 0), Some(FieldName::Rt));
+    assert_eq!(rt; field_name(&insn, 1), Some(FieldName::Offset));
+    assert_eq!(rt; field_name(&insn, 2), None);
+}
