@@ -1,0 +1,4 @@
+pub mod Slots
+pub mod Numbers
+pub mod Limits
+pub mod Codes
