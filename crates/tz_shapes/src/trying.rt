@@ -1,0 +1,28 @@
+//! What one row of the instruction table gives for an instruction.
+
+ghost use Rattle.std.specs.Prelude.{◌≡◌, ◌<◌, slice_get, Some};
+ghost use Rattle.tz_fields.specs.Values.{values_of};
+ghost use Rattle.tz_slots.specs.Codes.{Tried};
+ghost use Rattle.tz_table.specs.Rows.{TableRow};
+ghost use Rattle.tz_table.specs.Table.{rows};
+ghost use Rattle.tz_table.specs.declared.instruction.Insn.{Insn};
+
+use crate::shapes::slots_at;
+use tz_slots::answer;
+use tz_table::row_at;
+
+/// The halfwords of the least code that the row at `index` has of the instruction with these values, as
+/// `tz_fields` gives them; of a narrow row the second is 0. Else the place of the first value that no code
+/// of the row has together with those before it: 0 is the variant.
+pub fn try_row(index: usize, values: &[i32; 9]) -> Result<(u16, u16), usize>
+    requires { index < 189 }
+    ensures { (i : Insn) → values.now ≡ values_of i → (r : TableRow) → slice_get rows index ≡ Some r → Tried r i result }
+{
+    let Some(row) = row_at(index) else {
+        return Err(0);
+    };
+    let Some(slots) = slots_at(index) else {
+        return Err(0);
+    };
+    answer(row.form, row.first_value, row.second_value, &slots, values)
+}
