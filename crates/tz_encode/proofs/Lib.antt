@@ -1,0 +1,4 @@
+pub mod Outcomes
+pub mod Padding
+pub mod Places
+pub mod Searching

@@ -1,0 +1,16 @@
+//! The codes of instructions: `encode` gives the code of an instruction at a width, or says why there is
+//! none.
+//!
+//! It follows the instruction table of `tz_table`, by which a code means its instruction again. Nothing
+//! here knows a row: what a row gives for an instruction comes from `tz_shapes`.
+#![tactic(auto)]
+
+mod answer;
+mod error;
+mod search;
+#[cfg(test)]
+mod tests;
+
+pub use answer::encode;
+pub use error::EncodeError;
+pub use tz_fields::FieldName;
