@@ -78,12 +78,9 @@ fn access_name(address: Address, place: usize) -> Option<FieldName>
             ],
             place,
         ),
-        Address::Offset { .. } => name_at(
-            &[FieldName::Rt, FieldName::Rn, FieldName::Offset],
-            place,
-        ),
-        Address::Post { .. } => name_at(&[FieldName::Rt, FieldName::Rn, FieldName::Offset], place),
-        Address::Pre { .. } => name_at(&[FieldName::Rt, FieldName::Rn, FieldName::Offset], place),
+        Address::Offset { .. } | Address::Post { .. } | Address::Pre { .. } => {
+            name_at(&[FieldName::Rt, FieldName::Rn, FieldName::Offset], place)
+        }
         Address::Literal { .. } => name_at(&[FieldName::Rt, FieldName::Offset], place),
     }
 }

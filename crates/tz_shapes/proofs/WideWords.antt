@@ -7,25 +7,23 @@ use Rattle.tz_table.specs.Fields.{bits}
 use Rattle.tz_table.specs.Terms.{size_of, indexed, far_offset}
 use Rattle.tz_shapes.proofs.Words.{size_word}
 use Rattle.tz_slots.specs.Numbers.{far}
+use Rattle.tz_slots.proofs.Codings.{far_of_parts}
 
 -- ---- far offsets
 
-far_from : (s j k r : ℕ) → ℕ
-far_from s j k r = s * 2 ^ 24 + (1 - (j + s) % 2) * 2 ^ 23 + (1 - (k + s) % 2) * 2 ^ 22 + r
-
 -- S:J:K:rest by its parts
 far_word : (s j k a b : ℕ) → s < 2 → j < 2 → k < 2 → a < 1024 → b < 2048 → far (s * 2 ^ 24 + j * 2 ^ 23 + k * 2 ^ 22 + a * 2 ^ 12 + b * 2 ^ 1) ≡ s * 2 ^ 24 + (1 - (j + s) % 2) * 2 ^ 23 + (1 - (k + s) % 2) * 2 ^ 22 + a * 2 ^ 12 + b * 2
-unfolding far_from
+unfolding far_of_parts
 far_word s j k a b hs hj hk ha hb =
     let n = s * 2 ^ 24 + j * 2 ^ 23 + k * 2 ^ 22 + a * 2 ^ 12 + b * 2 ^ 1 in
     let top : bits n 24 1 ≡ s = omega arith in
     let second : bits n 23 1 ≡ j = omega arith in
     let third : bits n 22 1 ≡ k = omega arith in
     let rest : n % 2 ^ 22 ≡ a * 2 ^ 12 + b * 2 = omega arith in
-    ap (λ x. far_from x (bits n 23 1) (bits n 22 1) (n % 2 ^ 22)) top
-    ∙ ap (λ x. far_from s x (bits n 22 1) (n % 2 ^ 22)) second
-    ∙ ap (λ x. far_from s j x (n % 2 ^ 22)) third
-    ∙ ap (λ x. far_from s j k x) rest
+    ap (λ x. far_of_parts x (bits n 23 1) (bits n 22 1) (n % 2 ^ 22)) top
+    ∙ ap (λ x. far_of_parts s x (bits n 22 1) (n % 2 ^ 22)) second
+    ∙ ap (λ x. far_of_parts s j x (n % 2 ^ 22)) third
+    ∙ ap (λ x. far_of_parts s j k x) rest
     ∙ omega arith
 
 -- that of a code

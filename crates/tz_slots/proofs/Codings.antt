@@ -55,7 +55,8 @@ far_is n h = omega arith
 far_parts : (n : ℕ) → let s = bits n 24 1 in let x = far n in (bits x 24 1 ≡ s) × (bits x 23 1 ≡ 1 - (bits n 23 1 + s) % 2) × (bits x 22 1 ≡ 1 - (bits n 22 1 + s) % 2) × (x % 2 ^ 22 ≡ n % 2 ^ 22) × (x < 2 ^ 25)
 far_parts n = four (bits n 24 1) (1 - (bits n 23 1 + bits n 24 1) % 2) (1 - (bits n 22 1 + bits n 24 1) % 2) (n % 2 ^ 22) (omega arith) (omega arith) (omega arith) (omega arith)
 
-far_of_parts : (s j k r : ℕ) → ℕ
+-- what S:J:K:rest stands for
+unfoldable pub far_of_parts : (s j k r : ℕ) → ℕ
 far_of_parts s j k r = s * 2 ^ 24 + (1 - (j + s) % 2) * 2 ^ 23 + (1 - (k + s) % 2) * 2 ^ 22 + r
 
 pub far_back : (n : ℕ) → n < 2 ^ 25 → far (far n) ≡ n

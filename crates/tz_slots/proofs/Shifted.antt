@@ -1,8 +1,8 @@
 -- The slots of a register that is shifted: kind and amount lie together, and tell each other.
-use Rattle.std.proofs.Common.{◌≡◌, ℕ, zero, suc, ◌+◌, ◌*◌, ◌/◌, ◌%◌, ◌<◌, Bool, true, false, not, ◌&&◌, ◌||◌, List, [], ◌∷◌, length, refl, sym, ◌∙◌, ap, arith, subst, inl, inr}
+use Rattle.std.proofs.Common.{◌≡◌, ℕ, ◌+◌, ◌*◌, ◌/◌, ◌%◌, ◌<◌, Bool, true, not, ◌&&◌, ◌||◌, List, [], ◌∷◌, length, refl, sym, ◌∙◌, ap, arith, subst, inl, inr}
 use Rattle.std.specs.Prelude.{ℤ, pos, nat_abs, ◌==◌, nat_lt}
 use Rattle.std.specs.Ordering.{int_eq}
-use Rattle.std.proofs.lemmas.Bool.{and_parts, or_cases, cases_Bool, both_ways, not-true, eqb-true, eqb-false, eq-eqb, ltb-true, cond-true, cond-false}
+use Rattle.std.proofs.lemmas.Bool.{agree_below, agree_below_at, and_parts, or_cases, cases_Bool, both_ways, not-true, eqb-true, eqb-false, eq-eqb, ltb-true, cond-true, cond-false}
 use Rattle.tz_table.specs.Fields.{bits}
 use Rattle.tz_table.specs.Terms.{imm_shift_of, imm_amount_of, imm5_of}
 use Rattle.tz_fields.specs.Values.{shift_number}
@@ -19,32 +19,12 @@ use Rattle.tz_slots.proofs.Codings.{int_eq-self, int_eq-true, tells}
 use Rattle.tz_slots.proofs.Describes.{IsWritten, AllWritten, Holds}
 use Rattle.tz_slots.proofs.Telling.{is_regular, written, written_same, told, values_told, eight}
 
-less_than : (k n : ℕ) → k < suc n → (k == n) ≡ false → k < n
-less_than k n h e = let d = eqb-false k n e in omega arith
-
--- a test of all numbers below n
-abbrev pub all_below : (ℕ → Bool) → ℕ → Bool
-all_below test zero = true
-all_below test (suc n) = test n && all_below test n
-
-pub below_holds : (test : ℕ → Bool) (n k : ℕ) → all_below test n ≡ true → k < n → test k ≡ true
-below_holds test zero k h lt = absurd (omega arith)
-below_holds test (suc n) k h lt =
-    let x = and_parts (test n) (all_below test n) h in
-    elim (cases_Bool (k == n)) [
-      | inl e ↦ ap test (eqb-true _ _ e) ∙ x.0
-      | inr e ↦ below_holds test n k x.1 (less_than k n lt e)
-    ]
-
 -- seven bits of kind and amount are written again by what they mean
 abbrev comes_again : ℕ → Bool
 comes_again n = amount_number (shift_number (imm_shift_of (n / 32) (n % 32))) (imm_amount_of (n / 32) (n % 32)) == n
 
-all_come_again : all_below comes_again 128 ≡ true
-all_come_again = refl
-
 again : (n : ℕ) → n < 128 → amount_number (shift_number (imm_shift_of (n / 32) (n % 32))) (imm_amount_of (n / 32) (n % 32)) ≡ n
-again n h = eqb-true _ _ (below_holds comes_again 128 n all_come_again h)
+again n h = eqb-true _ _ (agree_below_at comes_again (λ n. true) 128 n refl h)
 
 abbrev pub kind_slot : Limit → Slot
 kind_slot l = record { coding = Kind; limit = l; parts = Zero }
@@ -74,14 +54,8 @@ amount_written l e f s k =
 abbrev tells_kind : ℕ → ℕ → Bool
 tells_kind x y = not (imm_amount_of (amount_number x y / 32) (amount_number x y % 32) == y) || shift_number (imm_shift_of (amount_number x y / 32) (amount_number x y % 32)) == x
 
-all_tell_kind : all_below (λ x. all_below (tells_kind x) 33) 5 ≡ true
-all_tell_kind = refl
-
 abbrev small_amount : ℕ → Bool
 small_amount n = nat_lt (imm_amount_of (n / 32) (n % 32)) 33
-
-all_small : all_below small_amount 128 ≡ true
-all_small = refl
 
 number_below : (x y : ℕ) → x < 5 → amount_number x y < 128
 number_below x y h =
@@ -92,9 +66,9 @@ number_below x y h =
 
 kind_of : (x y : ℕ) → x < 5 → imm_amount_of (amount_number x y / 32) (amount_number x y % 32) ≡ y → shift_number (imm_shift_of (amount_number x y / 32) (amount_number x y % 32)) ≡ x
 kind_of x y h e =
-    let small = ltb-true _ _ (below_holds small_amount 128 (amount_number x y) all_small (number_below x y h)) in
+    let small = ltb-true _ _ (agree_below_at small_amount (λ n. true) 128 (amount_number x y) refl (number_below x y h)) in
     let y_small : y < 33 = omega arith in
-    let test = below_holds (tells_kind x) 33 y (below_holds (λ z. all_below (tells_kind z) 33) 5 x all_tell_kind h) y_small in
+    let test = agree_below_at (tells_kind x) (λ y. true) 33 y (agree_below_at (λ x. agree_below (tells_kind x) (λ y. true) 33) (λ x. true) 5 x refl h) y_small in
     elim (or_cases (not (imm_amount_of (amount_number x y / 32) (amount_number x y % 32) == y)) (shift_number (imm_shift_of (amount_number x y / 32) (amount_number x y % 32)) == x) test) [
       | inl a ↦ absurd (both_ways _ (not-true _ a) (eq-eqb _ _ e))
       | inr a ↦ eqb-true _ _ a

@@ -13,7 +13,7 @@ use crate::limits::{
 };
 use crate::parts::{field, imm5, imm12};
 
-/// The limits of row 112.
+/// The limits of `sub.w rd, rn, rm, shift`.
 pub fn sub_reg_w(first: u16, second: u16) -> bool
     ensures { result ≡ (if bits second 8 4 == 15 then false else can_add_register_of (bits second 8 4) (bits first 0 4) (bits second 0 4) (bits second 4 2) (imm5_of second)) }
 {
@@ -29,7 +29,7 @@ pub fn sub_reg_w(first: u16, second: u16) -> bool
     )
 }
 
-/// The limits of row 115.
+/// The limits of `and.w rd, rn, #i`.
 pub fn and_imm_w(first: u16, second: u16) -> bool
     ensures { result ≡ (if bits second 8 4 == 15 then false else can_set_from_of (bits second 8 4) (bits first 0 4) (imm12_of first second)) }
 {
@@ -43,7 +43,7 @@ pub fn and_imm_w(first: u16, second: u16) -> bool
     )
 }
 
-/// The limits of row 118.
+/// The limits of `orr.w rd, rn, #i`.
 pub fn orr_imm_w(first: u16, second: u16) -> bool
     ensures { result ≡ (if bits first 0 4 == 15 then false else can_set_from_of (bits second 8 4) (bits first 0 4) (imm12_of first second)) }
 {
@@ -57,7 +57,7 @@ pub fn orr_imm_w(first: u16, second: u16) -> bool
     )
 }
 
-/// The limits of rows 112 to 119.
+/// The limits of eight rows in the order of the table, from `sub.w rd, rn, rm, shift` to `mov.w rd, #i`.
 #[tactic(auto, using(crate::proofs::WideLimits::from_sub_reg_w_limits))]
 pub fn from_sub_reg_w(number: usize, first: u16, second: u16) -> bool
     requires { (112 ≤ number) × (number < 120) }
@@ -79,7 +79,7 @@ pub fn from_sub_reg_w(number: usize, first: u16, second: u16) -> bool
     }
 }
 
-/// The limits of row 120.
+/// The limits of `orn.w rd, rn, #i`.
 pub fn orn_imm_w(first: u16, second: u16) -> bool
     ensures { result ≡ (if bits first 0 4 == 15 then false else can_set_from_of (bits second 8 4) (bits first 0 4) (imm12_of first second)) }
 {
@@ -93,7 +93,7 @@ pub fn orn_imm_w(first: u16, second: u16) -> bool
     )
 }
 
-/// The limits of row 122.
+/// The limits of `eor.w rd, rn, #i`.
 pub fn eor_imm_w(first: u16, second: u16) -> bool
     ensures { result ≡ (if bits second 8 4 == 15 then false else can_set_from_of (bits second 8 4) (bits first 0 4) (imm12_of first second)) }
 {
@@ -107,7 +107,7 @@ pub fn eor_imm_w(first: u16, second: u16) -> bool
     )
 }
 
-/// The limits of row 124.
+/// The limits of `add.w rd, rn, #i`.
 pub fn add_imm_w(first: u16, second: u16) -> bool
     ensures { result ≡ (if bits second 8 4 == 15 then false else can_add_constant_of (bits second 8 4) (bits first 0 4) (imm12_of first second)) }
 {
@@ -121,7 +121,7 @@ pub fn add_imm_w(first: u16, second: u16) -> bool
     )
 }
 
-/// The limits of rows 120 to 127.
+/// The limits of eight rows in the order of the table, from `orn.w rd, rn, #i` to `sbc.w rd, rn, #i`.
 #[tactic(auto, using(crate::proofs::WideLimits::from_orn_imm_w_limits))]
 pub fn from_orn_imm_w(number: usize, first: u16, second: u16) -> bool
     requires { (120 ≤ number) × (number < 128) }
@@ -147,7 +147,7 @@ pub fn from_orn_imm_w(number: usize, first: u16, second: u16) -> bool
     }
 }
 
-/// The limits of row 128.
+/// The limits of `sub.w rd, rn, #i`.
 pub fn sub_imm_w(first: u16, second: u16) -> bool
     ensures { result ≡ (if bits second 8 4 == 15 then false else can_add_constant_of (bits second 8 4) (bits first 0 4) (imm12_of first second)) }
 {
@@ -161,7 +161,7 @@ pub fn sub_imm_w(first: u16, second: u16) -> bool
     )
 }
 
-/// The limits of row 131.
+/// The limits of `addw rd, rn, #i`.
 pub fn addw(first: u16, second: u16) -> bool
     ensures { result ≡ (if bits first 0 4 == 15 then false else can_add_of (bits second 8 4) (bits first 0 4)) }
 {
@@ -171,7 +171,7 @@ pub fn addw(first: u16, second: u16) -> bool
     can_add(field(second, 8, 4), field(first, 0, 4))
 }
 
-/// The limits of row 132.
+/// The limits of `subw rd, rn, #i`.
 pub fn subw(first: u16, second: u16) -> bool
     ensures { result ≡ (if bits first 0 4 == 15 then false else can_add_of (bits second 8 4) (bits first 0 4)) }
 {
@@ -181,7 +181,7 @@ pub fn subw(first: u16, second: u16) -> bool
     can_add(field(second, 8, 4), field(first, 0, 4))
 }
 
-/// The limits of rows 128 to 135.
+/// The limits of eight rows in the order of the table, from `sub.w rd, rn, #i` to `movw rd, #j:i`.
 #[tactic(auto, using(crate::proofs::WideLimits::from_sub_imm_w_limits))]
 pub fn from_sub_imm_w(number: usize, first: u16, second: u16) -> bool
     requires { (128 ≤ number) × (number < 136) }
@@ -203,7 +203,7 @@ pub fn from_sub_imm_w(number: usize, first: u16, second: u16) -> bool
     }
 }
 
-/// The limits of row 140.
+/// The limits of `bfi rd, rn, #i, #m - i + 1`.
 pub fn bfi(first: u16, second: u16) -> bool
     ensures { result ≡ (if bits first 0 4 == 15 then false else can_insert_of (bits second 8 4) (bits first 0 4) (imm5_of second) (bits second 0 5)) }
 {
@@ -218,7 +218,7 @@ pub fn bfi(first: u16, second: u16) -> bool
     )
 }
 
-/// The limits of row 142.
+/// The limits of `beq.w target ..`.
 pub fn bcond_w(first: u16, second: u16) -> bool
     ensures { result ≡ (if bits first 6 4 == 14 || (bits first 6 4 == 15) then false else true) }
 {
@@ -231,7 +231,7 @@ pub fn bcond_w(first: u16, second: u16) -> bool
     true
 }
 
-/// The limits of rows 136 to 143.
+/// The limits of eight rows in the order of the table, from `ssat rd, #b + 1, rn, shift` to `b.w target`.
 #[tactic(auto, using(crate::proofs::WideLimits::from_ssat_limits))]
 pub fn from_ssat(number: usize, first: u16, second: u16) -> bool
     requires { (136 ≤ number) × (number < 144) }

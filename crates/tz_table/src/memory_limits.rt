@@ -13,7 +13,7 @@ use crate::limits::{
 };
 use crate::parts::{both, field, imm5};
 
-/// The limits of row 76.
+/// The limits of `ldrd rt, rt2, [rn, #4i]`.
 pub fn ldrd(first: u16, second: u16) -> bool
     ensures { result ≡ (if (bits first 8 1 == 0 && bits first 5 1 == 0) || (bits first 0 4 == 15) then false else can_load_pair_of (bits first 5 1) (bits first 0 4) (bits second 12 4) (bits second 8 4)) }
 {
@@ -31,7 +31,7 @@ pub fn ldrd(first: u16, second: u16) -> bool
     )
 }
 
-/// The limits of row 77.
+/// The limits of `strd rt, rt2, [rn, #4i]`.
 pub fn strd(first: u16, second: u16) -> bool
     ensures { result ≡ (if (bits first 8 1 == 0 && bits first 5 1 == 0) || (bits first 0 4 == 15) then false else can_store_pair_of (bits first 5 1) (bits first 0 4) (bits second 12 4) (bits second 8 4)) }
 {
@@ -49,7 +49,7 @@ pub fn strd(first: u16, second: u16) -> bool
     )
 }
 
-/// The limits of row 79.
+/// The limits of `strex rd, rt, [rn, #4i]`.
 pub fn strex(first: u16, second: u16) -> bool
     ensures { result ≡ (if bits second 12 4 == 15 then false else can_store_exclusive_of (bits second 8 4) (bits second 12 4) (bits first 0 4)) }
 {
@@ -63,7 +63,7 @@ pub fn strex(first: u16, second: u16) -> bool
     )
 }
 
-/// The limits of rows 72 to 79.
+/// The limits of eight rows in the order of the table, from `ldm.w rn, {list}` to `strex rd, rt, [rn, #4i]`.
 #[tactic(auto, using(crate::proofs::WideLimits::from_ldm_w_limits))]
 pub fn from_ldm_w(number: usize, first: u16, second: u16) -> bool
     requires { (72 ≤ number) × (number < 80) }
@@ -81,7 +81,7 @@ pub fn from_ldm_w(number: usize, first: u16, second: u16) -> bool
     }
 }
 
-/// The limits of rows 80 to 87.
+/// The limits of eight rows in the order of the table, from `tt rd, rn` to `stlexb rd, rt, [rn]`.
 #[tactic(auto, using(crate::proofs::WideLimits::from_tt_limits))]
 pub fn from_tt(number: usize, first: u16, second: u16) -> bool
     requires { (80 ≤ number) × (number < 88) }
@@ -111,7 +111,7 @@ pub fn from_tt(number: usize, first: u16, second: u16) -> bool
     }
 }
 
-/// The limits of rows 88 to 95.
+/// The limits of eight rows in the order of the table, from `stlexh rd, rt, [rn]` to `ldaexb rt, [rn]`.
 #[tactic(auto, using(crate::proofs::WideLimits::from_stlexh_limits))]
 pub fn from_stlexh(number: usize, first: u16, second: u16) -> bool
     requires { (88 ≤ number) × (number < 96) }
@@ -137,7 +137,7 @@ pub fn from_stlexh(number: usize, first: u16, second: u16) -> bool
     }
 }
 
-/// The limits of row 99.
+/// The limits of `and.w rd, rn, rm, shift`.
 pub fn and_reg_w(first: u16, second: u16) -> bool
     ensures { result ≡ (if bits second 8 4 == 15 then false else plain3_of (bits second 8 4) (bits first 0 4) (bits second 0 4)) }
 {
@@ -147,7 +147,7 @@ pub fn and_reg_w(first: u16, second: u16) -> bool
     plain3(field(second, 8, 4), field(first, 0, 4), field(second, 0, 4))
 }
 
-/// The limits of row 102.
+/// The limits of `orr.w rd, rn, rm, shift`.
 pub fn orr_reg_w(first: u16, second: u16) -> bool
     ensures { result ≡ (if bits first 0 4 == 15 then false else plain3_of (bits second 8 4) (bits first 0 4) (bits second 0 4)) }
 {
@@ -157,7 +157,7 @@ pub fn orr_reg_w(first: u16, second: u16) -> bool
     plain3(field(second, 8, 4), field(first, 0, 4), field(second, 0, 4))
 }
 
-/// The limits of rows 96 to 103.
+/// The limits of eight rows in the order of the table, from `ldaexh rt, [rn]` to `mov.w rd, rm, shift`.
 #[tactic(auto, using(crate::proofs::WideLimits::from_ldaexh_limits))]
 pub fn from_ldaexh(number: usize, first: u16, second: u16) -> bool
     requires { (96 ≤ number) × (number < 104) }
@@ -181,7 +181,7 @@ pub fn from_ldaexh(number: usize, first: u16, second: u16) -> bool
     }
 }
 
-/// The limits of row 104.
+/// The limits of `orn.w rd, rn, rm, shift`.
 pub fn orn_reg_w(first: u16, second: u16) -> bool
     ensures { result ≡ (if bits first 0 4 == 15 then false else plain3_of (bits second 8 4) (bits first 0 4) (bits second 0 4)) }
 {
@@ -191,7 +191,7 @@ pub fn orn_reg_w(first: u16, second: u16) -> bool
     plain3(field(second, 8, 4), field(first, 0, 4), field(second, 0, 4))
 }
 
-/// The limits of row 106.
+/// The limits of `eor.w rd, rn, rm, shift`.
 pub fn eor_reg_w(first: u16, second: u16) -> bool
     ensures { result ≡ (if bits second 8 4 == 15 then false else plain3_of (bits second 8 4) (bits first 0 4) (bits second 0 4)) }
 {
@@ -201,7 +201,7 @@ pub fn eor_reg_w(first: u16, second: u16) -> bool
     plain3(field(second, 8, 4), field(first, 0, 4), field(second, 0, 4))
 }
 
-/// The limits of row 108.
+/// The limits of `add.w rd, rn, rm, shift`.
 pub fn add_reg_w(first: u16, second: u16) -> bool
     ensures { result ≡ (if bits second 8 4 == 15 then false else can_add_register_of (bits second 8 4) (bits first 0 4) (bits second 0 4) (bits second 4 2) (imm5_of second)) }
 {
@@ -217,7 +217,7 @@ pub fn add_reg_w(first: u16, second: u16) -> bool
     )
 }
 
-/// The limits of rows 104 to 111.
+/// The limits of eight rows in the order of the table, from `orn.w rd, rn, rm, shift` to `sbc.w rd, rn, rm, shift`.
 #[tactic(auto, using(crate::proofs::WideLimits::from_orn_reg_w_limits))]
 pub fn from_orn_reg_w(number: usize, first: u16, second: u16) -> bool
     requires { (104 ≤ number) × (number < 112) }

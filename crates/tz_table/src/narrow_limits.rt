@@ -9,7 +9,7 @@ ghost use Rattle.tz_table.specs.Table.{rows};
 use crate::limits::{can_add_high, can_begin, can_compare_high, can_exchange, can_store_many};
 use crate::parts::{field, high_register, long_field};
 
-/// The limits of rows 0 to 7.
+/// The limits of eight rows in the order of the table, from `lsls rd, rm, #i` to `movs rd, #i`.
 #[tactic(auto, using(crate::proofs::RowLimits::from_lsl_imm_limits))]
 pub fn from_lsl_imm(number: usize, first: u16, second: u16) -> bool
     requires { (0 ≤ number) × (number < 8) }
@@ -27,7 +27,7 @@ pub fn from_lsl_imm(number: usize, first: u16, second: u16) -> bool
     }
 }
 
-/// The limits of rows 8 to 15.
+/// The limits of eight rows in the order of the table, from `cmp rn, #i` to `asrs rd, rd, rm`.
 #[tactic(auto, using(crate::proofs::RowLimits::from_cmp_imm8_limits))]
 pub fn from_cmp_imm8(number: usize, first: u16, second: u16) -> bool
     requires { (8 ≤ number) × (number < 16) }
@@ -45,7 +45,7 @@ pub fn from_cmp_imm8(number: usize, first: u16, second: u16) -> bool
     }
 }
 
-/// The limits of rows 16 to 23.
+/// The limits of eight rows in the order of the table, from `adcs rd, rd, rm` to `orrs rd, rd, rm`.
 #[tactic(auto, using(crate::proofs::RowLimits::from_adc_low_limits))]
 pub fn from_adc_low(number: usize, first: u16, second: u16) -> bool
     requires { (16 ≤ number) × (number < 24) }
@@ -63,7 +63,7 @@ pub fn from_adc_low(number: usize, first: u16, second: u16) -> bool
     }
 }
 
-/// The limits of rows 24 to 31.
+/// The limits of eight rows in the order of the table, from `muls rd, rn, rd` to `blx rm, blxns rm`.
 #[tactic(auto, using(crate::proofs::RowLimits::from_mul_low_limits))]
 pub fn from_mul_low(number: usize, first: u16, second: u16) -> bool
     requires { (24 ≤ number) × (number < 32) }
@@ -81,7 +81,7 @@ pub fn from_mul_low(number: usize, first: u16, second: u16) -> bool
     }
 }
 
-/// The limits of rows 32 to 39.
+/// The limits of eight rows in the order of the table, from `ldr rt, [pc, #4i]` to `ldrb rt, [rn, rm]`.
 #[tactic(auto, using(crate::proofs::RowLimits::from_ldr_literal_limits))]
 pub fn from_ldr_literal(number: usize, first: u16, second: u16) -> bool
     requires { (32 ≤ number) × (number < 40) }
@@ -99,7 +99,7 @@ pub fn from_ldr_literal(number: usize, first: u16, second: u16) -> bool
     }
 }
 
-/// The limits of rows 40 to 47.
+/// The limits of eight rows in the order of the table, from `ldrsh rt, [rn, rm]` to `str rt, [sp, #4i]`.
 #[tactic(auto, using(crate::proofs::RowLimits::from_ldrsh_index_limits))]
 pub fn from_ldrsh_index(number: usize, first: u16, second: u16) -> bool
     requires { (40 ≤ number) × (number < 48) }
@@ -117,7 +117,7 @@ pub fn from_ldrsh_index(number: usize, first: u16, second: u16) -> bool
     }
 }
 
-/// The limits of rows 48 to 55.
+/// The limits of eight rows in the order of the table, from `ldr rt, [sp, #4i]` to `uxth rd, rm`.
 #[tactic(auto, using(crate::proofs::RowLimits::from_ldr_sp_limits))]
 pub fn from_ldr_sp(number: usize, first: u16, second: u16) -> bool
     requires { (48 ≤ number) × (number < 56) }
@@ -135,7 +135,7 @@ pub fn from_ldr_sp(number: usize, first: u16, second: u16) -> bool
     }
 }
 
-/// The limits of rows 56 to 63.
+/// The limits of eight rows in the order of the table, from `uxtb rd, rm` to `bkpt #i`.
 #[tactic(auto, using(crate::proofs::RowLimits::from_uxtb_limits))]
 pub fn from_uxtb(number: usize, first: u16, second: u16) -> bool
     requires { (56 ≤ number) × (number < 64) }
@@ -153,7 +153,7 @@ pub fn from_uxtb(number: usize, first: u16, second: u16) -> bool
     }
 }
 
-/// The limits of row 64.
+/// The limits of `it c, ite c ..`.
 pub fn if_then(first: u16, second: u16) -> bool
     ensures { result ≡ (if bits first 0 4 == 0 then false else can_begin_of (bits first 4 4) (bits first 0 4)) }
 {
@@ -163,7 +163,7 @@ pub fn if_then(first: u16, second: u16) -> bool
     can_begin(field(first, 4, 4), field(first, 0, 4))
 }
 
-/// The limits of row 68.
+/// The limits of `beq target ..`.
 pub fn bcond(first: u16, second: u16) -> bool
     ensures { result ≡ (if bits first 8 4 == 14 || (bits first 8 4 == 15) then false else true) }
 {
@@ -176,7 +176,7 @@ pub fn bcond(first: u16, second: u16) -> bool
     true
 }
 
-/// The limits of rows 64 to 71.
+/// The limits of eight rows in the order of the table, from `it c, ite c ..` to `b target`.
 #[tactic(auto, using(crate::proofs::RowLimits::from_if_then_limits))]
 pub fn from_if_then(number: usize, first: u16, second: u16) -> bool
     requires { (64 ≤ number) × (number < 72) }

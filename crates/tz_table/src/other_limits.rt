@@ -12,7 +12,7 @@ use crate::limits::{
 };
 use crate::parts::{both, field};
 
-/// The limits of rows 144 to 151.
+/// The limits of eight rows in the order of the table, from `bl target` to `isb #x`.
 #[tactic(auto, using(crate::proofs::WideLimits::from_bl_limits))]
 pub fn from_bl(number: usize, first: u16, second: u16) -> bool
     requires { (144 ≤ number) × (number < 152) }
@@ -30,7 +30,7 @@ pub fn from_bl(number: usize, first: u16, second: u16) -> bool
     }
 }
 
-/// The limits of row 153.
+/// The limits of `ldr.w rt, [rn, #i]`.
 pub fn ldr_imm12(first: u16, second: u16) -> bool
     ensures { result ≡ (if bits first 5 2 == 3 || ((bits first 8 1 == 1 && bits first 5 2 == 2) || (bits first 0 4 == 15 || (bits first 5 2 == 0 && bits second 12 4 == 15))) then false else can_load_of (bits first 5 2) (bits second 12 4)) }
 {
@@ -49,7 +49,7 @@ pub fn ldr_imm12(first: u16, second: u16) -> bool
     can_load(field(first, 5, 2), field(second, 12, 4))
 }
 
-/// The limits of row 154.
+/// The limits of `str.w rt, [rn, #i]`.
 pub fn str_imm12(first: u16, second: u16) -> bool
     ensures { result ≡ (if bits first 5 2 == 3 || (bits first 0 4 == 15) then false else can_store_of (bits first 5 2) (bits second 12 4)) }
 {
@@ -62,7 +62,7 @@ pub fn str_imm12(first: u16, second: u16) -> bool
     can_store(field(first, 5, 2), field(second, 12, 4))
 }
 
-/// The limits of row 155.
+/// The limits of `pld`.
 pub fn pld_imm12(first: u16, second: u16) -> bool
     ensures { result ≡ (if bits first 0 4 == 15 then false else true) }
 {
@@ -72,7 +72,7 @@ pub fn pld_imm12(first: u16, second: u16) -> bool
     true
 }
 
-/// The limits of row 156.
+/// The limits of `ldr.w rt, [rn, #-i]`.
 pub fn ldr_negative(first: u16, second: u16) -> bool
     ensures { result ≡ (if bits first 5 2 == 3 || ((bits first 8 1 == 1 && bits first 5 2 == 2) || (bits first 0 4 == 15 || (bits first 5 2 == 0 && bits second 12 4 == 15))) then false else can_load_of (bits first 5 2) (bits second 12 4)) }
 {
@@ -91,7 +91,7 @@ pub fn ldr_negative(first: u16, second: u16) -> bool
     can_load(field(first, 5, 2), field(second, 12, 4))
 }
 
-/// The limits of row 157.
+/// The limits of `str.w rt, [rn, #-i]`.
 pub fn str_negative(first: u16, second: u16) -> bool
     ensures { result ≡ (if bits first 5 2 == 3 || (bits first 0 4 == 15) then false else can_store_of (bits first 5 2) (bits second 12 4)) }
 {
@@ -104,7 +104,7 @@ pub fn str_negative(first: u16, second: u16) -> bool
     can_store(field(first, 5, 2), field(second, 12, 4))
 }
 
-/// The limits of row 158.
+/// The limits of `pld`.
 pub fn pld_negative(first: u16, second: u16) -> bool
     ensures { result ≡ (if bits first 0 4 == 15 then false else true) }
 {
@@ -114,7 +114,7 @@ pub fn pld_negative(first: u16, second: u16) -> bool
     true
 }
 
-/// The limits of row 159.
+/// The limits of `ldrt rt, [rn, #i]`.
 pub fn ldrt(first: u16, second: u16) -> bool
     ensures { result ≡ (if bits first 5 2 == 3 || ((bits first 8 1 == 1 && bits first 5 2 == 2) || (bits first 0 4 == 15)) then false else plain_of (bits second 12 4)) }
 {
@@ -130,7 +130,7 @@ pub fn ldrt(first: u16, second: u16) -> bool
     plain(field(second, 12, 4))
 }
 
-/// The limits of rows 152 to 159.
+/// The limits of eight rows in the order of the table, from `udf.w #i` to `ldrt rt, [rn, #i]`.
 #[tactic(auto, using(crate::proofs::WideLimits::from_udf_w_limits))]
 pub fn from_udf_w(number: usize, first: u16, second: u16) -> bool
     requires { (152 ≤ number) × (number < 160) }
@@ -148,7 +148,7 @@ pub fn from_udf_w(number: usize, first: u16, second: u16) -> bool
     }
 }
 
-/// The limits of row 160.
+/// The limits of `strt rt, [rn, #i]`.
 pub fn strt(first: u16, second: u16) -> bool
     ensures { result ≡ (if bits first 5 2 == 3 || (bits first 0 4 == 15) then false else plain_of (bits second 12 4)) }
 {
@@ -161,7 +161,7 @@ pub fn strt(first: u16, second: u16) -> bool
     plain(field(second, 12, 4))
 }
 
-/// The limits of row 161.
+/// The limits of `ldr rt, [rn, #i]! and ldr rt, [rn], #i`.
 pub fn ldr_back(first: u16, second: u16) -> bool
     ensures { result ≡ (if bits first 5 2 == 3 || ((bits first 8 1 == 1 && bits first 5 2 == 2) || (bits first 0 4 == 15)) then false else can_load_back_of (bits first 5 2) (bits second 12 4) (bits first 0 4)) }
 {
@@ -177,7 +177,7 @@ pub fn ldr_back(first: u16, second: u16) -> bool
     can_load_back(field(first, 5, 2), field(second, 12, 4), field(first, 0, 4))
 }
 
-/// The limits of row 162.
+/// The limits of `str rt, [rn, #i]! and str rt, [rn], #i`.
 pub fn str_back(first: u16, second: u16) -> bool
     ensures { result ≡ (if bits first 5 2 == 3 || (bits first 0 4 == 15) then false else can_store_back_of (bits first 5 2) (bits second 12 4) (bits first 0 4)) }
 {
@@ -190,7 +190,7 @@ pub fn str_back(first: u16, second: u16) -> bool
     can_store_back(field(first, 5, 2), field(second, 12, 4), field(first, 0, 4))
 }
 
-/// The limits of row 163.
+/// The limits of `ldr.w rt, [rn, rm, lsl #i]`.
 pub fn ldr_index_w(first: u16, second: u16) -> bool
     ensures { result ≡ (if bits first 5 2 == 3 || ((bits first 8 1 == 1 && bits first 5 2 == 2) || (bits first 0 4 == 15 || (bits first 5 2 == 0 && bits second 12 4 == 15))) then false else can_load_index_of (bits first 5 2) (bits second 12 4) (bits second 0 4)) }
 {
@@ -213,7 +213,7 @@ pub fn ldr_index_w(first: u16, second: u16) -> bool
     )
 }
 
-/// The limits of row 164.
+/// The limits of `str.w rt, [rn, rm, lsl #i]`.
 pub fn str_index_w(first: u16, second: u16) -> bool
     ensures { result ≡ (if bits first 5 2 == 3 || (bits first 0 4 == 15) then false else can_store_index_of (bits first 5 2) (bits second 12 4) (bits second 0 4)) }
 {
@@ -230,7 +230,7 @@ pub fn str_index_w(first: u16, second: u16) -> bool
     )
 }
 
-/// The limits of row 165.
+/// The limits of `pld`.
 pub fn pld_index(first: u16, second: u16) -> bool
     ensures { result ≡ (if bits first 0 4 == 15 then false else plain_of (bits second 0 4)) }
 {
@@ -240,7 +240,7 @@ pub fn pld_index(first: u16, second: u16) -> bool
     plain(field(second, 0, 4))
 }
 
-/// The limits of row 166.
+/// The limits of `ldr.w rt, [pc, #i]`.
 pub fn ldr_literal_w(first: u16, second: u16) -> bool
     ensures { result ≡ (if bits first 5 2 == 3 || ((bits first 8 1 == 1 && bits first 5 2 == 2) || (bits first 5 2 == 0 && bits second 12 4 == 15)) then false else can_load_of (bits first 5 2) (bits second 12 4)) }
 {
@@ -256,7 +256,7 @@ pub fn ldr_literal_w(first: u16, second: u16) -> bool
     can_load(field(first, 5, 2), field(second, 12, 4))
 }
 
-/// The limits of rows 160 to 167.
+/// The limits of eight rows in the order of the table, from `strt rt, [rn, #i]` to `pld`.
 #[tactic(auto, using(crate::proofs::WideLimits::from_strt_limits))]
 pub fn from_strt(number: usize, first: u16, second: u16) -> bool
     requires { (160 ≤ number) × (number < 168) }
@@ -274,7 +274,7 @@ pub fn from_strt(number: usize, first: u16, second: u16) -> bool
     }
 }
 
-/// The limits of rows 168 to 175.
+/// The limits of eight rows in the order of the table, from `lsl.w rd, rn, rm` to `rbit rd, rm`.
 #[tactic(auto, using(crate::proofs::WideLimits::from_shift_reg_w_limits))]
 pub fn from_shift_reg_w(number: usize, first: u16, second: u16) -> bool
     requires { (168 ≤ number) × (number < 176) }
@@ -292,7 +292,7 @@ pub fn from_shift_reg_w(number: usize, first: u16, second: u16) -> bool
     }
 }
 
-/// The limits of row 178.
+/// The limits of `mla rd, rn, rm, ra`.
 pub fn mla(first: u16, second: u16) -> bool
     ensures { result ≡ (if bits second 12 4 == 15 then false else plain4_of (bits second 8 4) (bits first 0 4) (bits second 0 4) (bits second 12 4)) }
 {
@@ -307,7 +307,7 @@ pub fn mla(first: u16, second: u16) -> bool
     )
 }
 
-/// The limits of rows 176 to 183.
+/// The limits of eight rows in the order of the table, from `revsh.w rd, rm` to `smlal rl, rh, rn, rm`.
 #[tactic(auto, using(crate::proofs::WideLimits::from_revsh_w_limits))]
 pub fn from_revsh_w(number: usize, first: u16, second: u16) -> bool
     requires { (176 ≤ number) × (number < 184) }
@@ -345,7 +345,7 @@ pub fn from_revsh_w(number: usize, first: u16, second: u16) -> bool
     }
 }
 
-/// The limits of rows 184 to 188.
+/// The limits of five rows in the order of the table, from `umlal rl, rh, rn, rm` to `vlstm rn, vlldm rn`.
 #[tactic(auto, using(crate::proofs::WideLimits::from_umlal_limits))]
 pub fn from_umlal(number: usize, first: u16, second: u16) -> bool
     requires { (184 ≤ number) × (number < 189) }

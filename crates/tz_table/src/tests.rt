@@ -16,6 +16,6 @@ fn rows(rt: HostRuntime) {
             assert!(rt; !limits_hold(&bx, 0x4778, 0));
             assert!(rt; !limits_hold(&bx, 0x476c, 0));
         }
-        None => panic!(rt; "no row 30"),
+        None => panic!(rt; "bx has no row"),
     }
 }
