@@ -13,16 +13,9 @@ ghost use Rattle.tz_table.specs.declared.Flags.TheVariants as flags;
 ghost use Rattle.tz_table.specs.declared.Insn.TheVariants as insns;
 ghost use Rattle.tz_table.specs.declared.Width.TheVariants.{Wide};
 
-use crate::fields::{field, flags, shift, wide_if};
+use crate::fields::{field, flags, shift, undefined, wide_if};
 use tz_table::limits::{can_multiply_long, plain2, plain2_same, plain3, plain4};
 use tz_table::{Decoded, ExtendOp, Flags, Insn, LongOp, MultiplyOp, ReverseOp, Width};
-
-/// The refusal of all codes here.
-fn undefined() -> Decoded
-    ensures { result ≡ Undefined Wide }
-{
-    Decoded::Undefined(Width::Wide)
-}
 
 /// The codes 1111101.
 #[tactic(auto, using(crate::proofs::ArithmeticLaws::arithmetic))]

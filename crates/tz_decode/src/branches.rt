@@ -12,16 +12,9 @@ ghost use Rattle.tz_table.specs.declared.Flags.TheVariants as flags;
 ghost use Rattle.tz_table.specs.declared.Insn.TheVariants as insns;
 ghost use Rattle.tz_table.specs.declared.Width.TheVariants.{Wide};
 
-use crate::fields::{condition_offset, far_offset, field, long_field, signed, wide_if};
+use crate::fields::{condition_offset, far_offset, field, long_field, signed, undefined, wide_if};
 use tz_table::limits::can_name;
 use tz_table::{BarrierOp, Decoded, Insn, Width};
-
-/// The refusal of all codes here.
-fn undefined() -> Decoded
-    ensures { result ≡ Undefined Wide }
-{
-    Decoded::Undefined(Width::Wide)
-}
 
 /// An instruction without limits.
 fn always(insn: Insn) -> Decoded

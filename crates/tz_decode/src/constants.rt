@@ -12,19 +12,12 @@ ghost use Rattle.tz_table.specs.declared.Flags.TheVariants as flags;
 ghost use Rattle.tz_table.specs.declared.Insn.TheVariants as insns;
 ghost use Rattle.tz_table.specs.declared.Width.TheVariants.{Wide};
 
-use crate::fields::{field, flags, imm5, imm12, wide_if};
+use crate::fields::{field, flags, undefined, wide_if};
 use tz_table::limits::{
     can_add, can_add_constant, can_clear, can_compare, can_extract, can_insert, can_saturate,
     can_set, can_set_from, plain,
 };
-use tz_table::{DataOp, Decoded, FieldOp, Flags, Insn, Width};
-
-/// The refusal of all codes here.
-fn undefined() -> Decoded
-    ensures { result ≡ Undefined Wide }
-{
-    Decoded::Undefined(Width::Wide)
-}
+use tz_table::{DataOp, Decoded, FieldOp, Flags, Insn, Width, imm5, imm12};
 
 /// An operation with a constant.
 fn constant(op: DataOp, first: u16, rd: u8, rn: u8, imm12: u16) -> Insn

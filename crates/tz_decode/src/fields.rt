@@ -2,7 +2,7 @@
 
 ghost use Rattle.std.specs.Prelude.{◌≡◌, ◌==◌, ◌&&◌, ◌+◌, ◌*◌, ◌<◌, ◌≤◌, if◌then◌else◌};
 ghost use Rattle.tz_table.specs.Fields.{bits};
-ghost use Rattle.tz_table.specs.Terms.{flags_of, shift_of, imm_shift_of, imm_amount_of, size_of, signed_by, plus_or_minus as plus_or_minus_of, imm12_of, imm5_of, high_register as high_register_of, indexed as indexed_of, far_offset as far_offset_of, condition_offset as condition_offset_of};
+ghost use Rattle.tz_table.specs.Terms.{flags_of, shift_of, imm_shift_of, imm_amount_of, size_of, signed_by, plus_or_minus as plus_or_minus_of, indexed as indexed_of, far_offset as far_offset_of, condition_offset as condition_offset_of};
 ghost use Rattle.tz_table.specs.declared.Decoded.TheVariants.{One, Undefined};
 ghost use Rattle.tz_table.specs.declared.Width.TheVariants.{Narrow, Wide};
 
@@ -36,6 +36,13 @@ pub fn narrow_if(allowed: bool, insn: Insn) -> Decoded
     }
 }
 
+/// The refusal of a code of 32 bits.
+pub fn undefined() -> Decoded
+    ensures { result ≡ Undefined Wide }
+{
+    Decoded::Undefined(Width::Wide)
+}
+
 /// An instruction of 32 bits that keeps its limits.
 pub fn wide_if(allowed: bool, insn: Insn) -> Decoded
     ensures { result ≡ (if allowed then One insn Wide else Undefined Wide) }
@@ -43,15 +50,8 @@ pub fn wide_if(allowed: bool, insn: Insn) -> Decoded
     if allowed {
         Decoded::One(insn, Width::Wide)
     } else {
-        Decoded::Undefined(Width::Wide)
+        undefined()
     }
-}
-
-/// The register of a narrow code that has its highest bit apart.
-pub fn high_register(first: u16) -> u8
-    ensures { result ≡ high_register_of first }
-{
-    field(first, 7, 1) * 8 + field(first, 0, 3)
 }
 
 /// The bit S.
@@ -112,22 +112,6 @@ pub fn size(number: u8) -> Size
         1 => Size::Half,
         _ => Size::Word,
     }
-}
-
-/// The twelve bits of a constant.
-pub fn imm12(first: u16, second: u16) -> u16
-    ensures { result ≡ imm12_of first second }
-{
-    u16::from(field(first, 10, 1)) * 2048
-        + u16::from(field(second, 12, 3)) * 256
-        + u16::from(field(second, 0, 8))
-}
-
-/// The five bits of an amount.
-pub fn imm5(second: u16) -> u8
-    ensures { result ≡ imm5_of second }
-{
-    field(second, 12, 3) * 4 + field(second, 6, 2)
 }
 
 /// The number below twice `half` whose highest bit is a sign.

@@ -13,19 +13,12 @@ ghost use Rattle.tz_table.specs.declared.Insn.TheVariants as insns;
 ghost use Rattle.tz_table.specs.declared.Width.TheVariants.{Wide};
 
 use crate::fields::{
-    field, indexed, is_preload, is_signed_word, long_field, plus_or_minus, size, wide_if,
+    field, indexed, is_preload, is_signed_word, long_field, plus_or_minus, size, undefined, wide_if,
 };
 use tz_table::limits::{
     can_load, can_load_back, can_load_index, can_store, can_store_back, can_store_index, plain,
 };
 use tz_table::{Address, Decoded, Insn, Width};
-
-/// The refusal of all codes here.
-fn undefined() -> Decoded
-    ensures { result ≡ Undefined Wide }
-{
-    Decoded::Undefined(Width::Wide)
-}
 
 /// A load of the code's size, sign and register.
 fn load(first: u16, second: u16, address: Address, user: bool) -> Insn

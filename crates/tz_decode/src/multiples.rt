@@ -13,19 +13,12 @@ ghost use Rattle.tz_table.specs.declared.Flags.TheVariants as flags;
 ghost use Rattle.tz_table.specs.declared.Insn.TheVariants as insns;
 ghost use Rattle.tz_table.specs.declared.Width.TheVariants.{Wide};
 
-use crate::fields::{field, indexed, long_field, plus_or_minus, wide_if};
+use crate::fields::{field, indexed, long_field, plus_or_minus, undefined, wide_if};
 use tz_table::limits::{
     can_branch_table, can_load_pair, can_load_pair_literal, can_move_many, can_store_exclusive,
     can_store_pair, plain_base,
 };
 use tz_table::{Address, Decoded, Insn, Size, Width};
-
-/// The refusal of all codes here.
-fn undefined() -> Decoded
-    ensures { result ≡ Undefined Wide }
-{
-    Decoded::Undefined(Width::Wide)
-}
 
 /// The codes 1110100.
 #[tactic(auto, using(crate::proofs::MultipleLaws::multiples))]

@@ -11,12 +11,13 @@ ghost use Rattle.tz_table.specs.declared.Insn.TheVariants as insns;
 ghost use Rattle.tz_table.specs.declared.Shift.TheVariants as shifts;
 ghost use Rattle.tz_table.specs.declared.Width.TheVariants.{Narrow};
 
-use crate::fields::{field, high_register, imm_amount, long_field, narrow_if, signed};
+use crate::fields::{field, imm_amount, long_field, narrow_if, signed};
 use tz_table::limits::{
     can_add_high, can_begin, can_compare_high, can_exchange, can_store_many, is_listed,
 };
 use tz_table::{
     Address, DataOp, Decoded, ExtendOp, Flags, Insn, MultiplyOp, ReverseOp, Shift, Size, Width,
+    high_register,
 };
 
 /// An instruction without limits.

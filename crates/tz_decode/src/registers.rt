@@ -11,16 +11,9 @@ ghost use Rattle.tz_table.specs.declared.Flags.TheVariants as flags;
 ghost use Rattle.tz_table.specs.declared.Insn.TheVariants as insns;
 ghost use Rattle.tz_table.specs.declared.Width.TheVariants.{Wide};
 
-use crate::fields::{field, flags, imm_amount, imm_shift, imm5, wide_if};
+use crate::fields::{field, flags, imm_amount, imm_shift, undefined, wide_if};
 use tz_table::limits::{can_add_register, can_move, plain_base, plain2, plain3};
-use tz_table::{DataOp, Decoded, Flags, Insn, Width};
-
-/// The refusal of all codes here.
-fn undefined() -> Decoded
-    ensures { result ≡ Undefined Wide }
-{
-    Decoded::Undefined(Width::Wide)
-}
+use tz_table::{DataOp, Decoded, Flags, Insn, Width, imm5};
 
 /// An operation with a shifted register.
 fn shifted(op: DataOp, flags: Flags, rd: u8, rn: u8, second: u16) -> Insn

@@ -1,4 +1,4 @@
-//! One instruction of each kind of address, field by field.
+//! An addition and a load, field by field.
 
 use crate::{FieldName, field_name, values};
 use tz_table::{Address, DataOp, Flags, Insn, Shift, Size};

@@ -23,5 +23,6 @@ pub use holds::limits_hold;
 pub use instruction::{
     Address, BarrierOp, DataOp, ExtendOp, FieldOp, Flags, Insn, LongOp, MultiplyOp, ReverseOp,
 };
+pub use parts::{high_register, imm5, imm12};
 pub use rows::{Row, row_at, row_count};
 pub use units::{Code, Shift, Side, Size, Width};
