@@ -1,4 +1,4 @@
--- ThumbExpandImm_C of the manual: the constant that twelve bits stand for.
+-- T32ExpandImm_C of the manual: the constant that twelve bits stand for.
 use Rattle.std.specs.Prelude.{ℕ, ◌+◌, ◌*◌, ◌/◌, ◌%◌, ◌^◌, Bool, ◌&&◌, ◌||◌, ◌==◌, nat_le, nat_lt, if◌then◌else◌, Option, Some, None}
 use Rattle.tz_bits.specs.Words.{is_odd}
 use Rattle.tz_bits.specs.Shifts.{rotated}

@@ -1,13 +1,13 @@
-//! `ThumbExpandImm_C`.
+//! `T32ExpandImm_C`.
 
 ghost use Rattle.std.specs.Prelude.{◌≡◌};
 ghost use Rattle.tz_bits.specs.Constants.{imm_of};
 
 use crate::shifts::rotate;
 
-/// `ThumbExpandImm_C(imm12, carry)`: the constant that 12 bits stand for, and the carry after it.
-/// None exactly where `imm12` exceeds 4095, or bits 11:8 are 1 to 3 (copies of a byte) and bits 7:0
-/// are 0.
+/// `T32ExpandImm_C(imm12, carry)`: the constant that 12 bits stand for, and the carry after it.
+/// None where there is no such constant: `imm12` has more than 12 bits, or would repeat a byte (its high
+/// four bits are 1, 2 or 3) that is 0.
 pub fn expand_imm_c(imm12: u16, carry: bool) -> Option<(u32, bool)>
     ensures { result ≡ imm_of imm12 carry }
 {

@@ -1,5 +1,5 @@
 //! The operations on words that decoding, encoding and data processing share: `AddWithCarry`,
-//! `Shift_C`, `ThumbExpandImm_C`, `SignExtend` and the choice of a bit field (DDI0553, appendix on
+//! `Shift_C`, `T32ExpandImm_C`, `SignExtend` and the choice of a bit field (DDI0553, appendix on
 //! pseudocode).
 //!
 //! Each call is proved to be the manual's function over unbounded numbers. Nothing here knows an

@@ -1,6 +1,5 @@
 //! `AddWithCarry`.
 
-ghost use Rattle.std.specs.Int.{cast_signed, w32};
 ghost use Rattle.std.specs.Prelude.{◌≡◌, ◌+ℤ◌, pos};
 ghost use Rattle.tz_bits.specs.Sums.{sum_of, carry_out, overflow_of, is_signed_word};
 ghost use Rattle.tz_bits.specs.Words.{of_bool};

@@ -1,5 +1,4 @@
 pub mod Zeros
-pub mod NarrowLaws
 pub mod MultipleLaws
 pub mod RegisterLaws
 pub mod ConstantLaws

@@ -1,19 +1,16 @@
 //! The codes of 32 bits that begin with 1111101: shifts by a register, extensions, reversals,
 //! multiplications and divisions.
 
-ghost use Rattle.std.specs.Prelude.{◌≡◌, ◌≢◌, ◌+◌, ◌*◌, ◌<◌, ◌≤◌, ◌==◌, ◌&&◌, true, false, pos, neg_ℤ, if◌then◌else◌};
+ghost use Rattle.std.specs.Prelude.{◌≡◌, ◌*◌, if◌then◌else◌};
 ghost use Rattle.tz_table.specs.Fields.{bits};
-ghost use Rattle.tz_table.specs.Limits.{plain2 as plain2_of, plain3, plain_base, can_store_exclusive, can_set, can_set_from, can_compare, can_add_constant, can_add_register, plain2_same as plain2_same_of, can_multiply_long as can_multiply_long_of, plain4};
+ghost use Rattle.tz_table.specs.Limits.{plain2 as plain2_of, plain2_same as plain2_same_of, can_multiply_long as can_multiply_long_of};
 ghost use Rattle.tz_table.specs.Table.{decode_of};
-ghost use Rattle.tz_table.specs.Terms.{flags_of, imm_shift_of, imm_amount_of, imm12_of, imm5_of, size_of, is_one};
-ghost use Rattle.tz_table.specs.declared.Address.TheVariants as addresses;
-ghost use Rattle.tz_table.specs.declared.DataOp.TheVariants as ops;
 ghost use Rattle.tz_table.specs.declared.Decoded.TheVariants.{One, Undefined};
 ghost use Rattle.tz_table.specs.declared.Flags.TheVariants as flags;
 ghost use Rattle.tz_table.specs.declared.Insn.TheVariants as insns;
 ghost use Rattle.tz_table.specs.declared.Width.TheVariants.{Wide};
 
-use crate::fields::{field, flags, shift, undefined, wide_if};
+use tz_narrow::fields::{field, flags, shift, undefined, wide_if};
 use tz_table::limits::{can_multiply_long, plain2, plain2_same, plain3, plain4};
 use tz_table::{Decoded, ExtendOp, Flags, Insn, LongOp, MultiplyOp, ReverseOp, Width};
 

@@ -1,18 +1,15 @@
 //! The codes of 32 bits that begin with 11110 and have 1 in the second halfword: branches, special
 //! registers, hints and barriers.
 
-ghost use Rattle.std.specs.Prelude.{◌≡◌, ◌≢◌, ◌+◌, ◌*◌, ◌<◌, ◌≤◌, ◌==◌, ◌&&◌, true, false, pos, neg_ℤ, if◌then◌else◌};
+ghost use Rattle.std.specs.Prelude.{◌≡◌};
 ghost use Rattle.tz_table.specs.Fields.{bits};
-ghost use Rattle.tz_table.specs.Limits.{plain2, plain3, plain_base, can_store_exclusive, can_set, can_set_from, can_compare, can_add_constant, can_add_register};
 ghost use Rattle.tz_table.specs.Table.{decode_of};
-ghost use Rattle.tz_table.specs.Terms.{flags_of, imm_shift_of, imm_amount_of, imm12_of, imm5_of, size_of, is_one};
-ghost use Rattle.tz_table.specs.declared.DataOp.TheVariants as ops;
-ghost use Rattle.tz_table.specs.declared.Decoded.TheVariants.{One, Undefined};
-ghost use Rattle.tz_table.specs.declared.Flags.TheVariants as flags;
-ghost use Rattle.tz_table.specs.declared.Insn.TheVariants as insns;
+ghost use Rattle.tz_table.specs.declared.Decoded.TheVariants.{One};
 ghost use Rattle.tz_table.specs.declared.Width.TheVariants.{Wide};
 
-use crate::fields::{condition_offset, far_offset, field, long_field, signed, undefined, wide_if};
+use tz_narrow::fields::{
+    condition_offset, far_offset, field, long_field, signed, undefined, wide_if,
+};
 use tz_table::limits::can_name;
 use tz_table::{BarrierOp, Decoded, Insn, Width};
 

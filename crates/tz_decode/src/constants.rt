@@ -1,18 +1,17 @@
 //! The codes of 32 bits that process data with a constant: those that begin with 11110 and have 0 in the
 //! second halfword. Saturation and bit fields are among them.
 
-ghost use Rattle.std.specs.Prelude.{◌≡◌, ◌≢◌, ◌+◌, ◌-◌, ◌*◌, ◌<◌, ◌≤◌, ◌==◌, ◌&&◌, true, false, pos, neg_ℤ, if◌then◌else◌};
+ghost use Rattle.std.specs.Prelude.{◌≡◌, ◌+◌, ◌-◌, ◌<◌, pos, neg_ℤ, if◌then◌else◌};
 ghost use Rattle.tz_table.specs.Fields.{bits};
-ghost use Rattle.tz_table.specs.Limits.{plain2, plain3, plain_base, can_store_exclusive, can_set, can_set_from, can_compare, can_add_constant, can_add_register, can_add as can_add_of, plain as plain_of, can_saturate as can_saturate_of, can_extract as can_extract_of};
+ghost use Rattle.tz_table.specs.Limits.{can_set, can_set_from, can_compare, can_add_constant, plain as plain_of, can_saturate as can_saturate_of, can_extract as can_extract_of};
 ghost use Rattle.tz_table.specs.Table.{decode_of};
-ghost use Rattle.tz_table.specs.Terms.{flags_of, imm_shift_of, imm_amount_of, imm12_of, imm5_of, size_of, is_one};
-ghost use Rattle.tz_table.specs.declared.DataOp.TheVariants as ops;
+ghost use Rattle.tz_table.specs.Terms.{flags_of, imm12_of, imm5_of, is_one};
 ghost use Rattle.tz_table.specs.declared.Decoded.TheVariants.{One, Undefined};
 ghost use Rattle.tz_table.specs.declared.Flags.TheVariants as flags;
 ghost use Rattle.tz_table.specs.declared.Insn.TheVariants as insns;
 ghost use Rattle.tz_table.specs.declared.Width.TheVariants.{Wide};
 
-use crate::fields::{field, flags, undefined, wide_if};
+use tz_narrow::fields::{field, flags, undefined, wide_if};
 use tz_table::limits::{
     can_add, can_add_constant, can_clear, can_compare, can_extract, can_insert, can_saturate,
     can_set, can_set_from, plain,

@@ -6,26 +6,20 @@
 //! an instruction or knows a state.
 #![tactic(auto)]
 
-ghost use Rattle.std.specs.Prelude.{◌≡◌, ◌≤◌, ◌<◌, ℕ, ◌↔◌, IsTrue, Some, true, slice_get};
-ghost use Rattle.tz_table.specs.Fields.{bits};
+ghost use Rattle.std.specs.Prelude.{◌≡◌, ◌≤◌, ℕ, ◌↔◌, IsTrue, Some, true, slice_get};
 ghost use Rattle.tz_table.specs.Rows.{TableRow, holds};
 ghost use Rattle.tz_table.specs.Table.{decode_of, rows};
 ghost use Rattle.tz_table.specs.declared.Decoded.TheVariants.{One};
 
 mod arithmetic;
 mod branches;
-#[cfg(test)]
-mod codes;
 mod constants;
-mod fields;
 mod loads;
 mod multiples;
-mod narrow;
 mod registers;
-#[cfg(test)]
-mod tests;
 mod wide;
 
+use tz_narrow::narrow;
 pub use tz_table::Decoded;
 
 /// Whether a code that begins with this halfword has a second one: it is 0xE800 or above.
@@ -47,6 +41,6 @@ pub fn decode(first: u16, second: u16) -> Decoded
     if needs_second(first) {
         wide::wide(first, second)
     } else {
-        narrow::narrow(first, second)
+        narrow(first, second)
     }
 }

@@ -1,18 +1,13 @@
 //! The codes of 32 bits that load and store one register: those that begin with 1111100.
 
-ghost use Rattle.std.specs.Prelude.{◌≡◌, ◌≢◌, ◌+◌, ◌*◌, ◌<◌, ◌≤◌, ◌==◌, ◌&&◌, true, false, pos, neg_ℤ, if◌then◌else◌};
+ghost use Rattle.std.specs.Prelude.{◌≡◌, ◌≢◌, ◌==◌, ◌&&◌, false, pos, neg_ℤ};
 ghost use Rattle.tz_table.specs.Fields.{bits};
-ghost use Rattle.tz_table.specs.Limits.{plain2, plain3, plain_base, can_store_exclusive, can_set, can_set_from, can_compare, can_add_constant, can_add_register, can_load as can_load_of, can_store as can_store_of};
 ghost use Rattle.tz_table.specs.Table.{decode_of};
-ghost use Rattle.tz_table.specs.Terms.{flags_of, imm_shift_of, imm_amount_of, imm12_of, imm5_of, size_of, is_one, plus_or_minus as plus_or_minus_of, indexed as indexed_of};
+ghost use Rattle.tz_table.specs.Terms.{size_of, is_one, plus_or_minus as plus_or_minus_of, indexed as indexed_of};
 ghost use Rattle.tz_table.specs.declared.Address.TheVariants as addresses;
-ghost use Rattle.tz_table.specs.declared.DataOp.TheVariants as ops;
-ghost use Rattle.tz_table.specs.declared.Decoded.TheVariants.{One, Undefined};
-ghost use Rattle.tz_table.specs.declared.Flags.TheVariants as flags;
 ghost use Rattle.tz_table.specs.declared.Insn.TheVariants as insns;
-ghost use Rattle.tz_table.specs.declared.Width.TheVariants.{Wide};
 
-use crate::fields::{
+use tz_narrow::fields::{
     field, indexed, is_preload, is_signed_word, long_field, plus_or_minus, size, undefined, wide_if,
 };
 use tz_table::limits::{

@@ -1,19 +1,17 @@
 //! The codes of 32 bits that begin with 1110100: several registers, pairs, exclusives, acquire and
 //! release, table branches and the Secure gateway.
 
-ghost use Rattle.std.specs.Prelude.{◌≡◌, ◌≢◌, ◌+◌, ◌*◌, ◌<◌, ◌≤◌, ◌==◌, ◌&&◌, true, false, pos, neg_ℤ, if◌then◌else◌};
+ghost use Rattle.std.specs.Prelude.{◌≡◌, ◌≢◌, ◌+◌, ◌*◌, ◌<◌, pos, if◌then◌else◌};
 ghost use Rattle.tz_table.specs.Fields.{bits};
-ghost use Rattle.tz_table.specs.Limits.{plain2, plain3, plain_base, can_store_exclusive, can_load_pair_literal as can_load_pair_literal_of};
+ghost use Rattle.tz_table.specs.Limits.{plain_base, can_store_exclusive, can_load_pair_literal as can_load_pair_literal_of};
 ghost use Rattle.tz_table.specs.Table.{decode_of};
-ghost use Rattle.tz_table.specs.Terms.{flags_of, imm_shift_of, imm_amount_of, imm12_of, imm5_of, size_of, is_one, plus_or_minus as plus_or_minus_of, indexed as indexed_of};
+ghost use Rattle.tz_table.specs.Terms.{plus_or_minus as plus_or_minus_of, indexed as indexed_of};
 ghost use Rattle.tz_table.specs.declared.Address.TheVariants as addresses;
-ghost use Rattle.tz_table.specs.declared.DataOp.TheVariants as ops;
 ghost use Rattle.tz_table.specs.declared.Decoded.TheVariants.{One, Undefined};
-ghost use Rattle.tz_table.specs.declared.Flags.TheVariants as flags;
 ghost use Rattle.tz_table.specs.declared.Insn.TheVariants as insns;
 ghost use Rattle.tz_table.specs.declared.Width.TheVariants.{Wide};
 
-use crate::fields::{field, indexed, long_field, plus_or_minus, undefined, wide_if};
+use tz_narrow::fields::{field, indexed, long_field, plus_or_minus, undefined, wide_if};
 use tz_table::limits::{
     can_branch_table, can_load_pair, can_load_pair_literal, can_move_many, can_store_exclusive,
     can_store_pair, plain_base,

@@ -1,17 +1,17 @@
 //! The codes of 32 bits that process data with a shifted register: those that begin with 1110101.
 
-ghost use Rattle.std.specs.Prelude.{◌≡◌, ◌≢◌, ◌+◌, ◌*◌, ◌<◌, ◌≤◌, ◌==◌, ◌&&◌, true, false, pos, neg_ℤ, if◌then◌else◌};
+ghost use Rattle.std.specs.Prelude.{◌≡◌, if◌then◌else◌};
 ghost use Rattle.tz_table.specs.Fields.{bits};
-ghost use Rattle.tz_table.specs.Limits.{plain2, plain3, plain_base, can_store_exclusive, can_set, can_set_from, can_compare, can_add_constant, can_add_register, can_move as can_move_of};
+ghost use Rattle.tz_table.specs.Limits.{plain2, plain3, plain_base, can_add_register, can_move as can_move_of};
 ghost use Rattle.tz_table.specs.Table.{decode_of};
-ghost use Rattle.tz_table.specs.Terms.{flags_of, imm_shift_of, imm_amount_of, imm12_of, imm5_of, size_of, is_one};
+ghost use Rattle.tz_table.specs.Terms.{flags_of, imm_shift_of, imm_amount_of, imm5_of};
 ghost use Rattle.tz_table.specs.declared.DataOp.TheVariants as ops;
 ghost use Rattle.tz_table.specs.declared.Decoded.TheVariants.{One, Undefined};
 ghost use Rattle.tz_table.specs.declared.Flags.TheVariants as flags;
 ghost use Rattle.tz_table.specs.declared.Insn.TheVariants as insns;
 ghost use Rattle.tz_table.specs.declared.Width.TheVariants.{Wide};
 
-use crate::fields::{field, flags, imm_amount, imm_shift, undefined, wide_if};
+use tz_narrow::fields::{field, flags, imm_amount, imm_shift, undefined, wide_if};
 use tz_table::limits::{can_add_register, can_move, plain_base, plain2, plain3};
 use tz_table::{DataOp, Decoded, Flags, Insn, Width, imm5};
 

@@ -1,23 +1,16 @@
 //! The codes of 32 bits, by their leading bits, and those of coprocessors.
 
-ghost use Rattle.std.specs.Prelude.{◌≡◌, ◌≢◌, ◌+◌, ◌*◌, ◌<◌, ◌≤◌, ◌==◌, ◌&&◌, true, false, pos, neg_ℤ, if◌then◌else◌};
+ghost use Rattle.std.specs.Prelude.{◌≡◌, ◌≤◌};
 ghost use Rattle.tz_table.specs.Fields.{bits};
-ghost use Rattle.tz_table.specs.Limits.{plain2, plain3, plain_base, can_store_exclusive, can_set, can_set_from, can_compare, can_add_constant, can_add_register};
 ghost use Rattle.tz_table.specs.Table.{decode_of};
-ghost use Rattle.tz_table.specs.Terms.{flags_of, imm_shift_of, imm_amount_of, imm12_of, imm5_of, size_of, is_one};
-ghost use Rattle.tz_table.specs.declared.DataOp.TheVariants as ops;
-ghost use Rattle.tz_table.specs.declared.Decoded.TheVariants.{One, Undefined, NoCoprocessor};
-ghost use Rattle.tz_table.specs.declared.Flags.TheVariants as flags;
-ghost use Rattle.tz_table.specs.declared.Insn.TheVariants as insns;
-ghost use Rattle.tz_table.specs.declared.Width.TheVariants.{Wide};
 
 use crate::arithmetic::arithmetic;
 use crate::branches::branches;
 use crate::constants::{constants, plain_constants};
-use crate::fields::{field, long_field};
 use crate::loads::transfers;
 use crate::multiples::multiples;
 use crate::registers::registers;
+use tz_narrow::fields::{field, long_field};
 use tz_table::{Decoded, Insn, Width};
 
 /// The codes of 32 bits.

@@ -30,8 +30,8 @@ pub record At (rows : List TableRow) (w : Width) (k : ℕ) (r : TableRow) : Type
   pub there : slice_get rows k ≡ Some r
   pub width : r.width ≡ w
 
--- a code of the row means an instruction of the form of i: the same variant, the same fields of enum and bool
--- type, and an address of the same kind, which are the first five values
+-- a code of the row means an instruction of the same form as i: the first five values, which are those that
+-- aren't numbers, are the same
 abbrev pub HasForm : TableRow → Insn → Type 0
 HasForm r i = (f : ℕ) × ((s : ℕ) × Reaches r 5 i f s)
 
@@ -39,7 +39,7 @@ HasForm r i = (f : ℕ) × ((s : ℕ) × Reaches r 5 i f s)
 abbrev pub HasCode : TableRow → Insn → Type 0
 HasCode r i = (f : ℕ) × ((s : ℕ) × IsCode r i f s)
 
--- c is the least code of i in a row of the width, and no row of the width before it has a code
+-- c is the least code of i in a row of the width, and the rows of the width that come earlier have none
 pub record FirstCode (rows : List TableRow) (w : Width) (i : Insn) (c : ℕ × ℕ) : Type 0 where
   pub place : ℕ
   pub row : TableRow
@@ -47,8 +47,8 @@ pub record FirstCode (rows : List TableRow) (w : Width) (i : Insn) (c : ℕ × �
   pub least : IsLeastCode row i c.0 c.1
   pub none_before : (k : ℕ) (r : TableRow) → k < place → At rows w k r → HasCode r i → ⊥
 
--- no row of the width has a code of i, and in the last one that has its form number n (a register, a
--- constant or an offset) is the first that no code has together with the form and the numbers before it
+-- i has no code of the width. The last row with its form blames number n, a register, a constant or an
+-- offset: codes of that row have the form and all numbers before it, but none has this one too
 pub record LastBlame (rows : List TableRow) (w : Width) (i : Insn) (n : ℕ) : Type 0 where
   pub no_code : (k : ℕ) (r : TableRow) → At rows w k r → HasCode r i → ⊥
   pub place : ℕ

@@ -6,7 +6,7 @@ use Rattle.tz_table.specs.Rows.{TableRow}
 use Rattle.tz_table.specs.declared.instruction.Insn.{Insn}
 use Rattle.tz_table.specs.declared.units.Width.{Width}
 
--- of the rows of the width before row k, the last one that has the form of i blames number n
+-- before row k the last row of the width with the form of i blames number n
 pub record BlamedBefore (rows : List TableRow) (w : Width) (i : Insn) (k : ℕ) (n : ℕ) : Type 0 where
   pub place : ℕ
   pub row : TableRow
@@ -20,14 +20,12 @@ abbrev pub LastBefore : List TableRow → Width → Insn → ℕ → Option ℕ 
 LastBefore rows w i k None = (j : ℕ) (r : TableRow) → j < k → At rows w j r → HasForm r i → ⊥
 LastBefore rows w i k (Some n) = BlamedBefore rows w i k n
 
--- no row of the width before row k has a code of i, and the last one that has its form, if there is one,
--- blames that number
+-- up to row k the width has no code of i; if its form was met, the last row with it blames that number
 pub record NoneBefore (rows : List TableRow) (w : Width) (i : Insn) (k : ℕ) (blamed : Option ℕ) : Type 0 where
   pub no_code : (j : ℕ) (r : TableRow) → j < k → At rows w j r → HasCode r i → ⊥
   pub last : LastBefore rows w i k blamed
 
--- what a search through the rows before row k finds: a code, or the number that the last row of the form
--- blames, if a row has the form
+-- what a search up to row k finds: a code, or else the number to blame so far, if there is any
 unfoldable pub Found : List TableRow → Width → Insn → ℕ → Result (ℕ × ℕ) (Option ℕ) → Type 0
 Found rows w i k (Ok c) = FirstCode rows w i c
 Found rows w i k (Err blamed) = NoneBefore rows w i k blamed

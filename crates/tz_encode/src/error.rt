@@ -5,10 +5,11 @@ use tz_fields::FieldName;
 /// Why there is no code.
 #[derive(Clone, Copy, PartialEq, Eq, Debug)]
 pub enum EncodeError {
-    /// No row of that width has the form of the instruction: its variant with its fields of enum and
-    /// bool type, of an address its kind.
+    /// There are no codes of this shape at that width, whatever numbers stand in them: of this variant,
+    /// operation, flags, sizes and kind of address.
     NoForm,
-    /// Rows have the form, and none holds the numbers: registers, constants, offsets. In the last of them
-    /// this is the first number that no code has together with the form and the numbers before it.
+    /// There are codes of this shape, but none with these registers, constants and offsets. The field is
+    /// the one at which the last row that has such codes gives up: its codes can have all the numbers
+    /// before this one together, and not this one as well.
     Range(FieldName),
 }

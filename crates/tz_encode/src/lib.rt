@@ -5,12 +5,10 @@
 //! here knows a row: what a row gives for an instruction comes from `tz_shapes`.
 #![tactic(auto)]
 
-mod answer;
+mod encoding;
 mod error;
 mod search;
-#[cfg(test)]
-mod tests;
 
-pub use answer::encode;
+pub use encoding::encode;
 pub use error::EncodeError;
 pub use tz_fields::FieldName;

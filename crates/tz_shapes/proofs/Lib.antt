@@ -19,5 +19,12 @@ pub mod LoadReads
 pub mod ArithmeticReads
 pub mod Described
 pub mod ReverseReads
+pub mod Groups
+pub mod NarrowDescribed
+pub mod MultipleDescribed
+pub mod DataDescribed
+pub mod BranchDescribed
+pub mod LoadDescribed
+pub mod ArithmeticDescribed
 pub mod All
 pub mod Rows

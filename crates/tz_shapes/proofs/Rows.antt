@@ -1,8 +1,9 @@
 -- What the slots of a row of the table answer.
-use Rattle.std.proofs.Common.{◌≡◌, ℕ, zero, suc, Bool, true, ◌&&◌, List, [], ◌∷◌, length, refl, sym, ◌∙◌, ap, arith, subst, inl, inr, ◌<◌}
-use Rattle.std.specs.Prelude.{ℤ, slice_get, Some, None}
-use Rattle.std.proofs.lemmas.Bool.{and_parts}
-use Rattle.std.proofs.lemmas.Option.{slice_get_cases}
+use Rattle.std.proofs.Common.{◌≡◌, ℕ, zero, suc, Bool, true, false, ◌&&◌, List, [], ◌∷◌, length, get_or, refl, sym, ◌∙◌, ap, arith, subst, inl, inr, ◌<◌, ◌≤◌}
+use Rattle.std.specs.Ordering.{int_eq}
+use Rattle.std.specs.Prelude.{ℤ, pos, slice_get, Some, None, Err}
+use Rattle.std.proofs.lemmas.Bool.{and_parts, cond-false}
+use Rattle.std.proofs.lemmas.Option.{slice_get_cases, slice_get_within}
 use Rattle.tz_fields.specs.Values.{values_of}
 use Rattle.tz_table.specs.Rows.{TableRow, row_of, rows_of}
 use Rattle.tz_table.specs.Table.{rows}
@@ -11,7 +12,9 @@ use Rattle.tz_table.specs.declared.instruction.Insn.{Insn}
 use Rattle.tz_slots.specs.Codes.{Tried}
 use Rattle.tz_slots.specs.Numbers.{answer, sound}
 use Rattle.tz_slots.specs.declared.slot.Slot.{Slot}
+use Rattle.tz_slots.proofs.Codings.{int_eq-true}
 use Rattle.tz_slots.proofs.Trying.{tried}
+use Rattle.tz_table.proofs.Data.{count_of_rows}
 use Rattle.tz_shapes.specs.declared.shapes.TheConstants.{SHAPES}
 use Rattle.tz_shapes.proofs.Described.{AllDescribed, all_laid_out, shaped_at}
 
@@ -35,6 +38,10 @@ sound_in (us ∷ tss) (suc k) ts h g = sound_in tss k ts (and_parts _ _ h).1 g
 pub sound_at : (k : ℕ) (ts : List Slot) → slice_get SHAPES k ≡ Some ts → sound ts ≡ true
 sound_at k ts g = sound_in SHAPES k ts sound_all g
 
+count_of_data : (rs : List TableRow) → length (rows_of rs) ≡ length rs
+count_of_data [] = refl
+count_of_data (r ∷ rs) = ap suc (count_of_data rs)
+
 get_row : (rs : List TableRow) (k : ℕ) (r : TableRow) → slice_get rs k ≡ Some r → slice_get (rows_of rs) k ≡ Some (row_of r)
 get_row [] k r g = cc
 get_row (q ∷ rs) zero r g = let e : q ≡ r = cc in ap (λ x. Some (row_of x)) e
@@ -54,9 +61,35 @@ row_tried d k row ts i (z ∷ zs) r a b v n g =
     (tried r (row_of r).form ts i z zs s.described s.laid s.eight (sym v) (omega arith))
 
 -- every row has slots
-pub no_slots : (k : ℕ) → k < 189 → None ≡ slice_get SHAPES k → ⊥
-no_slots k h n =
+pub row_without_slots : (k : ℕ) (r : TableRow) → slice_get rows k ≡ Some r → None ≡ slice_get SHAPES k → ⊥
+row_without_slots k r g n =
     elim (slice_get_cases SHAPES k).1 [
       | inl x ↦ let e : None ≡ Some x.0 = n ∙ x.2 in cc
-      | inr x ↦ let e : 189 ≡ length SHAPES = refl in omega arith
+      | inr y ↦
+          let e : 189 ≡ length SHAPES = refl in
+          let below : k < length rows = slice_get_within rows k r g in
+          omega (arith, count_of_rows)
+    ]
+
+-- past the end there is no row
+pub past_rows : (k : ℕ) (row : Row) → Some row ≡ slice_get (rows_of rows) k → length rows ≤ k → ⊥
+past_rows k row e h =
+    let below : k < length (rows_of rows) = slice_get_within (rows_of rows) k row (sym e) in
+    omega (arith, count_of_data rows)
+
+is_false : (b : Bool) → (b ≡ true → ⊥) → b ≡ false
+is_false true h = absurd (h refl)
+is_false false h = refl
+
+-- of another variant the slots answer that place, whatever they are
+other_answer : (form first second : ℕ) (ts : List Slot) (z : ℤ) (zs : List ℤ) → (z ≡ pos form → ⊥) → answer form first second ts (z ∷ zs) ≡ Err 0
+other_answer form first second ts z zs h =
+    cond-false (int_eq (pos form) z) _ _ (is_false (int_eq (pos form) z) (λ e. h (sym (int_eq-true (pos form) z e))))
+
+pub other_variant : AllDescribed rows SHAPES → (k : ℕ) (row : Row) (i : Insn) (vs : List ℤ) (r : TableRow) → Some row ≡ slice_get (rows_of rows) k → vs ≡ values_of i → length vs ≡ 9 → slice_get rows k ≡ Some r → (get_or vs 0 (pos 0) ≡ pos row.form → ⊥) → Tried r i (Err 0)
+other_variant d k row i [] r a v n g h = absurd (omega arith)
+other_variant d k row i (z ∷ zs) r a v n g h =
+    elim (slice_get_cases SHAPES k).1 [
+      | inl x ↦ subst (Tried r i) (other_answer row.form row.first_value row.second_value x.0 z zs h) (row_tried d k row x.0 i (z ∷ zs) r a (sym x.2) v n g)
+      | inr y ↦ absurd (row_without_slots k r g (sym y.1))
     ]

@@ -495,7 +495,8 @@ fn get(shapes: &[[Slot; 8]], index: usize) -> Option<[Slot; 8]>
     shapes.get(index).copied()
 }
 
-/// The slots of the row at `index` of the instruction table; None exactly at or past the count.
+/// The slots of the row at `index` of the instruction table: None exactly where `index` isn't below the
+/// count of rows.
 pub fn slots_at(index: usize) -> Option<[Slot; 8]>
     ensures { result ≡ slice_get SHAPES index }
 {

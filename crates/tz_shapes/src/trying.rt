@@ -1,6 +1,6 @@
 //! What one row of the instruction table gives for an instruction.
 
-ghost use Rattle.std.specs.Prelude.{◌≡◌, ◌<◌, slice_get, Some};
+ghost use Rattle.std.specs.Prelude.{◌≡◌, ◌≤◌, length, slice_get, Some, Err};
 ghost use Rattle.tz_fields.specs.Values.{values_of};
 ghost use Rattle.tz_slots.specs.Codes.{Tried};
 ghost use Rattle.tz_table.specs.Rows.{TableRow};
@@ -13,14 +13,19 @@ use tz_table::row_at;
 
 /// The halfwords of the least code that the row at `index` has of the instruction with these values, as
 /// `tz_fields` gives them; of a narrow row the second is 0. Else the place of the first value that no code
-/// of the row has together with those before it: 0 is the variant.
+/// of the row has together with those before it: 0 is the variant. That is the place at and past the end
+/// of the table, too.
 pub fn try_row(index: usize, values: &[i32; 9]) -> Result<(u16, u16), usize>
-    requires { index < 189 }
-    ensures { (i : Insn) → values.now ≡ values_of i → (r : TableRow) → slice_get rows index ≡ Some r → Tried r i result }
+    ensures row { (i : Insn) → values.now ≡ values_of i → (r : TableRow) → slice_get rows index ≡ Some r → Tried r i result }
+    ensures past { length rows ≤ index → result ≡ Err 0 }
 {
     let Some(row) = row_at(index) else {
         return Err(0);
     };
+    // Most rows have another variant, and their slots aren't looked at.
+    if values[0] != i32::from(row.form) {
+        return Err(0);
+    }
     let Some(slots) = slots_at(index) else {
         return Err(0);
     };

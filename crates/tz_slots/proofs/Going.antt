@@ -6,7 +6,7 @@ use Rattle.std.proofs.lemmas.List.{take_more}
 use Rattle.std.proofs.lemmas.Bool.{and_parts}
 use Rattle.std.proofs.lemmas.Bool.Decides.{nat_tests}
 use Rattle.tz_slots.specs.Slots.{parts_in, placed}
-use Rattle.tz_slots.specs.Numbers.{number_for, takes, taken, sum_of, answer, sound}
+use Rattle.tz_slots.specs.Numbers.{number_for, takes, taken, code_bits, answer, sound}
 use Rattle.tz_slots.specs.declared.slot.Half.TheVariants.{First, Second}
 use Rattle.tz_slots.specs.declared.slot.Slot.{Slot}
 
@@ -24,7 +24,7 @@ step : (b : Bool) (n m k f s p q x y : ℕ) → (if b then ended n m (k + 1) ((f
 step true n m k f s p q x y = grind (arith, nat_tests)
 step false n m k f s p q x y = grind (arith, nat_tests)
 
-pub going_is : (k f s : ℕ) (e : List ℤ) (ts : List Slot) (zs : List ℤ) → f < 65536 → s < 65536 → going k f s e ts zs ≡ ended (taken e ts zs) (length ts) k f s (sum_of First e ts zs) (sum_of Second e ts zs)
+pub going_is : (k f s : ℕ) (e : List ℤ) (ts : List Slot) (zs : List ℤ) → f < 65536 → s < 65536 → going k f s e ts zs ≡ ended (taken e ts zs) (length ts) k f s (code_bits First e ts zs) (code_bits Second e ts zs)
 going_is k f s e [] zs hf hs = grind (arith, nat_tests)
 going_is k f s e (t ∷ ts) [] hf hs = grind (arith, nat_tests)
 going_is k f s e (t ∷ ts) (z ∷ zs) hf hs =
@@ -33,7 +33,7 @@ going_is k f s e (t ∷ ts) (z ∷ zs) hf hs =
     let q : ℕ = placed Second (parts_in t.parts) n in
     let next = going_is (k + 1) ((f + p) % 65536) ((s + q) % 65536) (e ++ z ∷ []) ts zs (omega arith) (omega arith) in
     ap (λ r. if takes t e z then r else Err k) next
-    ∙ step (takes t e z) (taken (e ++ z ∷ []) ts zs) (length ts) k f s p q (sum_of First (e ++ z ∷ []) ts zs) (sum_of Second (e ++ z ∷ []) ts zs)
+    ∙ step (takes t e z) (taken (e ++ z ∷ []) ts zs) (length ts) k f s p q (code_bits First (e ++ z ∷ []) ts zs) (code_bits Second (e ++ z ∷ []) ts zs)
 
 drop_cons : {X : Type 0} → (xs : List X) (k : ℕ) (d : X) → k < length xs → drop k xs ≡ get_or xs k d ∷ drop (k + 1) xs
 drop_cons xs k d h = rw add-one (drop-cons xs k d h)
@@ -77,7 +77,7 @@ going_on k f s m p q ts vs d ht hv e ep eq =
 pub going_from : (form f s : ℕ) (ts : List Slot) (vs : List ℤ) → 0 < length vs → f < 65536 → s < 65536 → int_eq (pos form) (get_or vs 0 (pos 0)) ≡ true → answer form f s ts vs ≡ going 1 f s (take 1 vs) ts (drop 1 vs)
 going_from form f s ts [] h hf hs e = absurd (omega arith)
 going_from form f s ts (z ∷ zs) h hf hs e =
-    ap (λ b. if b then ended (taken (z ∷ []) ts zs) (length ts) 1 f s (sum_of First (z ∷ []) ts zs) (sum_of Second (z ∷ []) ts zs) else Err 0) e
+    ap (λ b. if b then ended (taken (z ∷ []) ts zs) (length ts) 1 f s (code_bits First (z ∷ []) ts zs) (code_bits Second (z ∷ []) ts zs) else Err 0) e
     ∙ sym (going_is 1 f s (z ∷ []) ts zs hf hs)
 
 sound-suc : (k : ℕ) (ts : List Slot) → sound (drop k ts) ≡ true → sound (drop (suc k) ts) ≡ true

@@ -8,7 +8,7 @@ use Rattle.tz_table.specs.declared.units.Width.{Width}
 use Rattle.tz_table.specs.declared.units.Width.TheVariants.{Narrow, Wide}
 use Rattle.tz_table.proofs.Reduction.{inside, cube_of_all}
 use Rattle.tz_slots.specs.Codes.{seconds}
-use Rattle.tz_slots.specs.Numbers.{take_all, sum_of}
+use Rattle.tz_slots.specs.Numbers.{take_all, code_bits}
 use Rattle.tz_slots.specs.Slots.{lies_in}
 use Rattle.tz_slots.specs.declared.slot.Half.{Half}
 use Rattle.tz_slots.specs.declared.slot.Half.TheVariants.{First, Second}
@@ -114,7 +114,7 @@ pub record Made (r : TableRow) (e : List ℤ) (ts : List Slot) (zs : List ℤ) (
   pub fixed_bits : in_cube r.pattern.cube f s ≡ true
   pub numbers : Holds e ts zs f s
 
-pub made_code : (r : TableRow) (e : List ℤ) (ts : List Slot) (zs : List ℤ) → LaidOut r ts → length ts ≡ length zs → take_all e ts zs ≡ true → Made r e ts zs (r.pattern.cube.first_value + sum_of First e ts zs) (r.pattern.cube.second_value + sum_of Second e ts zs)
+pub made_code : (r : TableRow) (e : List ℤ) (ts : List Slot) (zs : List ℤ) → LaidOut r ts → length ts ≡ length zs → take_all e ts zs ≡ true → Made r e ts zs (r.pattern.cube.first_value + code_bits First e ts zs) (r.pattern.cube.second_value + code_bits Second e ts zs)
 made_code r e ts zs o l h =
     let ws = writes_of e ts zs in
     let f = r.pattern.cube.first_value in
@@ -135,4 +135,4 @@ made_code r e ts zs o l h =
       fixed_bits = in_cube_by r.pattern.cube (after_all First (writes_of e ts zs) f) (after_all Second (writes_of e ts zs) s) f s o.covers kept;
       numbers = holds_written e ts zs (after_all First (writes_of e ts zs) f) (after_all Second (writes_of e ts zs) s) h (written_all (writes_of e ts zs) f s clear apart);
     } in
-    subst (λ n. Made r e ts zs n (s + sum_of Second e ts zs)) first_is (subst (λ n. Made r e ts zs (after_all First (writes_of e ts zs) f) n) second_is made)
+    subst (λ n. Made r e ts zs n (s + code_bits Second e ts zs)) first_is (subst (λ n. Made r e ts zs (after_all First (writes_of e ts zs) f) n) second_is made)

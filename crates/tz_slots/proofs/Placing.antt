@@ -4,7 +4,7 @@ use Rattle.std.specs.Prelude.{◌==◌, ℤ}
 use Rattle.std.proofs.lemmas.Bool.{and_parts, and_from, eqb-true, eq-eqb, ne_eqb, cond-false}
 use Rattle.std.proofs.lemmas.Nat.{pow_pos}
 use Rattle.std.proofs.Math.Nat.{mod-lt, mul-le-mul_right}
-use Rattle.tz_slots.specs.Numbers.{number_for, stands_for, takes, take_all, sum_of, value_at, values_in}
+use Rattle.tz_slots.specs.Numbers.{number_for, stands_for, takes, take_all, code_bits, value_at, values_in}
 use Rattle.tz_slots.specs.Limits.{limit_holds}
 use Rattle.tz_slots.specs.Slots.{parts_in, bits_at, lies_in, scaled, gathered, gathered_onto, digit, held_by, placed}
 use Rattle.tz_slots.specs.declared.slot.Half.{Half}
@@ -31,13 +31,13 @@ after_put h [] m ws n = ap (after_all h ws) (omega arith)
 after_put h (p ∷ ps) m ws n = after_put h ps m ws (n + lies_in h p.half (digit p m * 2 ^ p.low)) ∙ ap (after_all h ws) (add_assoc n (lies_in h p.half (digit p m * 2 ^ p.low)) (placed h ps m))
 
 -- the code of the writes is the sum
-pub after_writes : (h : Half) (e : List ℤ) (ts : List Slot) (zs : List ℤ) (n : ℕ) → after_all h (writes_of e ts zs) n ≡ n + sum_of h e ts zs
+pub after_writes : (h : Half) (e : List ℤ) (ts : List Slot) (zs : List ℤ) (n : ℕ) → after_all h (writes_of e ts zs) n ≡ n + code_bits h e ts zs
 after_writes h e [] zs n = omega arith
 after_writes h e (t ∷ ts) [] n = omega arith
 after_writes h e (t ∷ ts) (z ∷ zs) n =
     after_put h (parts_in t.parts) (number_for t.coding e z) (writes_of (e ++ z ∷ []) ts zs) n
     ∙ after_writes h (e ++ z ∷ []) ts zs (n + placed h (parts_in t.parts) (number_for t.coding e z))
-    ∙ add_assoc n (placed h (parts_in t.parts) (number_for t.coding e z)) (sum_of h (e ++ z ∷ []) ts zs)
+    ∙ add_assoc n (placed h (parts_in t.parts) (number_for t.coding e z)) (code_bits h (e ++ z ∷ []) ts zs)
 
 parts_put : (ps : List Part) (n : ℕ) (ws : List Write) → parts_of (put_parts ps n ws) ≡ ps ++ parts_of ws
 parts_put [] n ws = refl
@@ -142,11 +142,11 @@ sum_bits-append h [] qs f s = omega arith
 sum_bits-append h (p ∷ ps) qs f s = ap (λ x. lies_in h p.half (bits_at p f s * 2 ^ p.low) + x) (sum_bits-append h ps qs f s) ∙ sym (add_assoc (lies_in h p.half (bits_at p f s * 2 ^ p.low)) (sum_bits h ps f s) (sum_bits h qs f s))
 
 -- the values of a code, written again, add no more than the code has
-pub sum_at_most : (h : Half) (e : List ℤ) (ts : List Slot) (f s : ℕ) → AllWritten e ts f s → sum_of h e ts (values_in e ts f s) ≤ sum_bits h (all_parts ts) f s
+pub sum_at_most : (h : Half) (e : List ℤ) (ts : List Slot) (f s : ℕ) → AllWritten e ts f s → code_bits h e ts (values_in e ts f s) ≤ sum_bits h (all_parts ts) f s
 sum_at_most h e [] f s a = omega arith
 sum_at_most h e (t ∷ ts) f s a =
     let z = value_at t.coding e (gathered (parts_in t.parts) f s) f s in
-    let below = add_both (placed h (parts_in t.parts) (number_for t.coding e z)) (sum_bits h (parts_in t.parts) f s) (sum_of h (e ++ z ∷ []) ts (values_in (e ++ z ∷ []) ts f s)) (sum_bits h (all_parts ts) f s) (placed_at_most h (parts_in t.parts) (number_for t.coding e z) f s a.0.least) (sum_at_most h (e ++ z ∷ []) ts f s a.1) in
+    let below = add_both (placed h (parts_in t.parts) (number_for t.coding e z)) (sum_bits h (parts_in t.parts) f s) (code_bits h (e ++ z ∷ []) ts (values_in (e ++ z ∷ []) ts f s)) (sum_bits h (all_parts ts) f s) (placed_at_most h (parts_in t.parts) (number_for t.coding e z) f s a.0.least) (sum_at_most h (e ++ z ∷ []) ts f s a.1) in
     omega (arith, below, sum_bits-append h (parts_in t.parts) (all_parts ts) f s)
 
 -- the slots take the values of a code

@@ -15,7 +15,7 @@ use Rattle.tz_table.proofs.Scans.{holds_parts}
 use Rattle.tz_table.proofs.Cubes.{in_cube-from}
 use Rattle.tz_slots.specs.Codes.{InRow, Reaches, IsCode, IsLeastCode, Blames, Tried}
 use Rattle.tz_slots.specs.Limits.{limit_holds}
-use Rattle.tz_slots.specs.Numbers.{number_for, value_at, stands_for, takes, take_all, taken, values_in, sum_of, answer}
+use Rattle.tz_slots.specs.Numbers.{number_for, value_at, stands_for, takes, take_all, taken, values_in, code_bits, answer}
 use Rattle.tz_slots.specs.Slots.{parts_in, gathered, held_by}
 use Rattle.tz_slots.specs.declared.slot.Half.{Half}
 use Rattle.tz_slots.specs.declared.slot.Half.TheVariants.{First, Second}
@@ -45,12 +45,12 @@ pub record Coded (r : TableRow) (form : ℕ) (ts : List Slot) (zs : List ℤ) (f
   pub code : InRow r f s
   pub values : values_of (r.insn f s) ≡ pos form ∷ zs
 
-pub coded : (r : TableRow) (form : ℕ) (ts : List Slot) (zs : List ℤ) → Describes r form ts → LaidOut r ts → length ts ≡ length zs → take_all (pos form ∷ []) ts zs ≡ true → Coded r form ts zs (r.pattern.cube.first_value + sum_of First (pos form ∷ []) ts zs) (r.pattern.cube.second_value + sum_of Second (pos form ∷ []) ts zs)
+pub coded : (r : TableRow) (form : ℕ) (ts : List Slot) (zs : List ℤ) → Describes r form ts → LaidOut r ts → length ts ≡ length zs → take_all (pos form ∷ []) ts zs ≡ true → Coded r form ts zs (r.pattern.cube.first_value + code_bits First (pos form ∷ []) ts zs) (r.pattern.cube.second_value + code_bits Second (pos form ∷ []) ts zs)
 coded r form ts zs d o l h =
     let m = made_code r (pos form ∷ []) ts zs o l h in
-    let told = d.told zs (r.pattern.cube.first_value + sum_of First (pos form ∷ []) ts zs) (r.pattern.cube.second_value + sum_of Second (pos form ∷ []) ts zs) l h m.numbers in
-    let limits = limits_taken (pos form ∷ []) ts zs (r.pattern.cube.first_value + sum_of First (pos form ∷ []) ts zs) (r.pattern.cube.second_value + sum_of Second (pos form ∷ []) ts zs) h told in
-    let here : InRow r (r.pattern.cube.first_value + sum_of First (pos form ∷ []) ts zs) (r.pattern.cube.second_value + sum_of Second (pos form ∷ []) ts zs) = record {
+    let told = d.told zs (r.pattern.cube.first_value + code_bits First (pos form ∷ []) ts zs) (r.pattern.cube.second_value + code_bits Second (pos form ∷ []) ts zs) l h m.numbers in
+    let limits = limits_taken (pos form ∷ []) ts zs (r.pattern.cube.first_value + code_bits First (pos form ∷ []) ts zs) (r.pattern.cube.second_value + code_bits Second (pos form ∷ []) ts zs) h told in
+    let here : InRow r (r.pattern.cube.first_value + code_bits First (pos form ∷ []) ts zs) (r.pattern.cube.second_value + code_bits Second (pos form ∷ []) ts zs) = record {
       first_fits = m.first_fits;
       second_fits = m.second_fits;
       held = d.held zs _ _ m.first_fits m.second_below m.fixed_bits l h m.numbers limits;
@@ -63,10 +63,10 @@ in_row_cube : (r : TableRow) (f s : ℕ) → InRow r f s → in_cube r.pattern.c
 in_row_cube r f s c = in_cube-from r.pattern.cube f s (holds_parts r f s c.held).1
 
 -- what the values add to the fixed bits is no more than a code that has them
-no_less : (h : Half) (r : TableRow) (form : ℕ) (ts : List Slot) (zs : List ℤ) (g t base : ℕ) → Describes r form ts → LaidOut r ts → InRow r g t → values_in (pos form ∷ []) ts g t ≡ zs → sum_bits h (fixed r.pattern.cube) r.pattern.cube.first_value r.pattern.cube.second_value ≡ base → base + sum_of h (pos form ∷ []) ts zs ≤ sum_bits h (fixed r.pattern.cube ++ all_parts ts) g t
+no_less : (h : Half) (r : TableRow) (form : ℕ) (ts : List Slot) (zs : List ℤ) (g t base : ℕ) → Describes r form ts → LaidOut r ts → InRow r g t → values_in (pos form ∷ []) ts g t ≡ zs → sum_bits h (fixed r.pattern.cube) r.pattern.cube.first_value r.pattern.cube.second_value ≡ base → base + code_bits h (pos form ∷ []) ts zs ≤ sum_bits h (fixed r.pattern.cube ++ all_parts ts) g t
 no_less h r form ts zs g t base d o c same e =
     let bits_same = same_sums h (fixed r.pattern.cube) g t r.pattern.cube.first_value r.pattern.cube.second_value (fixed_bits r.pattern.cube (fixed r.pattern.cube) g t r.pattern.cube.first_value r.pattern.cube.second_value o.covered (in_row_cube r g t c)) in
-    let rest : sum_of h (pos form ∷ []) ts zs ≤ sum_bits h (all_parts ts) g t = subst (λ l. sum_of h (pos form ∷ []) ts l ≤ sum_bits h (all_parts ts) g t) same (sum_at_most h (pos form ∷ []) ts g t (d.written g t c)) in
+    let rest : code_bits h (pos form ∷ []) ts zs ≤ sum_bits h (all_parts ts) g t = subst (λ l. code_bits h (pos form ∷ []) ts l ≤ sum_bits h (all_parts ts) g t) same (sum_at_most h (pos form ∷ []) ts g t (d.written g t c)) in
     let both = sum_bits-append h (fixed r.pattern.cube) (all_parts ts) g t in
     omega arith
 
@@ -79,7 +79,7 @@ tail_of z xs ys h = cc
 values_of_code : (r : TableRow) (form : ℕ) (ts : List Slot) (i : Insn) (zs : List ℤ) (g t : ℕ) → Describes r form ts → values_of i ≡ pos form ∷ zs → IsCode r i g t → values_in (pos form ∷ []) ts g t ≡ zs
 values_of_code r form ts i zs g t d v c = tail_of (pos form) (values_in (pos form ∷ []) ts g t) zs (sym (d.values g t c.code) ∙ ap values_of c.means ∙ v)
 
-least_code : (r : TableRow) (form : ℕ) (ts : List Slot) (i : Insn) (zs : List ℤ) → Describes r form ts → LaidOut r ts → values_of i ≡ pos form ∷ zs → length ts ≡ length zs → take_all (pos form ∷ []) ts zs ≡ true → IsLeastCode r i (r.pattern.cube.first_value + sum_of First (pos form ∷ []) ts zs) (r.pattern.cube.second_value + sum_of Second (pos form ∷ []) ts zs)
+least_code : (r : TableRow) (form : ℕ) (ts : List Slot) (i : Insn) (zs : List ℤ) → Describes r form ts → LaidOut r ts → values_of i ≡ pos form ∷ zs → length ts ≡ length zs → take_all (pos form ∷ []) ts zs ≡ true → IsLeastCode r i (r.pattern.cube.first_value + code_bits First (pos form ∷ []) ts zs) (r.pattern.cube.second_value + code_bits Second (pos form ∷ []) ts zs)
 least_code r form ts i zs d o v l h =
     let c = coded r form ts zs d o l h in
     record {
@@ -89,7 +89,7 @@ least_code r form ts i zs d o v l h =
           let below = sums_le (fixed r.pattern.cube ++ all_parts ts) g t o.both_apart in
           let first = no_less First r form ts zs g t r.pattern.cube.first_value d o k.code same o.first_sum in
           let second = no_less Second r form ts zs g t r.pattern.cube.second_value d o k.code same o.second_sum in
-          lexical (r.pattern.cube.first_value + sum_of First (pos form ∷ []) ts zs) (r.pattern.cube.second_value + sum_of Second (pos form ∷ []) ts zs) g t (omega arith) (omega arith);
+          lexical (r.pattern.cube.first_value + code_bits First (pos form ∷ []) ts zs) (r.pattern.cube.second_value + code_bits Second (pos form ∷ []) ts zs) g t (omega arith) (omega arith);
     }
 
 -- ---- an instruction of which they don't
@@ -101,9 +101,9 @@ reach r form ts i zs d o n a b v h =
     let w = fill (pos form ∷ []) ts (take n zs) d.fills h (omega arith) in
     let c = coded r form ts w.all d o (sym w.long) w.taken in
     let begins : take n w.all ≡ take n zs = subst (λ m. take m w.all ≡ take n zs) long w.begins in (
-      r.pattern.cube.first_value + sum_of First (pos form ∷ []) ts w.all,
+      r.pattern.cube.first_value + code_bits First (pos form ∷ []) ts w.all,
       (
-        r.pattern.cube.second_value + sum_of Second (pos form ∷ []) ts w.all,
+        r.pattern.cube.second_value + code_bits Second (pos form ∷ []) ts w.all,
         record {
           code = c.code;
           means = ap (take (suc n)) c.values ∙ ap (λ l. pos form ∷ l) begins ∙ sym (ap (take (suc n)) v);
@@ -133,7 +133,7 @@ other_form r form ts i z zs d o v h =
     let w = fill (pos form ∷ []) ts [] d.fills (take_all-none (pos form ∷ []) ts) (omega arith) in
     let c = coded r form ts w.all d o (sym w.long) w.taken in
     record {
-      before = (r.pattern.cube.first_value + sum_of First (pos form ∷ []) ts w.all, (r.pattern.cube.second_value + sum_of Second (pos form ∷ []) ts w.all, record { code = c.code; means = refl }));
+      before = (r.pattern.cube.first_value + code_bits First (pos form ∷ []) ts w.all, (r.pattern.cube.second_value + code_bits Second (pos form ∷ []) ts w.all, record { code = c.code; means = refl }));
       never = λ f s k.
           let agree : pos form ∷ [] ≡ z ∷ [] = sym (ap (take 1) (d.values f s k.code)) ∙ k.means ∙ ap (take 1) v in
           let same : pos form ≡ z = cc in
@@ -150,7 +150,7 @@ below_length n m h d = omega arith
 
 -- what the slots answer of an instruction of the variant
 abbrev Given : TableRow → ℕ → List Slot → List ℤ → Result (ℕ × ℕ) ℕ
-Given r form ts zs = if taken (pos form ∷ []) ts zs == length ts then Ok ((r.pattern.cube.first_value + sum_of First (pos form ∷ []) ts zs) % 65536, (r.pattern.cube.second_value + sum_of Second (pos form ∷ []) ts zs) % 65536) else Err (1 + taken (pos form ∷ []) ts zs)
+Given r form ts zs = if taken (pos form ∷ []) ts zs == length ts then Ok ((r.pattern.cube.first_value + code_bits First (pos form ∷ []) ts zs) % 65536, (r.pattern.cube.second_value + code_bits Second (pos form ∷ []) ts zs) % 65536) else Err (1 + taken (pos form ∷ []) ts zs)
 
 given : (r : TableRow) (form : ℕ) (ts : List Slot) (i : Insn) (zs : List ℤ) → Describes r form ts → LaidOut r ts → length ts ≡ 8 → values_of i ≡ pos form ∷ zs → length zs ≡ 8 → Tried r i (Given r form ts zs)
 unfolding Tried
@@ -160,10 +160,10 @@ given r form ts i zs d o lt v lz =
       | inl h ↦
           let m = made_code r (pos form ∷ []) ts zs o l (taken_all (pos form ∷ []) ts zs (eqb-true _ _ h)) in
           let code = least_code r form ts i zs d o v l (taken_all (pos form ∷ []) ts zs (eqb-true _ _ h)) in
-          let exact : IsLeastCode r i ((r.pattern.cube.first_value + sum_of First (pos form ∷ []) ts zs) % 65536) ((r.pattern.cube.second_value + sum_of Second (pos form ∷ []) ts zs) % 65536) =
-          subst (λ n. IsLeastCode r i n ((r.pattern.cube.second_value + sum_of Second (pos form ∷ []) ts zs) % 65536)) (sym (fitting (r.pattern.cube.first_value + sum_of First (pos form ∷ []) ts zs) m.first_fits))
-          (subst (λ n. IsLeastCode r i (r.pattern.cube.first_value + sum_of First (pos form ∷ []) ts zs) n) (sym (fitting (r.pattern.cube.second_value + sum_of Second (pos form ∷ []) ts zs) m.second_below)) code) in
-          subst (Tried r i) (sym (cond-true (taken (pos form ∷ []) ts zs == length ts) (Ok ((r.pattern.cube.first_value + sum_of First (pos form ∷ []) ts zs) % 65536, (r.pattern.cube.second_value + sum_of Second (pos form ∷ []) ts zs) % 65536)) (Err (1 + taken (pos form ∷ []) ts zs)) h)) exact
+          let exact : IsLeastCode r i ((r.pattern.cube.first_value + code_bits First (pos form ∷ []) ts zs) % 65536) ((r.pattern.cube.second_value + code_bits Second (pos form ∷ []) ts zs) % 65536) =
+          subst (λ n. IsLeastCode r i n ((r.pattern.cube.second_value + code_bits Second (pos form ∷ []) ts zs) % 65536)) (sym (fitting (r.pattern.cube.first_value + code_bits First (pos form ∷ []) ts zs) m.first_fits))
+          (subst (λ n. IsLeastCode r i (r.pattern.cube.first_value + code_bits First (pos form ∷ []) ts zs) n) (sym (fitting (r.pattern.cube.second_value + code_bits Second (pos form ∷ []) ts zs) m.second_below)) code) in
+          subst (Tried r i) (sym (cond-true (taken (pos form ∷ []) ts zs == length ts) (Ok ((r.pattern.cube.first_value + code_bits First (pos form ∷ []) ts zs) % 65536, (r.pattern.cube.second_value + code_bits Second (pos form ∷ []) ts zs) % 65536)) (Err (1 + taken (pos form ∷ []) ts zs)) h)) exact
       | inr h ↦
           let some = taken_le (pos form ∷ []) ts zs in
           let differs = eqb-false (taken (pos form ∷ []) ts zs) (length ts) h in
@@ -171,7 +171,7 @@ given r form ts i zs d o lt v lz =
           let at : suc (taken (pos form ∷ []) ts zs) ≡ 1 + taken (pos form ∷ []) ts zs = omega arith in
           let nine : 1 + taken (pos form ∷ []) ts zs < 9 = omega arith in
           let blames = subst (Blames r i) at (blamed r form ts i zs d o v l less) in
-          subst (Tried r i) (sym (cond-false (taken (pos form ∷ []) ts zs == length ts) (Ok ((r.pattern.cube.first_value + sum_of First (pos form ∷ []) ts zs) % 65536, (r.pattern.cube.second_value + sum_of Second (pos form ∷ []) ts zs) % 65536)) (Err (1 + taken (pos form ∷ []) ts zs)) h)) (blames, nine)
+          subst (Tried r i) (sym (cond-false (taken (pos form ∷ []) ts zs == length ts) (Ok ((r.pattern.cube.first_value + code_bits First (pos form ∷ []) ts zs) % 65536, (r.pattern.cube.second_value + code_bits Second (pos form ∷ []) ts zs) % 65536)) (Err (1 + taken (pos form ∷ []) ts zs)) h)) (blames, nine)
     ]
 
 -- what the slots of a row answer is its least code, or the first value that no code has
@@ -187,5 +187,5 @@ tried r form ts i z zs d o lt v lz =
           subst (λ y. Tried r i (answer form r.pattern.cube.first_value r.pattern.cube.second_value ts (y ∷ zs))) same here
       | inr h ↦
           let blames : Tried r i (Err 0) = (other_form r form ts i z zs d o v h, omega arith) in
-          subst (Tried r i) (sym (cond-false (int_eq (pos form) z) (if taken (z ∷ []) ts zs == length ts then Ok ((r.pattern.cube.first_value + sum_of First (z ∷ []) ts zs) % 65536, (r.pattern.cube.second_value + sum_of Second (z ∷ []) ts zs) % 65536) else Err (1 + taken (z ∷ []) ts zs)) (Err 0) h)) blames
+          subst (Tried r i) (sym (cond-false (int_eq (pos form) z) (if taken (z ∷ []) ts zs == length ts then Ok ((r.pattern.cube.first_value + code_bits First (z ∷ []) ts zs) % 65536, (r.pattern.cube.second_value + code_bits Second (z ∷ []) ts zs) % 65536) else Err (1 + taken (z ∷ []) ts zs)) (Err 0) h)) blames
     ]

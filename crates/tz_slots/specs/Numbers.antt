@@ -18,7 +18,7 @@ use Rattle.tz_slots.specs.declared.slot.Slot.{Slot}
 abbrev pub unsigned_by : ℕ → ℤ → ℕ
 unsigned_by half z = if int_lt z (pos 0) then 2 * half - nat_abs z else nat_abs z
 
--- S:J:K:rest to S:I:H:rest and back: I = not (J xor S), H = not (K xor S)
+-- the two bits below the sign of a long branch's distance, inverted where the sign is 0: there and back
 abbrev pub far : ℕ → ℕ
 far n = let s = bits n 24 1 in s * 2 ^ 24 + (1 - (bits n 23 1 + s) % 2) * 2 ^ 23 + (1 - (bits n 22 1 + s) % 2) * 2 ^ 22 + n % 2 ^ 22
 
@@ -99,16 +99,16 @@ taken e (t ∷ ts) [] = 0
 taken e (t ∷ ts) (z ∷ zs) = if takes t e z then (1 + taken (e ++ z ∷ []) ts zs) else 0
 
 -- what the values add to a halfword of the code
-abbrev pub sum_of : Half → List ℤ → List Slot → List ℤ → ℕ
-sum_of h e [] zs = 0
-sum_of h e (t ∷ ts) [] = 0
-sum_of h e (t ∷ ts) (z ∷ zs) = placed h (parts_in t.parts) (number_for t.coding e z) + sum_of h (e ++ z ∷ []) ts zs
+abbrev pub code_bits : Half → List ℤ → List Slot → List ℤ → ℕ
+code_bits h e [] zs = 0
+code_bits h e (t ∷ ts) [] = 0
+code_bits h e (t ∷ ts) (z ∷ zs) = placed h (parts_in t.parts) (number_for t.coding e z) + code_bits h (e ++ z ∷ []) ts zs
 
 -- what a row with this variant, these fixed bits and these slots gives for nine values: a code, or the
 -- place of the first value that its slots don't take
 abbrev pub answer : ℕ → ℕ → ℕ → List Slot → List ℤ → Result (ℕ × ℕ) ℕ
 answer form first second ts [] = Err 0
-answer form first second ts (z ∷ zs) = if int_eq (pos form) z then (if taken (z ∷ []) ts zs == length ts then Ok ((first + sum_of First (z ∷ []) ts zs) % 65536, (second + sum_of Second (z ∷ []) ts zs) % 65536) else Err (1 + taken (z ∷ []) ts zs)) else Err 0
+answer form first second ts (z ∷ zs) = if int_eq (pos form) z then (if taken (z ∷ []) ts zs == length ts then Ok ((first + code_bits First (z ∷ []) ts zs) % 65536, (second + code_bits Second (z ∷ []) ts zs) % 65536) else Err (1 + taken (z ∷ []) ts zs)) else Err 0
 
 -- parts that a halfword and a number of 32 bits have
 abbrev pub sound_parts : List Part → Bool

@@ -5,7 +5,7 @@
 
 ghost use Rattle.std.specs.Prelude.{◌≡◌, ◌+◌, ◌&&◌, ◌||◌, ◌==◌, not, nat_le, count_ones, if◌then◌else◌};
 ghost use Rattle.tz_slots.specs.Limits.{allows as allows_of, limit_holds as limit_holds_of};
-ghost use Rattle.tz_table.specs.Limits.{not_zero, not_pc, plain as plain_of, is_listed as is_listed_of};
+ghost use Rattle.tz_table.specs.Limits.{not_zero, not_pc, is_listed as is_listed_of};
 
 use crate::limit::Limit;
 use crate::values::number_at;

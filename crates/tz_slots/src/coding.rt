@@ -18,7 +18,7 @@ pub enum Coding {
     Signed(u32),
     /// Bits 11:0, plus where bit 12 is 1, else minus; minus 0 is 0.
     Sign,
-    /// The distance of B.W and BL: bits 23 and 22 are xored with the inverse of bit 24.
+    /// The distance of B.W and BL: bits 23 and 22 are inverted where bit 24 is 0.
     Far,
     /// An amount of a shift to the right, where 0 stands for 32.
     Right,

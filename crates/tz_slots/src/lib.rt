@@ -13,8 +13,6 @@ mod numbers;
 mod slot;
 mod values;
 mod words;
-#[cfg(test)]
-mod worked_codes;
 mod writing;
 
 pub use coding::Coding;

@@ -25,7 +25,7 @@ pub enum Limit {
     Either(u8),
     /// Not 0, and a single bit beside the condition AL.
     ItMask(u8),
-    /// Not empty; the base, if listed, is the lowest.
+    /// Not empty; of the listed registers the base comes first, if it is one of them.
     StoreList(u8),
     /// Not empty; lists the base at the second place exactly where the first place has 0.
     LoadList(u8, u8),
@@ -50,7 +50,7 @@ pub enum Limit {
     MoveSource(u8, u8, u8),
     /// The amount of a move between these registers: 0 where one is SP.
     MoveAmount(u8, u8),
-    /// Twelve bits that are a constant (`ThumbExpandImm_C`).
+    /// Twelve bits that are a constant (`T32ExpandImm_C`).
     Constant,
     /// Not 0 where the shift is ASR.
     Saturation(u8),

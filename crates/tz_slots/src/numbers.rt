@@ -1,10 +1,9 @@
 //! The numbers that stand for values.
 
-ghost use Rattle.std.specs.Prelude.{◌≡◌, ◌<◌, ◌≤◌, ◌^◌, ◌+◌, ◌-◌, ◌*◌, ◌/◌, ◌%◌, pos};
+ghost use Rattle.std.specs.Prelude.{◌≡◌, ◌<◌, ◌^◌, ◌/◌, ◌%◌, pos};
 ghost use Rattle.std.specs.Ordering.{int_eq};
-ghost use Rattle.tz_slots.specs.Limits.{entry as entry_of, number_at as number_at_of};
 ghost use Rattle.tz_slots.specs.Numbers.{unsigned_by as unsigned_by_of, far as far_of, amount_number as amount_number_of, number_for as number_for_of, stands_for as stands_for_of};
-ghost use Rattle.tz_table.specs.Terms.{signed_by, plus_or_minus, imm_amount_of};
+ghost use Rattle.tz_table.specs.Terms.{signed_by, imm_amount_of};
 
 use crate::coding::Coding;
 use crate::values::{entry, is_minus, is_number, number_at};
@@ -36,7 +35,8 @@ fn is_signed(half: u32, number: u64, value: i32) -> bool
     }
 }
 
-/// S:J:K:rest to S:I:H:rest and back, where I is the inverse of J xor S, and H that of K xor S.
+/// Inverts bits 23 and 22 where bit 24, the sign, is 0: from the bits of a code to those of a distance,
+/// and back.
 fn far(number: u64) -> u64
     ensures is { result ≡ far_of number }
     ensures fits { result < 2 ^ 25 }

@@ -1,7 +1,10 @@
-//! The words in which limits are said: tests of registers, lists and constants by number, for numbers of
-//! any size. They mean what the tests of the table's rows mean.
+//! The words in which limits are said: tests of registers, lists and constants by number.
+//!
+//! `tz_table` has tests of these names for the fields of codes, which are bytes and halfwords. A value of an
+//! instruction may be any number, and most numbers fit no field: so the tests stand here again for words.
+//! What they mean stands once, in the definitions that both are proved to be.
 
-ghost use Rattle.std.specs.Prelude.{◌≡◌, ◌&&◌, ◌||◌, not, ◌==◌};
+ghost use Rattle.std.specs.Prelude.{◌≡◌};
 ghost use Rattle.tz_slots.specs.Limits.{is_bare as is_bare_of};
 ghost use Rattle.tz_table.specs.Limits.{plain as plain_of, can_add_high as can_add_high_of, can_compare_high as can_compare_high_of, can_exchange as can_exchange_of, is_single as is_single_of, is_listed as is_listed_of, can_store_many as can_store_many_of, copies_zero as copies_zero_of, is_special as is_special_of, can_load as can_load_of, can_store as can_store_of};
 
@@ -48,7 +51,7 @@ pub fn is_listed(list: u32, k: u32) -> bool
     if k < 32 { (list >> k) % 2 == 1 } else { false }
 }
 
-/// A narrow store of several registers: a base in the list is the lowest.
+/// A narrow store of several registers: some are listed, and none before a listed base.
 #[tactic(auto, using(crate::proofs::Listed::past_list))]
 pub fn can_store_many(rn: u32, list: u32) -> bool
     ensures { result ≡ can_store_many_of rn list }

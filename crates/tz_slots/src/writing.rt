@@ -1,6 +1,6 @@
 //! The code that the slots of a row give for values, one slot after the other.
 
-ghost use Rattle.std.specs.Prelude.{◌≡◌, ◌<◌, ◌≤◌, ◌^◌, ◌+◌, ◌*◌, ◌%◌, ◌==◌, true, if◌then◌else◌};
+ghost use Rattle.std.specs.Prelude.{◌≡◌, ◌≤◌, ◌^◌, ◌+◌, ◌*◌, ◌%◌, ◌==◌, true, if◌then◌else◌};
 ghost use Rattle.tz_slots.specs.Numbers.{number_for as number_for_of, takes as takes_of, answer as answer_of, sound, sound_parts};
 ghost use Rattle.tz_slots.specs.Slots.{parts_in, digit as digit_of, held_by as held_by_of, lies_in as lies_in_of, placed as placed_of};
 
@@ -31,9 +31,9 @@ fn are_holding(parts: &[Part], number: u64, rest: u64) -> bool
     }
 }
 
-/// The bits of a number that a part holds, where the part has them.
+/// The bits of a number that a part holds, in the part's place.
 #[tactic(auto, using(crate::proofs::Moved::moved_fits))]
-fn moved(part: Part, number: u64) -> u16
+fn digit_in_place(part: Part, number: u64) -> u16
     requires { (part.low + part.width ≤ 16) × (part.shift + part.width ≤ 32) }
     ensures { result ≡ digit_of part number * 2 ^ part.low }
 {
@@ -58,7 +58,7 @@ fn placed(half: Half, parts: &[Part], number: u64) -> u16
     match parts {
         [] => 0,
         [part, others @ ..] => {
-            let bits = lies_in(half, part.half, moved(*part, number));
+            let bits = lies_in(half, part.half, digit_in_place(*part, number));
             bits.wrapping_add(placed(half, others, number))
         }
     }

@@ -3,7 +3,7 @@
 use Rattle.std.specs.Prelude.{◌+◌, ◌-◌, ◌*◌, ◌^◌, if◌then◌else◌, Bool, true, not, ◌&&◌, ◌||◌, bit_and, bit_or, ◌==◌, List, [], ◌∷◌}
 use Rattle.std.specs.List.{list_all, list_any}
 use Rattle.tz_table.specs.Patterns.{Cube, Field, first, second, Pattern}
-use Rattle.tz_table.specs.Rows.{TableRow, Refusal}
+use Rattle.tz_table.specs.Rows.{TableRow, RefusedCodes}
 
 -- ---- tests on constants, which compute
 
@@ -65,7 +65,7 @@ abbrev pub left_of : Pattern → Pattern → Pattern
 left_of k p = record { cube = (if inside k.cube p.cube then everything else p.cube); excepts = kept (record k { cube = meet k.cube p.cube }) p.excepts }
 
 -- ---- what is left of the lists where a pattern is known to fit
-abbrev pub refusals_left : Pattern → List Refusal → List Refusal
+abbrev pub refusals_left : Pattern → List RefusedCodes → List RefusedCodes
 refusals_left k [] = []
 refusals_left k (r ∷ rs) = if rules_out k r.cube then refusals_left k rs else (record r { cube = if inside k.cube r.cube then everything else r.cube } ∷ refusals_left k rs)
 

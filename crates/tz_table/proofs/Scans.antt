@@ -4,7 +4,7 @@ use Rattle.std.specs.Prelude.{slice_get}
 use Rattle.std.specs.List.{list_all, list_any}
 use Rattle.std.proofs.lemmas.Bool.{cases_order, and_parts, and_from, and_left, and_right, or_cases, or_from, or_left, or_right, not-true, both_ways, cases_Bool, false_from_ne_true, cond-true, cond-false}
 use Rattle.tz_table.specs.Patterns.{Cube, Pattern, Field, has, has_all, has_any, in_cube, fits}
-use Rattle.tz_table.specs.Rows.{TableRow, Refusal, holds, refused, scan}
+use Rattle.tz_table.specs.Rows.{TableRow, RefusedCodes, holds, refused, scan}
 use Rattle.tz_table.proofs.Reduction.{meet, inside, implies, cube_of, cube_of_all, apart, all_apart, everything, fields_left, rules_out, excluded, kept, left_of, reduce, refusals_left}
 use Rattle.tz_table.specs.declared.decoded.Decoded.{Decoded}
 use Rattle.tz_table.specs.declared.decoded.Decoded.TheVariants.{One}
@@ -107,7 +107,7 @@ in_cube-left k c f s h =
       | inr i ↦ ap (λ x. in_cube x f s) (cond-false (inside k.cube c) everything c i)
     ]
 
-pub known_refused : (rs : List Refusal) (k : Pattern) (f s : ℕ) → Known k f s → refused rs f s ≡ refused (refusals_left k rs) f s
+pub known_refused : (rs : List RefusedCodes) (k : Pattern) (f s : ℕ) → Known k f s → refused rs f s ≡ refused (refusals_left k rs) f s
 known_refused [] k f s h = refl
 known_refused (r ∷ rs) k f s h =
     elim (cases_Bool (rules_out k r.cube)) [
@@ -123,7 +123,7 @@ known_refused (r ∷ rs) k f s h =
     ]
 
 -- the same scan, a test at a time, so that a test that computes leaves no trace
-abbrev pub sift : List Refusal → List TableRow → ℕ → ℕ → Decoded
+abbrev pub sift : List RefusedCodes → List TableRow → ℕ → ℕ → Decoded
 sift rs [] f s = refused rs f s
 sift rs (e ∷ es) f s = let next = sift rs es f s in cond (e.limits f s) (cond (fits e.pattern f s) (One (e.insn f s) e.width) next) next
 
@@ -131,7 +131,7 @@ pub cond-and : {X : Type 0} (a b : Bool) (x y : X) → cond (a && b) x y ≡ con
 cond-and true b x y = refl
 cond-and false b x y = refl
 
-pub known : (rs : List Refusal) (es : List TableRow) (k : Pattern) (f s : ℕ) → Known k f s → scan rs es f s ≡ sift (refusals_left k rs) (reduce k es) f s
+pub known : (rs : List RefusedCodes) (es : List TableRow) (k : Pattern) (f s : ℕ) → Known k f s → scan rs es f s ≡ sift (refusals_left k rs) (reduce k es) f s
 known rs [] k f s h = known_refused rs k f s h
 known rs (e ∷ es) k f s h =
     elim (cases_Bool (excluded k e.pattern)) [
@@ -148,7 +148,7 @@ known rs (e ∷ es) k f s h =
     ]
 
 -- the same from tests: all of these fields, and none of those lists
-pub known_by : (rs : List Refusal) (es : List TableRow) (xs : List Field) (nots : List (List Field)) (f s : ℕ) → has_all xs f s ≡ true → has_any nots f s ≡ false → scan rs es f s ≡ sift (refusals_left (record { cube = cube_of_all xs; excepts = nots }) rs) (reduce (record { cube = cube_of_all xs; excepts = nots }) es) f s
+pub known_by : (rs : List RefusedCodes) (es : List TableRow) (xs : List Field) (nots : List (List Field)) (f s : ℕ) → has_all xs f s ≡ true → has_any nots f s ≡ false → scan rs es f s ≡ sift (refusals_left (record { cube = cube_of_all xs; excepts = nots }) rs) (reduce (record { cube = cube_of_all xs; excepts = nots }) es) f s
 known_by rs es xs nots f s p q = known rs es (record { cube = cube_of_all xs; excepts = nots }) f s (record { within = InCube-from_all xs f s p; without = q })
 
 -- ---- at most one
@@ -203,7 +203,7 @@ apart_at p [] k e h g = cc
 apart_at p (x ∷ es) zero e h g = let same : x ≡ e = cc in ap (λ z. apart p z.pattern) (sym same) ∙ (and_parts _ _ h).0
 apart_at p (x ∷ es) (suc k) e h g = apart_at p es k e (and_parts _ _ h).1 g
 
-pub scan-holds : (rs : List Refusal) (es : List TableRow) (k : ℕ) (e : TableRow) (f s : ℕ) → all_apart (patterns es) ≡ true → slice_get es k ≡ Some e → holds e f s ≡ true → scan rs es f s ≡ One (e.insn f s) e.width
+pub scan-holds : (rs : List RefusedCodes) (es : List TableRow) (k : ℕ) (e : TableRow) (f s : ℕ) → all_apart (patterns es) ≡ true → slice_get es k ≡ Some e → holds e f s ≡ true → scan rs es f s ≡ One (e.insn f s) e.width
 unfolding all_apart
 scan-holds rs [] k e f s h g t = cc
 scan-holds rs (x ∷ es) zero e f s h g t =
@@ -216,7 +216,7 @@ scan-holds rs (x ∷ es) (suc k) e f s h g t =
     (apart_at x.pattern es k e parts.0 g)) in
     cond-false (holds x f s) (One (x.insn f s) x.width) (scan rs es f s) not_here ∙ scan-holds rs es k e f s parts.1 g t
 
-pub scan-none : (rs : List Refusal) (es : List TableRow) (f s : ℕ) → ((k : ℕ) (e : TableRow) → slice_get es k ≡ Some e → holds e f s ≡ false) → scan rs es f s ≡ refused rs f s
+pub scan-none : (rs : List RefusedCodes) (es : List TableRow) (f s : ℕ) → ((k : ℕ) (e : TableRow) → slice_get es k ≡ Some e → holds e f s ≡ false) → scan rs es f s ≡ refused rs f s
 scan-none rs [] f s h = refl
 scan-none rs (x ∷ es) f s h =
     cond-false (holds x f s) (One (x.insn f s) x.width) (scan rs es f s) (h zero x refl) ∙ scan-none rs es f s (λ k e g. h (suc k) e g)

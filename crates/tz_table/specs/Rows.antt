@@ -21,17 +21,17 @@ pub record TableRow : Type 0 where
 abbrev pub holds : TableRow → ℕ → ℕ → Bool
 holds r f s = r.limits f s && fits r.pattern f s
 
--- what a code of a cube is where no row holds it
-pub record Refusal : Type 0 where
+-- codes that no row holds, and what decoding answers for them
+pub record RefusedCodes : Type 0 where
   pub cube : Cube
   pub answer : Decoded
 
-abbrev pub refused : List Refusal → ℕ → ℕ → Decoded
+abbrev pub refused : List RefusedCodes → ℕ → ℕ → Decoded
 refused [] f s = Undefined Narrow
 refused (r ∷ rs) f s = if in_cube r.cube f s then r.answer else refused rs f s
 
--- the instruction of the first row that holds the code
-abbrev pub scan : List Refusal → List TableRow → ℕ → ℕ → Decoded
+-- by the first row in which the code stands, its instruction and width
+abbrev pub scan : List RefusedCodes → List TableRow → ℕ → ℕ → Decoded
 scan rs [] f s = refused rs f s
 scan rs (r ∷ rest) f s = if holds r f s then One (r.insn f s) r.width else scan rs rest f s
 

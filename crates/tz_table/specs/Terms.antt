@@ -54,7 +54,7 @@ high_register f = bits f 7 1 * 8 + bits f 0 3
 abbrev pub indexed : ℕ → ℕ → ℕ → ℤ → Address
 indexed p w rn offset = if w == 1 then (if p == 1 then addresses.Pre rn offset else addresses.Post rn offset) else addresses.Offset rn offset
 
--- S:I:H:i10:i11:0 with I = not (J xor S) and H = not (K xor S), 25 bits
+-- 25 bits: the sign, J and K, each inverted where the sign is 0, ten bits, eleven bits, and a 0
 abbrev pub far_offset : ℕ → ℕ → ℕ
 far_offset f s = bits f 10 1 * 2 ^ 24 + (1 - (bits s 13 1 + bits f 10 1) % 2) * 2 ^ 23 + (1 - (bits s 11 1 + bits f 10 1) % 2) * 2 ^ 22 + bits f 0 10 * 2 ^ 12 + bits s 0 11 * 2
 

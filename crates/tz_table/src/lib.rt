@@ -14,8 +14,6 @@ mod narrow_limits;
 mod other_limits;
 mod parts;
 mod rows;
-#[cfg(test)]
-mod tests;
 mod units;
 
 pub use decoded::Decoded;

@@ -1,7 +1,7 @@
 //! The limits of rows, each a test of the fields that it names. Registers are numbers, 13 is SP and 15
 //! is PC.
 
-ghost use Rattle.std.specs.Prelude.{◌≡◌, ◌<◌, ◌≤◌, ◌==◌, ◌&&◌};
+ghost use Rattle.std.specs.Prelude.{◌≡◌, ◌<◌};
 ghost use Rattle.tz_table.specs.Limits.{plain as plain_of, plain2 as plain2_of, plain3 as plain3_of, plain4 as plain4_of, plain_base as plain_base_of, plain2_same as plain2_same_of, can_add_high as can_add_high_of, can_compare_high as can_compare_high_of, can_exchange as can_exchange_of, is_single as is_single_of, can_begin as can_begin_of, is_listed as is_listed_of, can_store_many as can_store_many_of, can_move_many as can_move_many_of, can_store_pair as can_store_pair_of, can_load_pair as can_load_pair_of, can_load_pair_literal as can_load_pair_literal_of, can_store_exclusive as can_store_exclusive_of, can_branch_table as can_branch_table_of, copies_zero as copies_zero_of, can_add as can_add_of, can_add_register as can_add_register_of, can_move as can_move_of, can_set as can_set_of, can_set_from as can_set_from_of, can_add_constant as can_add_constant_of, can_compare as can_compare_of, can_saturate as can_saturate_of, can_extract as can_extract_of, can_insert as can_insert_of, can_clear as can_clear_of, can_multiply_long as can_multiply_long_of, is_special as is_special_of, can_name as can_name_of, can_load as can_load_of, can_store as can_store_of, can_load_back as can_load_back_of, can_store_back as can_store_back_of, can_load_index as can_load_index_of, can_store_index as can_store_index_of};
 
 /// Neither SP nor PC.

@@ -2,7 +2,7 @@
 //! hold. Where two rows share bits, limits keep them apart. The letters in a comment are the fields of the
 //! first and of the second halfword.
 
-ghost use Rattle.std.specs.Prelude.{◌≡◌, length, map, slice_get};
+ghost use Rattle.std.specs.Prelude.{◌≡◌, length, slice_get};
 ghost use Rattle.tz_table.specs.Rows.{rows_of};
 ghost use Rattle.tz_table.specs.Table.{rows, OneRow};
 
@@ -429,7 +429,7 @@ pub fn row_count() -> usize
     ROWS.len()
 }
 
-/// The row at `index`, in the manual's order; None exactly at or past the count.
+/// The row at `index`, in the manual's order: None exactly where `index` isn't below the count.
 pub fn row_at(index: usize) -> Option<Row>
     ensures { result ≡ slice_get (rows_of rows) index }
 {
