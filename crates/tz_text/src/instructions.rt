@@ -1,155 +1,70 @@
-//! The text of an instruction, as the trace shows it after its code.
+//! A code as the trace shows it, and the text of its instruction behind it.
 //!
-//! It has every instruction that is built; the others show as a question mark.
+//! A code that is no instruction runs only where its IT block skips it; its text is a directive of GNU's
+//! assembler.
 
-ghost use Rattle.std.specs.Prelude.{◌≡◌, ◌≤◌, ◌+◌, ◌++◌, length};
+ghost use Rattle.std.specs.Prelude.{◌≡◌, ◌≤◌, ◌+◌, ◌++◌};
 ghost use Rattle.arrayvec.specs.ArrayString.{array_string_len};
-ghost use Rattle.tz_sem.specs.Text.{register_text, constant_text, access_text, exchange_name, insn_text, text_of};
+ghost use Rattle.tz_text.specs.Instruction.{code_text, meaning_of, meaning_text, narrow_text, second_of, wide_text};
 
-use crate::digits::{Line, push_decimal, push_hex_word, push_signed, push_small};
-use tz_model::{Address, DataOp, Flags, Insn, Size};
+use arrayvec::ArrayString;
+use tz_decode::{Decoded, decode};
+use tz_model::{Code, Width};
+use tz_syntax::{push_hex_half, push_instruction};
 
-/// The name of a register.
-#[tactic(auto, unfolding(tz_sem::specs::Text::register_text))]
-pub fn push_register(text: &mut Line, register: u8)
-    requires { array_string_len text.old + 4 ≤ 768 }
-    ensures bytes { text.new.bytes ≡ text.old.bytes ++ register_text register }
-    ensures len { array_string_len text.new ≤ array_string_len text.old + 4 }
+/// A line of the trace. The longest has 706 bytes: 130 with no register and no store, 14 for each of
+/// 16 registers, and 22 for each of 16 stores.
+pub type Line = ArrayString<768>;
+
+/// The four or eight digits of a code.
+pub fn push_code(text: &mut Line, code: &Code)
+    requires { array_string_len text.old + 8 ≤ 768 }
+    ensures bytes { text.new.bytes ≡ text.old.bytes ++ code_text code.now }
+    ensures len { array_string_len text.new ≤ array_string_len text.old + 8 }
 {
-    match register {
-        13 => text.push_str("sp"),
-        14 => text.push_str("lr"),
-        15 => text.push_str("pc"),
-        _ => {
-            text.push_str("r");
-            push_small(text, register);
-        }
+    push_hex_half(text, code.first);
+    if let Some(second) = code.second {
+        push_hex_half(text, second);
     }
 }
 
-/// The operands of an operation on a register and a constant, after its name.
-fn push_constant(text: &mut Line, name: &str, rd: u8, rn: u8, imm: u16)
-    requires room { array_string_len text.old + 28 ≤ 768 }
-    requires name { length name.now ≤ 5 }
-    ensures bytes { text.new.bytes ≡ text.old.bytes ++ constant_text name.now rd rn imm }
-    ensures len { array_string_len text.new ≤ array_string_len text.old + 28 }
+/// The second halfword of a code, 0 where it has none.
+fn second_of(code: &Code) -> u16
+    ensures { result ≡ second_of code.now }
 {
-    text.push_str(name);
-    push_register(text, rd);
-    text.push_str(", ");
-    push_register(text, rn);
-    text.push_str(", #");
-    push_decimal(text, u32::from(imm));
+    code.second.unwrap_or(0)
 }
 
-/// The operands of a load or a store at a register plus an offset, after its name.
-fn push_access(text: &mut Line, name: &str, rt: u8, rn: u8, offset: i32)
-    requires room { array_string_len text.old + 30 ≤ 768 }
-    requires name { length name.now ≤ 4 }
-    ensures bytes { text.new.bytes ≡ text.old.bytes ++ access_text name.now rt rn offset }
-    ensures len { array_string_len text.new ≤ array_string_len text.old + 30 }
+/// A code of 32 bits that is no instruction.
+fn push_wide(text: &mut Line, code: &Code)
+    requires { array_string_len text.old + 18 ≤ 768 }
+    ensures bytes { text.new.bytes ≡ text.old.bytes ++ wide_text code.now }
+    ensures len { array_string_len text.new ≤ array_string_len text.old + 18 }
 {
-    text.push_str(name);
-    push_register(text, rt);
-    text.push_str(", [");
-    push_register(text, rn);
-    text.push_str(", #");
-    push_signed(text, offset);
-    text.push_str("]");
+    text.push_str(".inst.w 0x");
+    push_hex_half(text, code.first);
+    push_hex_half(text, second_of(code));
 }
 
-/// An instruction that stands at `pc`.
-fn push_insn(text: &mut Line, pc: u32, insn: Insn)
-    requires { array_string_len text.old + 30 ≤ 768 }
-    ensures bytes { text.new.bytes ≡ text.old.bytes ++ insn_text pc insn }
-    ensures len { array_string_len text.new ≤ array_string_len text.old + 30 }
+/// One of 16 bits.
+fn push_narrow(text: &mut Line, code: &Code)
+    requires { array_string_len text.old + 14 ≤ 768 }
+    ensures bytes { text.new.bytes ≡ text.old.bytes ++ narrow_text code.now }
+    ensures len { array_string_len text.new ≤ array_string_len text.old + 14 }
 {
-    match insn {
-        Insn::DataImm {
-            op: DataOp::Mov,
-            flags: Flags::OutsideIt,
-            rd,
-            rn: _,
-            imm12,
-        } => {
-            text.push_str("movs ");
-            push_register(text, rd);
-            text.push_str(", #");
-            push_decimal(text, u32::from(imm12));
-        }
-        Insn::DataImm {
-            op: DataOp::Add,
-            flags: Flags::OutsideIt,
-            rd,
-            rn,
-            imm12,
-        } => {
-            push_constant(text, "adds ", rd, rn, imm12);
-        }
-        Insn::DataImm {
-            op: DataOp::Sub,
-            flags: Flags::OutsideIt,
-            rd,
-            rn,
-            imm12,
-        } => {
-            push_constant(text, "subs ", rd, rn, imm12);
-        }
-        Insn::Load {
-            size: Size::Word,
-            signed: false,
-            rt,
-            address: Address::Literal { offset },
-            user: false,
-        } => {
-            push_access(text, "ldr ", rt, 15, offset);
-        }
-        Insn::Load {
-            size: Size::Word,
-            signed: false,
-            rt,
-            address: Address::Offset { rn, offset },
-            user: false,
-        } => {
-            push_access(text, "ldr ", rt, rn, offset);
-        }
-        Insn::Store {
-            size: Size::Word,
-            rt,
-            address: Address::Offset { rn, offset },
-            user: false,
-        } => {
-            push_access(text, "str ", rt, rn, offset);
-        }
-        Insn::Branch { offset } => {
-            text.push_str("b 0x");
-            push_hex_word(
-                text,
-                pc.wrapping_add(4).wrapping_add(offset.cast_unsigned()),
-            );
-        }
-        Insn::BranchExchange { rm, ns } => {
-            text.push_str(if ns { "bxns " } else { "bx " });
-            push_register(text, rm);
-        }
-        Insn::CallExchange { rm, ns: false } => {
-            text.push_str("blx ");
-            push_register(text, rm);
-        }
-        Insn::Hint { op: 0 } => text.push_str("nop"),
-        Insn::SecureGateway => text.push_str("sg"),
-        _ => text.push_str("?"),
-    }
+    text.push_str(".inst.n 0x");
+    push_hex_half(text, code.first);
 }
 
-/// The instruction of a code at `pc`, where the code has one.
-pub fn push_text(text: &mut Line, pc: u32, insn: Option<Insn>)
-    requires { array_string_len text.old + 30 ≤ 768 }
-    ensures bytes { text.new.bytes ≡ text.old.bytes ++ text_of pc insn }
-    ensures len { array_string_len text.new ≤ array_string_len text.old + 30 }
+/// What a code at `pc` means.
+pub fn push_meaning(text: &mut Line, pc: u32, code: &Code)
+    requires { array_string_len text.old + 96 ≤ 768 }
+    ensures bytes { text.new.bytes ≡ text.old.bytes ++ meaning_text pc code.now (meaning_of code.now) }
+    ensures len { array_string_len text.new ≤ array_string_len text.old + 96 }
 {
-    match insn {
-        Some(insn) => push_insn(text, pc, insn),
-        None => text.push_str("?"),
+    match decode(code.first, second_of(code)) {
+        Decoded::One(insn, width) => push_instruction(text, &insn, width, pc),
+        Decoded::NoCoprocessor | Decoded::Undefined(Width::Wide) => push_wide(text, code),
+        Decoded::Undefined(Width::Narrow) => push_narrow(text, code),
     }
 }

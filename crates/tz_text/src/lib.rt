@@ -4,11 +4,11 @@
 //! the value that is returned and takes no memory. Of the machine it knows nothing but reports.
 #![tactic(auto)]
 
-mod digits;
 mod instructions;
 mod lines;
 #[cfg(test)]
 mod tests;
 
-pub use lines::line;
+pub use instructions::Line;
+pub use lines::{line, push_line};
 pub use tz_model::View;

@@ -4,13 +4,12 @@
 
 ghost use Rattle.std.specs.Prelude.{◌≡◌, ◌≤◌, ◌+◌, ◌*◌, ◌++◌, length};
 ghost use Rattle.arrayvec.specs.ArrayString.{array_string_len};
-ghost use Rattle.tz_sem.specs.Text.{change_name, changes_text, size_text, stores_text, is_hidden, start_text, report_text, body, line};
+ghost use Rattle.tz_text.specs.Line.{change_name, changes_text, size_text, stores_text, is_hidden, start_text, report_text, body, line};
 
-use crate::digits::{Line, push_code, push_decimal, push_hex_word};
-use crate::instructions::{push_register, push_text};
+use crate::instructions::{Line, push_code, push_meaning};
 use arrayvec::ArrayString;
-use tz_core::decode;
 use tz_model::{Change, Report, Side, Size, StepKind, Store, View};
+use tz_syntax::{push_decimal, push_hex_word, register_name};
 
 /// The name of a register that differs.
 fn push_change_name(text: &mut Line, name: u8)
@@ -21,12 +20,12 @@ fn push_change_name(text: &mut Line, name: u8)
     if name == 15 {
         text.push_str("apsr");
     } else {
-        push_register(text, name);
+        text.push_str(register_name(u32::from(name)));
     }
 }
 
 /// The registers that differ, each with its new value.
-#[tactic(auto, unfolding(tz_sem::specs::Text::changes_text))]
+#[tactic(auto, unfolding(crate::specs::Line::changes_text))]
 fn push_changes(text: &mut Line, changes: &[Change])
     requires { array_string_len text.old + 14 * length changes.now ≤ 768 }
     ensures bytes { text.new.bytes ≡ text.old.bytes ++ changes_text changes.now }
@@ -54,7 +53,7 @@ fn push_size(text: &mut Line, size: Size)
 }
 
 /// The stores, each with its address, size and value.
-#[tactic(auto, unfolding(tz_sem::specs::Text::stores_text))]
+#[tactic(auto, unfolding(crate::specs::Line::stores_text))]
 fn push_stores(text: &mut Line, stores: &[Store])
     requires { array_string_len text.old + 22 * length stores.now ≤ 768 }
     ensures bytes { text.new.bytes ≡ text.old.bytes ++ stores_text stores.now }
@@ -70,9 +69,9 @@ fn push_stores(text: &mut Line, stores: &[Store])
 
 /// What a step was, in full.
 fn push_report(text: &mut Line, report: &Report)
-    requires { array_string_len text.old + 626 ≤ 768 }
+    requires { array_string_len text.old + 692 ≤ 768 }
     ensures bytes { text.new.bytes ≡ text.old.bytes ++ report_text report.now }
-    ensures len { array_string_len text.new ≤ array_string_len text.old + 626 }
+    ensures len { array_string_len text.new ≤ array_string_len text.old + 692 }
 {
     match report.kind {
         StepKind::Locked => text.push_str("L"),
@@ -89,7 +88,7 @@ fn push_report(text: &mut Line, report: &Report)
             text.push_str(" ");
             push_code(text, &code);
             text.push_str(" ");
-            push_text(text, pc, decode(&code));
+            push_meaning(text, pc, &code);
             push_changes(text, report.changes.as_slice());
             push_stores(text, report.stores.as_slice());
         }
@@ -105,9 +104,9 @@ fn is_hidden(report: &Report) -> bool
 
 /// A line after its number.
 fn push_body(text: &mut Line, report: &Report, view: View)
-    requires { array_string_len text.old + 628 ≤ 768 }
+    requires { array_string_len text.old + 694 ≤ 768 }
     ensures bytes { text.new.bytes ≡ text.old.bytes ++ body view report.now }
-    ensures len { array_string_len text.new ≤ array_string_len text.old + 628 }
+    ensures len { array_string_len text.new ≤ array_string_len text.old + 694 }
 {
     match view {
         View::Ns => {
@@ -127,15 +126,24 @@ fn push_body(text: &mut Line, report: &Report, view: View)
     }
 }
 
+/// Appends the line of a step with its line feed, as a view shows it. `step` counts from 0.
+#[tactic(auto, unfolding(crate::specs::Line::line))]
+pub fn push_line(text: &mut Line, report: &Report, step: u32, view: View)
+    requires { array_string_len text.old + 706 ≤ 768 }
+    ensures bytes { text.new.bytes ≡ text.old.bytes ++ line view step report.now }
+    ensures len { array_string_len text.new ≤ array_string_len text.old + 706 }
+{
+    push_decimal(text, step);
+    text.push_str(" ");
+    push_body(text, report, view);
+    text.push_str("\n");
+}
+
 /// The line of a step with its line feed, as a view shows it. `step` counts from 0.
-#[tactic(auto, unfolding(tz_sem::specs::Text::line))]
 pub fn line(report: &Report, step: u32, view: View) -> ArrayString<768>
     ensures { result.bytes ≡ line view step report.now }
 {
     let mut text = Line::new();
-    push_decimal(&mut text, step);
-    text.push_str(" ");
-    push_body(&mut text, report, view);
-    text.push_str("\n");
+    push_line(&mut text, report, step, view);
     text
 }

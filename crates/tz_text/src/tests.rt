@@ -1,7 +1,6 @@
 //! Lines of the worked examples, and one of each kind and shape.
 
-use crate::digits::Line;
-use crate::{View, line};
+use crate::{Line, View, line};
 use arrayvec::ArrayVec;
 use std::test::Fail;
 use tz_model::{Change, Code, Report, Side, Size, StepKind, Store};
@@ -15,6 +14,15 @@ fn ran(pc: u32, first: u16) -> StepKind {
     let code = Code {
         first,
         second: None,
+    };
+    StepKind::Ran { pc, code }
+}
+
+/// A code of 32 bits that ran at an address.
+fn ran_wide(pc: u32, first: u16, second: u16) -> StepKind {
+    let code = Code {
+        first,
+        second: Some(second),
     };
     StepKind::Ran { pc, code }
 }
@@ -130,6 +138,31 @@ fn shown_steps(rt: HostRuntime) -> Result<(), Fail> {
             &[(12, 1), (13, 2), (14, 3)],
             none,
             "N 00200054 bf00 nop r12=00000001 sp=00000002 lr=00000003",
+        ),
+        (
+            ran_wide(0x00200056, 0xf8df, 0x1004),
+            &[(1, 0x20001000)],
+            none,
+            "N 00200056 f8df1004 ldr.w r1, [pc, #4] r1=20001000",
+        ),
+        // No instructions: skipped in an IT block.
+        (
+            ran_wide(0x0020005a, 0xed2d, 0x8a01),
+            &[],
+            none,
+            "N 0020005a ed2d8a01 .inst.w 0xed2d8a01",
+        ),
+        (
+            ran_wide(0x0020005e, 0xe800, 0x0000),
+            &[],
+            none,
+            "N 0020005e e8000000 .inst.w 0xe8000000",
+        ),
+        (
+            ran(0x00200062, 0xba80),
+            &[],
+            none,
+            "N 00200062 ba80 .inst.n 0xba80",
         ),
         (
             StepKind::Taken {

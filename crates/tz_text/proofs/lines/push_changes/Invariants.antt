@@ -1,6 +1,6 @@
 use Rattle.std.proofs.Common.{◌≡◌, ◌≤◌, ◌+◌, ◌*◌, ◌++◌, drop}
 use Rattle.arrayvec.specs.ArrayString.{array_string_len}
-use Rattle.tz_sem.specs.Text.{changes_text}
+use Rattle.tz_text.specs.Line.{changes_text}
 use Rattle.tz_text.proofs.lines.push_changes.Given as goal
 
 abbrev pub invariant-loop-change : goal.invariant-loop-change

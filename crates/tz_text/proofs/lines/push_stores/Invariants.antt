@@ -1,6 +1,6 @@
 use Rattle.std.proofs.Common.{◌≡◌, ◌≤◌, ◌+◌, ◌*◌, ◌++◌, drop}
 use Rattle.arrayvec.specs.ArrayString.{array_string_len}
-use Rattle.tz_sem.specs.Text.{stores_text}
+use Rattle.tz_text.specs.Line.{stores_text}
 use Rattle.tz_text.proofs.lines.push_stores.Given as goal
 
 abbrev pub invariant-loop-store : goal.invariant-loop-store

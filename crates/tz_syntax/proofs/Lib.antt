@@ -1,0 +1,5 @@
+pub mod Data
+pub mod Finding
+pub mod Lists
+pub mod NameLemmas
+pub mod Room

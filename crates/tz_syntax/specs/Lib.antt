@@ -1,0 +1,11 @@
+pub mod DataTexts
+pub mod Digits
+pub mod FormNumbers
+pub mod MemoryTexts
+pub mod Names
+pub mod Operands
+pub mod OtherTexts
+pub mod Pieces
+pub mod Rows
+pub mod Starts
+pub mod Text

@@ -1,0 +1,13 @@
+//! The text of instructions, tried on codes of every row of the instruction table.
+//!
+//! The codes and texts are checked against the assembler and the disassembler of GNU binutils. They stand in a
+//! crate of their own, since the crate that they try takes long to prove.
+#![tactic(auto)]
+
+mod codes;
+#[cfg(test)]
+mod tests;
+mod writing;
+
+pub use codes::Case;
+pub use writing::{has_text, is_written};
