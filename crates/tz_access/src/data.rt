@@ -2,9 +2,9 @@
 
 ghost use Rattle.std.specs.Prelude.{◌≡◌};
 ghost use Rattle.tz_table.specs.declared.units.Size.TheVariants.{Word};
-ghost use Rattle.tz_model.specs.Memory.{every};
-ghost use Rattle.tz_model.specs.Attribution.{is_open};
-ghost use Rattle.tz_model.specs.Access.{is_aligned, is_mapped, is_writable, may_touch, is_crooked, verdict, load_verdict, store_verdict};
+ghost use Rattle.tz_state.specs.Memory.{every};
+ghost use Rattle.tz_state.specs.Attribution.{map_on, is_open};
+ghost use Rattle.tz_state.specs.Access.{is_aligned, is_mapped, is_writable, may_touch, is_crooked, checked, load_verdict, store_verdict};
 
 use tz_model::{Board, Fault, Region, RegionKind, Side, Size};
 use tz_sau::{in_region, is_open};
@@ -20,7 +20,7 @@ fn is_aligned(size: Size, addr: u32) -> bool
 }
 
 /// Whether a region holds an address.
-#[tactic(auto, unfolding(tz_model::specs::Access::is_mapped))]
+#[tactic(auto, unfolding(tz_state::specs::Access::is_mapped))]
 pub fn is_mapped(regions: &[Region], addr: u32) -> bool
     ensures { result ≡ is_mapped regions.now addr }
 {
@@ -33,7 +33,7 @@ pub fn is_mapped(regions: &[Region], addr: u32) -> bool
 }
 
 /// Whether the region that holds an address takes writes.
-#[tactic(auto, unfolding(tz_model::specs::Access::is_writable))]
+#[tactic(auto, unfolding(tz_state::specs::Access::is_writable))]
 fn is_writable(regions: &[Region], addr: u32) -> bool
     ensures { result ≡ is_writable regions.now addr }
 {
@@ -86,7 +86,7 @@ fn all_writable(regions: &[Region], addr: u32, size: Size) -> bool
 
 /// Whether each byte of an access is Non-secure.
 fn all_open(board: &Board, addr: u32, size: Size) -> bool
-    ensures { result ≡ every (is_open board.now) addr size }
+    ensures { result ≡ every (is_open (map_on board.now)) addr size }
 {
     match size {
         Size::Byte => is_open(board, addr),
@@ -101,9 +101,9 @@ fn all_open(board: &Board, addr: u32, size: Size) -> bool
 }
 
 /// Whether attribution lets code of a side access each byte.
-#[tactic(auto, unfolding(tz_model::specs::Access::may_touch))]
+#[tactic(auto, unfolding(tz_state::specs::Access::may_touch))]
 fn may_touch(board: &Board, side: Side, size: Size, addr: u32) -> bool
-    ensures { result ≡ may_touch board.now side size addr }
+    ensures { result ≡ may_touch (map_on board.now) side size addr }
 {
     match side {
         Side::Secure => true,
@@ -112,8 +112,8 @@ fn may_touch(board: &Board, side: Side, size: Size, addr: u32) -> bool
 }
 
 /// The first check that fails, where `mapped` tells whether the map takes the access.
-fn verdict(board: &Board, side: Side, size: Size, addr: u32, mapped: bool) -> Option<Fault>
-    ensures { result ≡ verdict board.now side size addr mapped }
+fn checked(board: &Board, side: Side, size: Size, addr: u32, mapped: bool) -> Option<Fault>
+    ensures { result ≡ checked (map_on board.now) side size addr mapped }
 {
     if addr >= 0xe000_0000 && !is_aligned(size, addr) {
         return Some(Fault::Unaligned);
@@ -129,11 +129,11 @@ fn verdict(board: &Board, side: Side, size: Size, addr: u32, mapped: bool) -> Op
 
 /// The fault of a load of code of a side, or none: UNALIGNED, AUVIOL or PRECISERR, the first check that
 /// fails.
-#[tactic(auto, unfolding(tz_model::specs::Access::load_verdict))]
+#[tactic(auto, unfolding(tz_state::specs::Access::load_verdict))]
 pub fn load_verdict(board: &Board, side: Side, size: Size, addr: u32) -> Option<Fault>
-    ensures { result ≡ load_verdict board.now side size addr }
+    ensures { result ≡ load_verdict (map_on board.now) side size addr }
 {
-    verdict(
+    checked(
         board,
         side,
         size,
@@ -144,11 +144,11 @@ pub fn load_verdict(board: &Board, side: Side, size: Size, addr: u32) -> Option<
 
 /// The fault of a store of code of a side, or none: UNALIGNED, AUVIOL or PRECISERR, the first check that
 /// fails.
-#[tactic(auto, unfolding(tz_model::specs::Access::store_verdict))]
+#[tactic(auto, unfolding(tz_state::specs::Access::store_verdict))]
 pub fn store_verdict(board: &Board, side: Side, size: Size, addr: u32) -> Option<Fault>
-    ensures { result ≡ store_verdict board.now side size addr }
+    ensures { result ≡ store_verdict (map_on board.now) side size addr }
 {
-    verdict(
+    checked(
         board,
         side,
         size,

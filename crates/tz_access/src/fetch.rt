@@ -1,7 +1,8 @@
-//! Fetches (DDI0553, `GetInstr`).
+//! Fetches (DDI0553, `FetchInstr`).
 
 ghost use Rattle.std.specs.Prelude.{◌≡◌};
-ghost use Rattle.tz_model.specs.Fetch.{is_executable, is_half_mapped, is_own_byte, is_own_fetch, wrong_side, half_verdict, with_first, own_fetch, is_entry, gateway_fetch, is_entry_fault, fetch};
+ghost use Rattle.tz_state.specs.Attribution.{map_on};
+ghost use Rattle.tz_state.specs.Fetch.{is_executable, is_half_mapped, is_own_byte, is_own_fetch, wrong_side, half_verdict, with_first, own_fetch, is_entry, gateway_fetch, is_entry_fault, fetch};
 
 use crate::data::all_mapped;
 use tz_mem::Memory;
@@ -16,14 +17,14 @@ fn is_executable(addr: u32) -> bool
 }
 
 fn is_half_mapped(board: &Board, addr: u32) -> bool
-    ensures { result ≡ is_half_mapped board.now addr }
+    ensures { result ≡ is_half_mapped (map_on board.now) addr }
 {
     all_mapped(&board.regions, addr, Size::Half)
 }
 
 /// Whether an address is of the side that fetches from it.
 fn is_own_byte(board: &Board, side: Side, addr: u32) -> bool
-    ensures { result ≡ is_own_byte board.now side addr }
+    ensures { result ≡ is_own_byte (map_on board.now) side addr }
 {
     let nonsecure = fetch_attribution(board, side, addr) == RegionSide::NonSecure;
     match side {
@@ -33,9 +34,9 @@ fn is_own_byte(board: &Board, side: Side, addr: u32) -> bool
 }
 
 /// Whether both bytes of a halfword are of the side that fetches them.
-#[tactic(auto, unfolding(tz_model::specs::Fetch::is_own_fetch))]
+#[tactic(auto, unfolding(tz_state::specs::Fetch::is_own_fetch))]
 pub fn is_own_fetch(board: &Board, side: Side, addr: u32) -> bool
-    ensures { result ≡ is_own_fetch board.now side addr }
+    ensures { result ≡ is_own_fetch (map_on board.now) side addr }
 {
     is_own_byte(board, side, addr) && is_own_byte(board, side, addr.wrapping_add(1))
 }
@@ -50,9 +51,9 @@ fn wrong_side(side: Side) -> Fault
 }
 
 /// The fault of the fetch of a halfword, or none.
-#[tactic(auto, unfolding(tz_model::specs::Fetch::half_verdict))]
+#[tactic(auto, unfolding(tz_state::specs::Fetch::half_verdict))]
 fn half_verdict(board: &Board, side: Side, addr: u32) -> Option<Fault>
-    ensures { result ≡ half_verdict board.now side addr }
+    ensures { result ≡ half_verdict (map_on board.now) side addr }
 {
     if !is_own_fetch(board, side, addr) {
         return Some(wrong_side(side));
@@ -67,9 +68,9 @@ fn half_verdict(board: &Board, side: Side, addr: u32) -> Option<Fault>
 }
 
 /// An instruction that begins in memory of the side that fetches it.
-#[tactic(auto, unfolding(tz_model::specs::Fetch::own_fetch))]
+#[tactic(auto, unfolding(tz_state::specs::Fetch::own_fetch))]
 fn own_fetch(board: &Board, side: Side, memory: &Memory, pc: u32) -> Result<Fetched, Fault>
-    ensures { result ≡ own_fetch board.now side memory.now pc }
+    ensures { result ≡ own_fetch (map_on board.now) side memory.now pc }
 {
     if let Some(fault) = half_verdict(board, side, pc) {
         return Err(fault);
@@ -99,15 +100,15 @@ fn own_fetch(board: &Board, side: Side, memory: &Memory, pc: u32) -> Result<Fetc
 
 /// Whether Non-secure code may enter at an address.
 fn is_entry(board: &Board, addr: u32) -> bool
-    ensures { result ≡ is_entry board.now addr }
+    ensures { result ≡ is_entry (map_on board.now) addr }
 {
     fetch_attribution(board, Side::NonSecure, addr) == RegionSide::Nsc
 }
 
 /// SG, where Non-secure code runs into Secure memory: all four bytes have to be callable.
-#[tactic(auto, unfolding(tz_model::specs::Fetch::gateway_fetch))]
+#[tactic(auto, unfolding(tz_state::specs::Fetch::gateway_fetch))]
 fn gateway_fetch(board: &Board, memory: &Memory, pc: u32) -> Result<Fetched, Fault>
-    ensures { result ≡ gateway_fetch board.now memory.now pc }
+    ensures { result ≡ gateway_fetch (map_on board.now) memory.now pc }
 {
     let next = pc.wrapping_add(2);
     if !(is_entry(board, pc) && is_entry(board, next)) {
@@ -140,9 +141,9 @@ fn is_entry_fault(answer: &Result<Fetched, Fault>) -> bool
 
 /// The instruction at PC for code of a side, or its fault: INVTRAN, INVEP, IACCVIOL or IBUSERR, the
 /// first check that fails.
-#[tactic(auto, unfolding(tz_model::specs::Fetch::fetch))]
+#[tactic(auto, unfolding(tz_state::specs::Fetch::fetch))]
 pub fn fetch_at(board: &Board, side: Side, memory: &Memory, pc: u32) -> FetchAnswer
-    ensures { result ≡ fetch board.now side memory.now pc }
+    ensures { result ≡ fetch (map_on board.now) side memory.now pc }
 {
     match side {
         Side::Secure => FetchAnswer {

@@ -1,25 +1,39 @@
-//! The registers that a step changed.
+//! The registers that a step changed, and the stores that it made, as a report has them.
 
 ghost use Rattle.std.specs.Prelude.{◌≡◌, ◌≤◌, ◌<◌, ◌+◌, ◌++◌};
 ghost use Rattle.arrayvec.specs.ArrayVec.{array_vec_len};
-ghost use Rattle.tz_sem.specs.Step.{flag_at, changed, registers_changed};
+ghost use Rattle.tz_sem.specs.Ended.{flag_at, apsr_word, changed, registers_changed, changes_of};
 
 use arrayvec::ArrayVec;
-use tz_model::Change;
+use tz_model::{Change, Store};
+use tz_state::{Apsr, Before, Core};
 
 /// The registers that differ after a step.
 pub type Changes = ArrayVec<Change, 16>;
 
+/// The stores of an instruction.
+pub type Stores = ArrayVec<Store, 16>;
+
 /// A flag at its place in APSR.
-pub fn flag_at(flag: bool, place: u32) -> u32
+fn flag_at(flag: bool, place: u32) -> u32
     ensures value { result ≡ flag_at flag place }
     ensures small { result ≤ place }
 {
     if flag { place } else { 0 }
 }
 
+/// The flags at their places in APSR.
+pub fn apsr_word(apsr: &Apsr) -> u32
+    ensures { result ≡ apsr_word apsr.now }
+{
+    flag_at(apsr.n, 0x8000_0000)
+        + flag_at(apsr.z, 0x4000_0000)
+        + flag_at(apsr.c, 0x2000_0000)
+        + flag_at(apsr.v, 0x1000_0000)
+}
+
 /// Tells a register where it differs.
-pub fn tell(changes: &mut Changes, name: u8, old: u32, new: u32)
+fn tell(changes: &mut Changes, name: u8, old: u32, new: u32)
     requires { array_vec_len changes.old < 16 }
     ensures items { changes.new.items ≡ changes.old.items ++ changed name old new }
     ensures len { array_vec_len changes.new ≤ array_vec_len changes.old + 1 }
@@ -29,16 +43,32 @@ pub fn tell(changes: &mut Changes, name: u8, old: u32, new: u32)
     }
 }
 
-/// R0 to R12 where they differ.
-#[tactic(auto, unfolding(tz_sem::specs::Step::registers_changed))]
-pub fn registers_changed(before: &[u32; 13], after: &[u32; 13]) -> Changes
-    ensures items { result.items ≡ registers_changed 0 before.now after.now }
-    ensures len { array_vec_len result ≤ 13 }
+/// Tells R0 to R12 where they differ.
+#[tactic(auto, unfolding(tz_sem::specs::Ended::registers_changed))]
+fn tell_general(changes: &mut Changes, before: &[u32; 13], after: &[u32; 13])
+    requires { array_vec_len changes.old ≡ 0 }
+    ensures items { changes.new.items ≡ registers_changed 0 before.now after.now }
+    ensures len { array_vec_len changes.new ≤ 13 }
 {
-    let mut changes = Changes::new();
     for k in 0..13u8 {
         let i = usize::from(k);
-        tell(&mut changes, k, before[i], after[i]);
+        tell(changes, k, before[i], after[i]);
     }
-    changes
+}
+
+/// Tells all registers that differ.
+pub fn tell_changes(changes: &mut Changes, before: &Before, core: &Core)
+    requires { array_vec_len changes.old ≡ 0 }
+    ensures { changes.new.items ≡ changes_of before.now core.now }
+{
+    let now = &core.registers;
+    tell_general(changes, &before.registers.general, &now.general);
+    tell(changes, 13, before.sp, core.sp());
+    tell(changes, 14, before.registers.lr, now.lr);
+    tell(
+        changes,
+        15,
+        apsr_word(&before.registers.apsr),
+        apsr_word(&now.apsr),
+    );
 }

@@ -5,7 +5,7 @@
 ghost use Rattle.std.specs.Prelude.{◌≡◌, ◌<◌, ◌/◌, ◌%◌, IfSome};
 ghost use Rattle.tz_table.specs.declared.instruction.Insn.TheVariants.{DataImm};
 ghost use Rattle.tz_table.specs.declared.instruction.Flags.TheVariants.{OutsideIt};
-ghost use Rattle.tz_sem.specs.Decode.{decode, decode_narrow, decode_exchange, branch_offset, word_address, can_exchange, Fits};
+ghost use Rattle.tz_exec.specs.Built.{built_insn, built_narrow, built_exchange, branch_offset, word_address, can_exchange, Fits};
 
 use tz_model::{Address, Code, DataOp, Flags, Insn, Size};
 
@@ -35,9 +35,9 @@ fn can_exchange(rm: u8, ns: u8) -> bool
     !(rm == 15 || ns == 1 && rm == 13)
 }
 
-#[tactic(auto, unfolding(tz_sem::specs::Decode::decode_exchange))]
-fn decode_exchange(code: u16) -> Option<Insn>
-    ensures value { result ≡ decode_exchange code }
+#[tactic(auto, unfolding(tz_exec::specs::Built::built_exchange))]
+fn built_exchange(code: u16) -> Option<Insn>
+    ensures value { result ≡ built_exchange code }
     ensures fits { IfSome result Fits }
 {
     let rm = (code / 8 % 16) as u8;
@@ -67,9 +67,9 @@ fn on_constant(op: DataOp, rn: u8, code: u16) -> Insn
     }
 }
 
-#[tactic(auto, unfolding(tz_sem::specs::Decode::decode_narrow))]
-fn decode_narrow(code: u16) -> Option<Insn>
-    ensures value { result ≡ decode_narrow code }
+#[tactic(auto, unfolding(tz_exec::specs::Built::built_narrow))]
+fn built_narrow(code: u16) -> Option<Insn>
+    ensures value { result ≡ built_narrow code }
     ensures fits { IfSome result Fits }
 {
     let high = (code / 256 % 8) as u8;
@@ -103,17 +103,17 @@ fn decode_narrow(code: u16) -> Option<Insn>
         28 => Some(Insn::Branch {
             offset: branch_offset(code % 2048),
         }),
-        _ => decode_exchange(code),
+        _ => built_exchange(code),
     }
 }
 
 /// The instruction of a code, or none where no row that is built matches it.
-pub fn decode(code: &Code) -> Option<Insn>
-    ensures value { result ≡ decode code.now }
+pub(crate) fn built_insn(code: &Code) -> Option<Insn>
+    ensures value { result ≡ built_insn code.now }
     ensures fits { IfSome result Fits }
 {
     match code.second {
-        None => decode_narrow(code.first),
+        None => built_narrow(code.first),
         Some(second) => {
             if code.first == 0xe97f && second == 0xe97f {
                 Some(Insn::SecureGateway)

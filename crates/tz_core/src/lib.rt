@@ -6,9 +6,9 @@
 
 mod changes;
 mod code;
+mod ending;
 mod execute;
 mod running;
 mod start;
 
-pub use code::decode;
 pub use running::Machine;

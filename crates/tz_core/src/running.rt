@@ -1,35 +1,25 @@
 //! The machine and the order of its step.
 
 ghost use Rattle.std.specs.Prelude.{◌≡◌, ◌+◌};
-ghost use Rattle.tz_model.specs.Memory.{wrap};
+ghost use Rattle.arrayvec.specs.ArrayVec.{array_vec_len};
+ghost use Rattle.tz_model.specs.Words.{wrap};
+ghost use Rattle.std.specs.Prelude.{Some};
+ghost use Rattle.tz_sem.specs.declared.ending.Cause.TheVariants.{Went};
 ghost use Rattle.tz_sem.specs.Step.{length_of};
 
-use crate::changes::{Changes, flag_at, registers_changed, tell};
-use crate::code::decode;
-use arrayvec::ArrayVec;
+use crate::changes::Stores;
+use crate::code::built_insn;
 use std::marker::Model;
 use tz_access::{fetch_at, is_own_fetch};
 use tz_mem::Memory;
-use tz_model::{
-    Before, Board, Code, CrossKind, Insn, Outcome, Report, ScriptEvent, Side, StepKind, Store, Way,
-};
+use tz_model::{Board, Code, Insn, Outcome, Report, ScriptEvent, Side};
+use tz_sem::{Cause, Ending};
+use tz_state::Core;
 
 /// The machine: the core, its memory and its board.
 #[derive(Drop)]
 pub struct Machine {
-    pub(crate) side: Side,
-    pub(crate) locked: bool,
-    pub(crate) regs: [u32; 13],
-    pub(crate) lr: u32,
-    pub(crate) pc: u32,
-    pub(crate) n: bool,
-    pub(crate) z: bool,
-    pub(crate) c: bool,
-    pub(crate) v: bool,
-    pub(crate) t: bool,
-    pub(crate) ipsr: u16,
-    pub(crate) msp_s: u32,
-    pub(crate) msp_ns: u32,
+    pub(crate) core: Core,
     pub(crate) memory: Memory,
     pub(crate) board: Board,
 }
@@ -38,281 +28,13 @@ impl Model for Machine {
     ghost use Rattle.std.specs.FinMap as map;
     ghost use Rattle.std.specs.Ordering.{nat_cmp};
     ghost use Rattle.std.specs.Coded.{codes, coded_ℕ};
-    ghost use Rattle.tz_model.specs.State.{State};
+    ghost use Rattle.tz_state.specs.State.{State};
 
     ghost Value = { State };
 
     ghost coded = { Prim.hlevel (codes, map.code {R = nat_cmp} coded_ℕ coded_ℕ) };
 
-    ghost view = { λ m. record {
-      side = m.side;
-      locked = m.locked;
-      regs = m.regs;
-      lr = m.lr;
-      pc = m.pc;
-      n = m.n;
-      z = m.z;
-      c = m.c;
-      v = m.v;
-      t = m.t;
-      ipsr = m.ipsr;
-      msp_s = m.msp_s;
-      msp_ns = m.msp_ns;
-      memory = m.memory;
-      board = m.board;
-    } };
-}
-
-impl Machine {
-    ghost use Rattle.tz_sem.specs.Decode.{Fits};
-    ghost use Rattle.tz_sem.specs.Exec.{plan, stores_in};
-    ghost use Rattle.tz_sem.specs.Step.{side_of, sp_of, local_of, apsr_of, before_of, changes_of, locks, ran, return_way, branch_ns, exchanged, goes_on, executes, decoded, enters, looks, step};
-
-    /// The state that the machine is in; a locked machine counts as Secure.
-    pub fn side(&self) -> Side
-        ensures { result ≡ side_of self.now }
-    {
-        if self.locked { Side::Secure } else { self.side }
-    }
-
-    /// Whether the machine is locked, which it then stays.
-    pub fn locked(&self) -> bool
-        ensures { result ≡ self.now.locked }
-    {
-        self.locked
-    }
-
-    /// The board.
-    pub fn board(&self) -> &Board
-        ensures { result.now ≡ self.now.board }
-    {
-        &self.board
-    }
-
-    /// The stack pointer in use.
-    pub(crate) fn sp(&self) -> u32
-        ensures { result ≡ sp_of self.now.side self.now }
-    {
-        match self.side {
-            Side::Secure => self.msp_s,
-            Side::NonSecure => self.msp_ns,
-        }
-    }
-
-    /// The flags at their places in APSR.
-    fn apsr(&self) -> u32
-        ensures { result ≡ apsr_of self.now }
-    {
-        flag_at(self.n, 0x8000_0000)
-            + flag_at(self.z, 0x4000_0000)
-            + flag_at(self.c, 0x2000_0000)
-            + flag_at(self.v, 0x1000_0000)
-    }
-
-    /// What a report needs of the state before an instruction.
-    fn before(&self, touched: bool) -> Before
-        ensures { result ≡ before_of touched self.now }
-    {
-        Before {
-            side: self.side,
-            touched,
-            pc: self.pc,
-            regs: self.regs,
-            sp: self.sp(),
-            lr: self.lr,
-            apsr: self.apsr(),
-        }
-    }
-
-    /// The registers that differ.
-    fn changes(&self, before: &Before) -> Changes
-        ensures { result.items ≡ changes_of before.now self.now }
-    {
-        let mut changes = registers_changed(&before.regs, &self.regs);
-        tell(&mut changes, 13, before.sp, self.sp());
-        tell(&mut changes, 14, before.lr, self.lr);
-        tell(&mut changes, 15, before.apsr, self.apsr());
-        changes
-    }
-
-    /// Locks the machine.
-    fn lock(&mut self, touched: bool) -> Report
-        ensures { locks self.old touched ≡ record { state = self.new; report = result } }
-    {
-        let start = self.side();
-        self.locked = true;
-        Report {
-            start,
-            end: Side::Secure,
-            touched,
-            way: None,
-            kind: StepKind::Locked,
-            changes: ArrayVec::new(),
-            stores: ArrayVec::new(),
-        }
-    }
-
-    /// The report of an instruction that ran.
-    fn ran(
-        &self,
-        before: &Before,
-        code: &Code,
-        way: Option<Way>,
-        stores: ArrayVec<Store, 16>,
-    ) -> Report
-        ensures { result ≡ (ran before.now code.now way stores.items self.now).report }
-    {
-        Report {
-            start: before.side,
-            end: self.side(),
-            touched: before.touched,
-            way,
-            kind: StepKind::Ran {
-                pc: before.pc,
-                code: *code,
-            },
-            changes: self.changes(before),
-            stores,
-        }
-    }
-
-    /// Goes on after an instruction.
-    fn go_on(
-        &mut self,
-        before: &Before,
-        code: &Code,
-        stores: ArrayVec<Store, 16>,
-        outcome: Outcome,
-    ) -> Report
-        ensures { goes_on before.now code.now stores.items self.old outcome ≡ record { state = self.new; report = result } }
-    {
-        match outcome {
-            Outcome::Jump(to) => {
-                self.pc = to;
-                self.ran(before, code, None, stores)
-            }
-            Outcome::Exchange { target, ns } => self.exchange(before, code, stores, target, ns),
-            Outcome::Next => {
-                self.pc = next_of(before.pc, code);
-                self.ran(before, code, None, stores)
-            }
-            Outcome::Sleep { event: _ } => {
-                self.pc = next_of(before.pc, code);
-                self.ran(before, code, None, stores)
-            }
-        }
-    }
-
-    /// Exchanges to a target.
-    fn exchange(
-        &mut self,
-        before: &Before,
-        code: &Code,
-        stores: ArrayVec<Store, 16>,
-        target: u32,
-        ns: bool,
-    ) -> Report
-        ensures { exchanged before.now code.now stores.items target ns self.old ≡ record { state = self.new; report = result } }
-    {
-        if target == 0xfeff_fffe || target == 0xfeff_ffff {
-            return self.lock(true);
-        }
-        if ns {
-            return self.branch_ns(before, code, stores, target);
-        }
-        self.pc = target / 2 * 2;
-        self.t = target % 2 == 1;
-        self.ran(before, code, None, stores)
-    }
-
-    /// BXNS in Secure state.
-    fn branch_ns(
-        &mut self,
-        before: &Before,
-        code: &Code,
-        stores: ArrayVec<Store, 16>,
-        target: u32,
-    ) -> Report
-        ensures { branch_ns before.now code.now stores.items target self.old ≡ record { state = self.new; report = result } }
-    {
-        let way = Way {
-            kind: CrossKind::Return,
-            number: self.ipsr,
-            lr: None,
-        };
-        self.pc = target / 2 * 2;
-        self.t = true;
-        if target % 2 == 0 {
-            self.side = Side::NonSecure;
-            self.ran(before, code, Some(way), stores)
-        } else {
-            self.ran(before, code, None, stores)
-        }
-    }
-
-    /// SG, reached from Non-secure state.
-    fn enter(&mut self) -> Report
-        ensures { enters self.old ≡ record { state = self.new; report = result } }
-    {
-        let before = self.before(true);
-        self.lr = self.lr / 2 * 2;
-        self.side = Side::Secure;
-        self.pc = self.pc.wrapping_add(4);
-        let code = Code {
-            first: 0xe97f,
-            second: Some(0xe97f),
-        };
-        self.ran(&before, &code, None, ArrayVec::new())
-    }
-
-    /// Runs an instruction.
-    fn run(&mut self, insn: &Insn, code: &Code, touched: bool) -> Report
-        requires { Fits insn.now }
-        ensures { decoded self.old touched code.now (Some insn.now) ≡ record { state = self.new; report = result } }
-    {
-        let before = self.before(touched);
-        let stores = self.stores(insn);
-        match self.execute(insn) {
-            Ok(outcome) => self.go_on(&before, code, stores, outcome),
-            Err(_) => self.lock(touched),
-        }
-    }
-
-    /// Whether a step that fetches nothing looks at Secure state.
-    fn looks(&self) -> bool
-        ensures { result ≡ looks self.now.side self.now }
-    {
-        match self.side {
-            Side::Secure => true,
-            Side::NonSecure => !is_own_fetch(&self.board, Side::NonSecure, self.pc),
-        }
-    }
-
-    /// Makes one step, and tells what it did. The events that are due are passed over.
-    #[tactic(auto, unfolding(tz_sem::specs::Step::step))]
-    pub fn step(&mut self, due: &[ScriptEvent]) -> Report
-        ensures { step self.old ≡ record { state = self.new; report = result } }
-    {
-        let _due = due;
-        if self.locked {
-            return self.lock(true);
-        }
-        if !self.t {
-            let touched = self.looks();
-            return self.lock(touched);
-        }
-        let found = fetch_at(&self.board, self.side, &self.memory, self.pc);
-        let Ok(fetched) = found.answer else {
-            return self.lock(found.touched);
-        };
-        if fetched.gateway {
-            return self.enter();
-        }
-        match decode(&fetched.code) {
-            Some(insn) => self.run(&insn, &fetched.code, found.touched),
-            None => self.lock(found.touched),
-        }
-    }
+    ghost view = { λ m. record { core = m.core; memory = m.memory; board = m.board } };
 }
 
 /// The address after an instruction.
@@ -322,5 +44,218 @@ fn next_of(pc: u32, code: &Code) -> u32
     match code.second {
         None => pc.wrapping_add(2),
         Some(_) => pc.wrapping_add(4),
+    }
+}
+
+/// An instruction ran.
+fn ran(touched: bool, code: &Code) -> Ending
+    ensures { result ≡ record { touched = touched; cause = Went; ran = Some code.now } }
+{
+    Ending {
+        touched,
+        cause: Cause::Went,
+        ran: Some(*code),
+    }
+}
+
+impl Machine {
+    ghost use Rattle.std.specs.Prelude.{List, [], Some, None, true};
+    ghost use Rattle.tz_model.specs.declared.report.Store.{Store};
+    ghost use Rattle.tz_model.specs.declared.report.ScriptEvent.{ScriptEvent as DueEvent};
+    ghost use Rattle.tz_sem.specs.declared.ending.Cause.TheVariants.{Went};
+    ghost use Rattle.tz_state.specs.State.{side_of, with_run};
+    ghost use Rattle.tz_exec.specs.Built.{Fits};
+    ghost use Rattle.tz_sem.specs.Step.{branch_ns, exchanged, goes_on, decoded, enters, looks, ended, step};
+    ghost use Rattle.tz_twin.specs.Integrity.{LeavesSecure, EntersByGateway};
+
+    /// The state that the machine is in; a locked machine counts as Secure.
+    pub fn side(&self) -> Side
+        ensures { result ≡ side_of self.now }
+    {
+        self.core.side()
+    }
+
+    /// Whether the machine is locked, which it then stays.
+    pub fn locked(&self) -> bool
+        ensures { result ≡ self.now.core.run.locked }
+    {
+        self.core.run.locked
+    }
+
+    /// The board.
+    pub fn board(&self) -> &Board
+        ensures { result.now ≡ self.now.board }
+    {
+        &self.board
+    }
+
+    /// Locks the machine.
+    fn lock(&mut self, touched: bool) -> Ending
+        ensures state { self.new ≡ with_run self.old (record self.old.core.run { locked = true }) }
+        ensures ending { result ≡ record { touched = touched; cause = Went; ran = None } }
+    {
+        self.core.run.locked = true;
+        Ending {
+            touched,
+            cause: Cause::Went,
+            ran: None,
+        }
+    }
+
+    /// Goes on after an instruction.
+    fn go_on(&mut self, touched: bool, code: &Code, outcome: Outcome) -> Ending
+        ensures { (stores : List Store) → goes_on self.old touched code.now stores outcome ≡ record { state = self.new; stores = stores; ending = result } }
+    {
+        match outcome {
+            Outcome::Jump(to) => {
+                self.core.registers.pc = to;
+                ran(touched, code)
+            }
+            Outcome::Exchange { target, ns } => self.exchange(touched, code, target, ns),
+            Outcome::Next => {
+                self.core.registers.pc = next_of(self.core.registers.pc, code);
+                ran(touched, code)
+            }
+            Outcome::Sleep { event: _ } => {
+                self.core.registers.pc = next_of(self.core.registers.pc, code);
+                ran(touched, code)
+            }
+        }
+    }
+
+    /// Exchanges to a target.
+    fn exchange(&mut self, touched: bool, code: &Code, target: u32, ns: bool) -> Ending
+        ensures { (stores : List Store) → exchanged self.old touched code.now stores target ns ≡ record { state = self.new; stores = stores; ending = result } }
+    {
+        if target == 0xfeff_fffe || target == 0xfeff_ffff {
+            return self.lock(true);
+        }
+        if ns {
+            return self.branch_ns(touched, code, target);
+        }
+        let registers = &mut self.core.registers;
+        registers.pc = target / 2 * 2;
+        registers.t = target % 2 == 1;
+        ran(touched, code)
+    }
+
+    /// BXNS in Secure state.
+    fn branch_ns(&mut self, touched: bool, code: &Code, target: u32) -> Ending
+        ensures { (stores : List Store) → branch_ns self.old touched code.now stores target ≡ record { state = self.new; stores = stores; ending = result } }
+    {
+        let registers = &mut self.core.registers;
+        registers.pc = target / 2 * 2;
+        registers.t = true;
+        if target % 2 == 0 {
+            self.core.run.side = Side::NonSecure;
+            Ending {
+                touched,
+                cause: Cause::Returned,
+                ran: Some(*code),
+            }
+        } else {
+            ran(touched, code)
+        }
+    }
+
+    /// SG, reached from Non-secure state.
+    fn enter(&mut self) -> Ending
+        ensures { enters self.old ≡ record { state = self.new; stores = []; ending = result } }
+    {
+        self.core.run.side = Side::Secure;
+        let registers = &mut self.core.registers;
+        registers.lr = registers.lr / 2 * 2;
+        registers.pc = registers.pc.wrapping_add(4);
+        let code = Code {
+            first: 0xe97f,
+            second: Some(0xe97f),
+        };
+        ran(true, &code)
+    }
+
+    /// Runs an instruction.
+    fn run(&mut self, insn: &Insn, code: &Code, touched: bool, stores: &mut Stores) -> Ending
+        requires fits { Fits insn.now }
+        requires stores { array_vec_len stores.old ≡ 0 }
+        ensures { decoded self.old touched code.now (Some insn.now) ≡ record { state = self.new; stores = stores.new.items; ending = result } }
+    {
+        match self.execute(insn, stores) {
+            Ok(outcome) => self.go_on(touched, code, outcome),
+            Err(_) => self.lock(touched),
+        }
+    }
+
+    /// Whether a step that fetches nothing looks at Secure state.
+    fn looks(&self) -> bool
+        ensures { result ≡ looks self.now.core.run.side self.now }
+    {
+        match self.core.run.side {
+            Side::Secure => true,
+            Side::NonSecure => {
+                !is_own_fetch(&self.board, Side::NonSecure, self.core.registers.pc)
+            }
+        }
+    }
+
+    /// Makes one step but for its report: notes the stores, and tells how it ended.
+    #[tactic(auto, unfolding(tz_sem::specs::Step::ended))]
+    fn make_step(&mut self, stores: &mut Stores) -> Ending
+        requires { array_vec_len stores.old ≡ 0 }
+        ensures { ended self.old ≡ record { state = self.new; stores = stores.new.items; ending = result } }
+    {
+        if self.core.run.locked {
+            return self.lock(true);
+        }
+        if !self.core.registers.t {
+            let touched = self.looks();
+            return self.lock(touched);
+        }
+        let pc = self.core.registers.pc;
+        let found = fetch_at(&self.board, self.core.run.side, &self.memory, pc);
+        let Ok(fetched) = found.answer else {
+            return self.lock(found.touched);
+        };
+        if fetched.gateway {
+            return self.enter();
+        }
+        match built_insn(&fetched.code) {
+            Some(insn) => self.run(&insn, &fetched.code, found.touched, stores),
+            None => self.lock(found.touched),
+        }
+    }
+
+    /// Makes one step with its report; what events are due makes no difference yet.
+    fn report_step(&mut self, report: &mut Report)
+        ensures { (events : List DueEvent) → step self.old events ≡ record { state = self.new; report = report.new } }
+    {
+        let before = self.core.before();
+        report.changes.clear();
+        report.stores.clear();
+        let ending = self.make_step(&mut report.stores);
+        self.tell(&before, &ending, report);
+    }
+
+    /// Makes one step, and tells in `report` what it did. The events that are due are passed over.
+    pub fn step_into(&mut self, due: &[ScriptEvent], report: &mut Report)
+        ensures steps { step self.old due.now ≡ record { state = self.new; report = report.new } }
+        ensures leaves_secure { LeavesSecure self.old (record { state = self.new; report = report.new }) }
+        ensures enters_by_gateway { EntersByGateway self.old (record { state = self.new; report = report.new }) }
+    {
+        let _due = due;
+        self.report_step(report);
+    }
+
+    /// Makes one step, and tells what it did. The events that are due are passed over.
+    ///
+    /// It is the step relation. Where Non-secure code runs and doesn't look at Secure state, that stays
+    /// as it was; where Non-secure code gets to Secure code, it ran SG where it may call.
+    pub fn step(&mut self, due: &[ScriptEvent]) -> Report
+        ensures steps { step self.old due.now ≡ record { state = self.new; report = result } }
+        ensures leaves_secure { LeavesSecure self.old (record { state = self.new; report = result }) }
+        ensures enters_by_gateway { EntersByGateway self.old (record { state = self.new; report = result }) }
+    {
+        let mut report = Report::new();
+        self.step_into(due, &mut report);
+        report
     }
 }

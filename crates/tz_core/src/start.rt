@@ -7,7 +7,8 @@ use crate::running::Machine;
 use std::alloc::{AllocError, Global};
 use tz_access::is_word_mapped;
 use tz_mem::Memory;
-use tz_model::{Board, Image, Segment, Side};
+use tz_model::{Board, Image, Segment};
+use tz_state::Core;
 
 /// Puts the bytes of segments into memory.
 #[tactic(auto, unfolding(tz_sem::specs::Boot::with_segments))]
@@ -51,19 +52,7 @@ impl Machine {
             (0, 0)
         };
         Ok(Machine {
-            side: Side::Secure,
-            locked: !runs,
-            regs: [0; 13],
-            lr: 0xffff_ffff,
-            pc: start / 2 * 2,
-            n: false,
-            z: false,
-            c: false,
-            v: false,
-            t: start % 2 == 1,
-            ipsr: 0,
-            msp_s: sp / 4 * 4,
-            msp_ns: 0,
+            core: Core::reset(sp, start, !runs),
             memory,
             board,
         })

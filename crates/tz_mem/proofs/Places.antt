@@ -11,8 +11,9 @@ use Rattle.std.proofs.lemmas.Bool.{cond_both, cases_eq}
 use Rattle.tz_mem.specs.declared.block.Block.{Block}
 use Rattle.tz_mem.specs.Blocks.{holds, byte_in, IsPlace, entries_of, memory_of}
 use Rattle.tz_model.specs.declared.board.Region.{Region}
-use Rattle.tz_model.specs.Memory.{Memory, entries_from, byte_at, with_byte}
-use Rattle.tz_model.specs.Zeros.{zero_entries}
+use Rattle.tz_state.specs.Memory.{Memory, byte_at, with_byte}
+use Rattle.tz_model.specs.Image.{entries_from}
+use Rattle.tz_state.specs.Zeros.{zero_entries}
 
 -- none of the first n blocks holds the address
 abbrev pub Passed : List Block → ℕ → ℕ → Type 0

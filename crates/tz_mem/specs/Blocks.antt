@@ -1,7 +1,8 @@
 -- Blocks of bytes as a finite map.
 use Rattle.std.specs.Prelude.{◌≡◌, ℕ, zero, suc, false, ◌+◌, ◌-◌, ◌<◌, Bool, ◌&&◌, nat_lt, nat_le, if◌then◌else◌, List, [], ◌∷◌, ◌++◌, length, Option, None, slice_get}
 use Rattle.std.specs.FinMap.{from_entries}
-use Rattle.tz_model.specs.Memory.{Memory, entries_from}
+use Rattle.tz_state.specs.Memory.{Memory}
+use Rattle.tz_model.specs.Image.{entries_from}
 use Rattle.tz_mem.specs.declared.block.Block.{Block}
 
 -- the bytes of all blocks with their addresses

@@ -7,7 +7,7 @@
 
 ghost use Rattle.std.specs.Prelude.{◌≡◌, ◌++◌, IfOk};
 ghost use Rattle.tz_mem.specs.Blocks.{entries_of};
-ghost use Rattle.tz_model.specs.Zeros.{zero_entries, zero_memory};
+ghost use Rattle.tz_state.specs.Zeros.{zero_entries, zero_memory};
 
 use std::alloc::{AllocError, Global};
 use std::marker::Model;
@@ -54,10 +54,10 @@ fn zero_blocks(alloc: Global, regions: &[Region]) -> Result<Vec<Block>, AllocErr
 }
 
 impl Memory {
-    ghost use Rattle.tz_model.specs.Memory.{byte_at, half_at, word_at, value_at, with_byte, with_half, with_word, with_value, with_bytes};
+    ghost use Rattle.tz_state.specs.Memory.{byte_at, half_at, word_at, value_at, with_byte, with_half, with_word, with_value, with_bytes};
 
     /// Memory with zeros in all regions of a board.
-    #[tactic(auto, unfolding(tz_model::specs::Zeros::zero_memory, crate::specs::Blocks::memory_of))]
+    #[tactic(auto, unfolding(tz_state::specs::Zeros::zero_memory, crate::specs::Blocks::memory_of))]
     pub fn new(alloc: Global, board: &Board) -> Result<Memory, AllocError>
         ensures { IfOk result (λ m. m ≡ zero_memory board.now.regions) }
     {
@@ -76,7 +76,7 @@ impl Memory {
     }
 
     /// The halfword at an address, its low byte first.
-    #[tactic(auto, unfolding(tz_model::specs::Memory::half_at))]
+    #[tactic(auto, unfolding(tz_state::specs::Memory::half_at))]
     pub fn half(&self, addr: u32) -> u16
         ensures { result ≡ half_at self.now addr }
     {
@@ -84,7 +84,7 @@ impl Memory {
     }
 
     /// The word at an address, its low byte first.
-    #[tactic(auto, unfolding(tz_model::specs::Memory::word_at))]
+    #[tactic(auto, unfolding(tz_state::specs::Memory::word_at))]
     pub fn word(&self, addr: u32) -> u32
         ensures { result ≡ word_at self.now addr }
     {
@@ -118,7 +118,7 @@ impl Memory {
     }
 
     /// Writes a halfword at an address, its low byte first.
-    #[tactic(auto, unfolding(tz_model::specs::Memory::with_half))]
+    #[tactic(auto, unfolding(tz_state::specs::Memory::with_half))]
     pub fn put_half(&mut self, addr: u32, value: u16)
         ensures { self.new ≡ with_half self.old addr value }
     {
@@ -128,7 +128,7 @@ impl Memory {
     }
 
     /// Writes a word at an address, its low byte first.
-    #[tactic(auto, unfolding(tz_model::specs::Memory::with_word))]
+    #[tactic(auto, unfolding(tz_state::specs::Memory::with_word))]
     pub fn put_word(&mut self, addr: u32, value: u32)
         ensures { self.new ≡ with_word self.old addr value }
     {
@@ -151,7 +151,7 @@ impl Memory {
     }
 
     /// Puts the bytes of a segment of an image.
-    #[tactic(auto, unfolding(tz_model::specs::Memory::with_bytes))]
+    #[tactic(auto, unfolding(tz_state::specs::Memory::with_bytes))]
     pub fn put_segment(&mut self, segment: &Segment)
         ensures { self.new ≡ with_bytes self.old segment.now.base segment.now.bytes }
     {

@@ -1,8 +1,10 @@
 -- Boards as values, and what every board meets.
-use Rattle.std.specs.Prelude.{◌≡◌, ◌≤◌, ℕ, ◌+◌, ◌-◌, ◌%◌, ◌^◌, ◌==◌, Bool, true, ◌&&◌, ◌||◌, nat_le, nat_lt, List, [], ◌∷◌, length, sum_by, IsTrue}
+use Rattle.std.specs.Prelude.{ℕ, ◌+◌, ◌-◌, ◌%◌, ◌^◌, ◌==◌, Bool, true, false, ◌&&◌, ◌||◌, nat_le, nat_lt, List, [], ◌∷◌, length, sum_by, IsTrue}
 use Rattle.tz_model.specs.declared.board.Profile.{Profile}
 use Rattle.tz_model.specs.declared.board.Region.{Region}
 use Rattle.tz_model.specs.declared.board.SauRegion.{SauRegion}
+use Rattle.tz_model.specs.declared.board.RegionSide.{RegionSide}
+use Rattle.tz_model.specs.declared.board.RegionSide.TheVariants.{Secure, Nsc, NonSecure}
 
 pub record BoardValue : Type 0 where
   pub secure_vtor : ℕ
@@ -22,6 +24,20 @@ within low high n = nat_le low n && nat_le n high
 -- a multiple of a unit
 abbrev pub is_multiple : ℕ → ℕ → Bool
 is_multiple unit n = n % unit == 0
+
+abbrev pub is_nonsecure : RegionSide → Bool
+is_nonsecure Secure = false
+is_nonsecure Nsc = false
+is_nonsecure NonSecure = true
+
+abbrev pub is_callable : RegionSide → Bool
+is_callable Secure = false
+is_callable Nsc = true
+is_callable NonSecure = false
+
+-- a region holds an address
+abbrev pub in_region : Region → ℕ → Bool
+in_region r a = nat_le r.base a && nat_lt (a - r.base) r.size
 
 -- a region holds at least 32 bytes, in blocks of 32, below the private peripheral space
 abbrev pub is_region : Region → Bool

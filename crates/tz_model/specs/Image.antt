@@ -1,5 +1,5 @@
 -- Images as values.
-use Rattle.std.specs.Prelude.{◌≡◌, ◌≤◌, ℕ, ◌+◌, ◌^◌, Bool, true, ◌&&◌, ◌||◌, nat_le, List, [], ◌∷◌, length, sum_by, IsTrue}
+use Rattle.std.specs.Prelude.{ℕ, ◌+◌, ◌^◌, Bool, true, ◌&&◌, ◌||◌, nat_le, List, [], ◌∷◌, length, sum_by, IsTrue}
 use Rattle.tz_model.specs.Board.{most_bytes}
 
 -- bytes from an address on
@@ -41,3 +41,8 @@ pub record IsImage (segments : List SegmentValue) : Type 0 where
   pub addressed : IsTrue (are_addressed segments)
   pub clear : IsTrue (are_clear segments)
   pub small : IsTrue (nat_le (bytes_in segments) most_bytes)
+
+-- bytes with their addresses, from an address on
+abbrev pub entries_from : ℕ → List ℕ → List (ℕ × ℕ)
+entries_from base [] = []
+entries_from base (b ∷ bs) = (base, b) ∷ entries_from (base + 1) bs

@@ -1,10 +1,5 @@
+pub mod Words
 pub mod Board
 pub mod Image
 pub mod Outside
-pub mod Memory
-pub mod Zeros
-pub mod Attribution
-pub mod Access
-pub mod Fetch
-pub mod State
 pub mod Shelves

@@ -1,7 +1,7 @@
 //! Images: bytes with the addresses at which they are put before the machine starts.
 //!
-//! Segments always end at or below 2^32, no two of them share a byte, and together they hold at most
-//! 4 MiB. That an image lies in the regions of a board is a fact of an image and a board.
+//! In an image no address has two bytes, none is past the last one of 32 bits, and there are no more bytes
+//! than a board may have, which is 4 MiB. Which regions hold them is a fact of an image and a board together.
 
 use std::marker::Model;
 

@@ -1,5 +1,5 @@
-//! The machine's model: boards, images and reports as values, the traits of the outside with their
-//! meanings, and the definitions of state, attribution, access and fetch.
+//! The machine's model: boards, images and reports as values, and the traits of the outside with their
+//! meanings.
 //!
 //! The definitions stand in `specs/`; the code here only holds values, and the doubles of the outside
 //! that tests use.
@@ -20,8 +20,7 @@ pub use fetch::{FetchAnswer, Fetched};
 pub use image::{Image, Segment};
 pub use outside::{Shelf, ShelfError, Sink, SinkError};
 pub use report::{
-    Before, Change, CrossKind, Fault, Outcome, Report, ScriptEvent, Slot, StepKind, Store, View,
-    Way,
+    Change, CrossKind, Fault, Outcome, Report, ScriptEvent, Slot, StepKind, Store, View, Way,
 };
 pub use shelf_double::{FailingShelf, File, MemoryShelf};
 pub use sink_double::{FailingSink, MemorySink};

@@ -3,6 +3,8 @@
 //! A report tells what a step did in the terms of the trace: which side ran, what ran or was taken,
 //! which registers differ, what was stored, and how the step crossed out of Secure state.
 
+ghost use Rattle.std.specs.Prelude.{◌≡◌, []};
+
 use arrayvec::ArrayVec;
 use tz_table::{Code, Side, Size};
 
@@ -140,19 +142,6 @@ pub enum View {
     All,
 }
 
-/// What a report needs of the state before an instruction.
-#[derive(Clone, Copy)]
-pub struct Before {
-    pub side: Side,
-    /// Whether the step has looked at Secure state so far.
-    pub touched: bool,
-    pub pc: u32,
-    pub regs: [u32; 13],
-    pub sp: u32,
-    pub lr: u32,
-    pub apsr: u32,
-}
-
 /// What a step did.
 #[derive(Drop)]
 pub struct Report {
@@ -168,4 +157,22 @@ pub struct Report {
     pub changes: ArrayVec<Change, 16>,
     /// The stores of the instruction, in order.
     pub stores: ArrayVec<Store, 16>,
+}
+
+impl Report {
+    /// The report of a step that did nothing, to be filled in.
+    pub fn new() -> Report
+        ensures changes { result.changes.items ≡ [] }
+        ensures stores { result.stores.items ≡ [] }
+    {
+        Report {
+            start: Side::Secure,
+            end: Side::Secure,
+            touched: false,
+            way: None,
+            kind: StepKind::Idle,
+            changes: ArrayVec::new(),
+            stores: ArrayVec::new(),
+        }
+    }
 }

@@ -5,7 +5,7 @@ ghost use Rattle.std.specs.Prelude.{◌≡◌, ◌≤◌, ◌+◌, [], IfOk, vec
 use crate::outside::{Sink, SinkError};
 use std::alloc::{AllocError, Global};
 
-/// A sink that holds at most so many bytes, and fails alone where a put exceeds what is left.
+/// A sink with room for so many bytes. A put fails where it needs more than is left, and nowhere else.
 #[derive(Drop)]
 pub struct MemorySink {
     bytes: Vec<u8>,

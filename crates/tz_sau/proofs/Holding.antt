@@ -3,7 +3,7 @@ use Rattle.std.proofs.Common.{◌≡◌, ℕ, zero, suc, ◌+◌, ◌<◌, ◌�
 use Rattle.std.specs.Prelude.{filter}
 use Rattle.tz_model.specs.declared.board.SauRegion.{SauRegion}
 use Rattle.tz_model.specs.declared.board.RegionSide.{RegionSide}
-use Rattle.tz_model.specs.Attribution.{sau_holds, side_by}
+use Rattle.tz_state.specs.Attribution.{sau_holds, side_by}
 
 -- what the regions say of which at most one was found before these
 abbrev pub side_after : Option SauRegion → List SauRegion → RegionSide

@@ -5,7 +5,8 @@
 
 ghost use Rattle.std.specs.Prelude.{◌≡◌};
 ghost use Rattle.tz_model.specs.Board.{within};
-ghost use Rattle.tz_model.specs.Attribution.{is_nonsecure, more_secure, own_side, sau_holds, sau_side, in_region, idau_side, mapped_side, is_exempt, data_attribution, fetch_attribution, is_open};
+ghost use Rattle.tz_state.specs.Attribution.{map_on, more_secure, own_side, sau_holds, sau_side, idau_side, mapped_side, is_exempt, data_attribution, fetch_attribution, is_open};
+ghost use Rattle.tz_model.specs.Board.{is_nonsecure, in_region};
 
 use tz_model::{Board, Region, RegionSide, SauRegion, Side};
 
@@ -47,7 +48,7 @@ fn sau_holds(addr: u32, region: &SauRegion) -> bool
 }
 
 /// The SAU's word on an address: Secure, unless exactly one region holds it.
-#[tactic(auto, unfolding(tz_model::specs::Attribution::sau_side))]
+#[tactic(auto, unfolding(tz_state::specs::Attribution::sau_side))]
 fn sau_side(sau: &[SauRegion], addr: u32) -> RegionSide
     ensures { result ≡ sau_side sau.now addr }
 {
@@ -80,7 +81,7 @@ pub fn in_region(region: &Region, addr: u32) -> bool
 }
 
 /// The board's word on an address.
-#[tactic(auto, unfolding(tz_model::specs::Attribution::idau_side))]
+#[tactic(auto, unfolding(tz_state::specs::Attribution::idau_side))]
 fn idau_side(regions: &[Region], addr: u32) -> RegionSide
     ensures { result ≡ idau_side regions.now addr }
 {
@@ -92,9 +93,9 @@ fn idau_side(regions: &[Region], addr: u32) -> RegionSide
     RegionSide::NonSecure
 }
 
-#[tactic(auto, unfolding(tz_model::specs::Attribution::mapped_side))]
+#[tactic(auto, unfolding(tz_state::specs::Attribution::mapped_side))]
 fn mapped_side(board: &Board, addr: u32) -> RegionSide
-    ensures { result ≡ mapped_side board.now addr }
+    ensures { result ≡ mapped_side (map_on board.now) addr }
 {
     more_secure(sau_side(&board.sau, addr), idau_side(&board.regions, addr))
 }
@@ -111,9 +112,9 @@ fn is_exempt(addr: u32) -> bool
 }
 
 /// The attribution of an address as data, for code of a side (DDI0553, `SecurityCheck`).
-#[tactic(auto, unfolding(tz_model::specs::Attribution::data_attribution))]
+#[tactic(auto, unfolding(tz_state::specs::Attribution::data_attribution))]
 pub fn data_attribution(board: &Board, side: Side, addr: u32) -> RegionSide
-    ensures { result ≡ data_attribution board.now side addr }
+    ensures { result ≡ data_attribution (map_on board.now) side addr }
 {
     if is_exempt(addr) {
         own_side(side)
@@ -123,9 +124,9 @@ pub fn data_attribution(board: &Board, side: Side, addr: u32) -> RegionSide
 }
 
 /// The attribution of an address as code, for code of a side (DDI0553, `SecurityCheck`).
-#[tactic(auto, unfolding(tz_model::specs::Attribution::fetch_attribution))]
+#[tactic(auto, unfolding(tz_state::specs::Attribution::fetch_attribution))]
 pub fn fetch_attribution(board: &Board, side: Side, addr: u32) -> RegionSide
-    ensures { result ≡ fetch_attribution board.now side addr }
+    ensures { result ≡ fetch_attribution (map_on board.now) side addr }
 {
     if addr >= 0xf000_0000 {
         RegionSide::Secure
@@ -137,9 +138,9 @@ pub fn fetch_attribution(board: &Board, side: Side, addr: u32) -> RegionSide
 }
 
 /// Whether Non-secure code may read the byte at an address.
-#[tactic(auto, unfolding(tz_model::specs::Attribution::is_open))]
+#[tactic(auto, unfolding(tz_state::specs::Attribution::is_open))]
 pub fn is_open(board: &Board, addr: u32) -> bool
-    ensures { result ≡ is_open board.now addr }
+    ensures { result ≡ is_open (map_on board.now) addr }
 {
     data_attribution(board, Side::NonSecure, addr) == RegionSide::NonSecure
 }

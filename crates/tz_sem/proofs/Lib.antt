@@ -1,5 +1,0 @@
-pub mod SameBytes
-pub mod OpenState
-pub mod Touching
-pub mod Alike
-pub mod TwoRuns

@@ -1,48 +1,33 @@
 -- The state in which the machine starts (DDI0553, `TakeReset`).
-use Rattle.std.specs.Prelude.{ℕ, ◌+◌, ◌*◌, ◌/◌, ◌%◌, ◌==◌, Bool, true, false, ◌&&◌, if◌then◌else◌, List, [], ◌∷◌, replicate}
-use Rattle.tz_table.specs.declared.units.Side.TheVariants.{Secure}
+use Rattle.std.specs.Prelude.{ℕ, ◌+◌, Bool, true, false, ◌&&◌, if◌then◌else◌, List, [], ◌∷◌}
 use Rattle.tz_table.specs.declared.units.Size.TheVariants.{Word}
+use Rattle.tz_model.specs.Words.{wrap}
 use Rattle.tz_model.specs.Board.{BoardValue}
 use Rattle.tz_model.specs.Image.{SegmentValue, ImageValue}
-use Rattle.tz_model.specs.Memory.{Memory, wrap, every, word_at, with_bytes}
-use Rattle.tz_model.specs.Zeros.{zero_memory}
-use Rattle.tz_model.specs.Access.{is_mapped}
-use Rattle.tz_model.specs.State.{State}
+use Rattle.tz_state.specs.Memory.{Memory, every, word_at, with_bytes}
+use Rattle.tz_state.specs.Zeros.{zero_memory}
+use Rattle.tz_state.specs.Registers.{reset_core}
+use Rattle.tz_state.specs.Access.{is_mapped}
+use Rattle.tz_state.specs.State.{State}
 
 -- the bytes of segments put into memory, one segment after the other
 unfoldable pub with_segments : Memory → List SegmentValue → Memory
 with_segments m [] = m
 with_segments m (s ∷ more) = with_segments (with_bytes m s.base s.bytes) more
 
--- memory is zero but for the two images
+-- (own) memory is zero but for the two images
 abbrev pub boot_memory : BoardValue → ImageValue → ImageValue → Memory
 boot_memory b secure nonsecure = with_segments (with_segments (zero_memory b.regions) secure.segments) nonsecure.segments
 
 -- the values of a reset, with this memory, stack pointer and start
 abbrev pub reset : BoardValue → Memory → ℕ → ℕ → Bool → State
-reset b m sp start locked =
-    record {
-      side = Secure;
-      locked = locked;
-      regs = replicate 13 0;
-      lr = 0xFFFFFFFF;
-      pc = start / 2 * 2;
-      n = false;
-      z = false;
-      c = false;
-      v = false;
-      t = start % 2 == 1;
-      ipsr = 0;
-      msp_s = sp / 4 * 4;
-      msp_ns = 0;
-      memory = m;
-      board = b;
-    }
+reset b m sp start locked = record { core = reset_core sp start locked; memory = m; board = b }
 
 -- both words at the start of the Secure vector table are in memory
 abbrev pub has_vectors : BoardValue → Bool
 has_vectors b = every (is_mapped b.regions) b.secure_vtor Word && every (is_mapped b.regions) (wrap (b.secure_vtor + 4)) Word
 
+-- (own) without them the machine starts locked
 abbrev pub start_from : BoardValue → Memory → State
 start_from b m =
     if has_vectors b then reset b m (word_at m b.secure_vtor) (word_at m (wrap (b.secure_vtor + 4))) false

@@ -1,13 +1,4 @@
-pub mod Decode
-pub mod Exec
+pub mod Ended
 pub mod Step
 pub mod Run
 pub mod Boot
-pub mod Seen
-pub mod Text
-pub mod Demo
-pub mod Placement
-pub mod PlainImage
-pub mod ElfImage
-pub mod Images
-pub mod Scripts

@@ -1,5 +1,5 @@
--- One step of the machine, with its report.
-use Rattle.std.specs.Prelude.{ℕ, ◌+◌, ◌%◌, ◌^◌, ◌==◌, Bool, true, ◌||◌, not, if◌then◌else◌, List, [], ◌∷◌, ◌++◌, Option, Some, None, Result, Ok, Err}
+-- One step of the machine, stage by stage, each of which gives how the step ends.
+use Rattle.std.specs.Prelude.{ℕ, ◌+◌, ◌%◌, ◌==◌, Bool, true, ◌||◌, not, if◌then◌else◌, List, [], Option, Some, None, Result, Ok, Err}
 use Rattle.tz_table.specs.declared.units.Side.{Side}
 use Rattle.tz_table.specs.declared.units.Side.TheVariants.{Secure, NonSecure}
 use Rattle.tz_table.specs.declared.units.Code.{Code}
@@ -7,30 +7,20 @@ use Rattle.tz_table.specs.declared.instruction.Insn.{Insn}
 use Rattle.tz_model.specs.declared.report.Fault.{Fault}
 use Rattle.tz_model.specs.declared.report.Outcome.{Outcome}
 use Rattle.tz_model.specs.declared.report.Outcome.TheVariants.{Next, Jump, Exchange, Sleep}
-use Rattle.tz_model.specs.declared.report.CrossKind.TheVariants.{Return}
-use Rattle.tz_model.specs.declared.report.Way.{Way}
-use Rattle.tz_model.specs.declared.report.StepKind.TheVariants.{Locked, Ran}
-use Rattle.tz_model.specs.declared.report.Change.{Change}
+use Rattle.tz_model.specs.declared.report.ScriptEvent.{ScriptEvent}
 use Rattle.tz_model.specs.declared.report.Store.{Store}
-use Rattle.tz_model.specs.declared.report.Before.{Before}
 use Rattle.tz_model.specs.declared.report.Report.{Report}
-use Rattle.tz_model.specs.Memory.{wrap}
-use Rattle.tz_model.specs.Access.{Answers, accesses}
 use Rattle.tz_model.specs.declared.fetch.Fetched.{Fetched}
 use Rattle.tz_model.specs.declared.fetch.FetchAnswer.{FetchAnswer}
-use Rattle.tz_model.specs.Fetch.{fetch, is_own_fetch, wide, sg_half}
-use Rattle.tz_model.specs.State.{State}
-use Rattle.tz_sem.specs.Decode.{decode}
-use Rattle.tz_sem.specs.Exec.{Local, Finished, even_of, plan, finish, stores_in}
-
--- a locked machine counts as Secure
-abbrev pub side_of : State → Side
-side_of s = if s.locked then Secure else s.side
-
--- the stack pointer in use on a side
-abbrev pub sp_of : Side → State → ℕ
-sp_of Secure s = s.msp_s
-sp_of NonSecure s = s.msp_ns
+use Rattle.tz_model.specs.Words.{wrap, even_of}
+use Rattle.tz_state.specs.declared.registers.Before.{Before}
+use Rattle.tz_state.specs.Registers.{before_in}
+use Rattle.tz_state.specs.State.{State, map_of, with_run, with_registers, with_pc}
+use Rattle.tz_state.specs.Fetch.{fetch, is_own_fetch, wide, sg_half}
+use Rattle.tz_exec.specs.Built.{built_insn}
+use Rattle.tz_exec.specs.Exec.{Executed, executed}
+use Rattle.tz_sem.specs.declared.ending.Cause.TheVariants.{Went, Returned}
+use Rattle.tz_sem.specs.Ended.{Ended, report_of}
 
 -- the number of bytes of a code
 abbrev pub length_with : Option ℕ → ℕ
@@ -40,143 +30,121 @@ length_with (Some second) = 4
 abbrev pub length_of : Code → ℕ
 length_of code = length_with code.second
 
--- what the running code has
-abbrev pub local_of : State → Local
-local_of s =
-    record { side = s.side; regs = s.regs; sp = sp_of s.side s; lr = s.lr; pc = s.pc; n = s.n; z = s.z; c = s.c; v = s.v; t = s.t }
-
--- what it leaves; no instruction that is built writes the stack pointer or PC
-abbrev pub with_local : State → Local → State
-with_local s l = record s { regs = l.regs; lr = l.lr; n = l.n; z = l.z; c = l.c; v = l.v; t = l.t }
-
--- a flag at its place in APSR
-abbrev pub flag_at : Bool → ℕ → ℕ
-flag_at flag place = if flag then place else 0
-
-abbrev pub apsr_of : State → ℕ
-apsr_of s = flag_at s.n (2 ^ 31) + flag_at s.z (2 ^ 30) + flag_at s.c (2 ^ 29) + flag_at s.v (2 ^ 28)
-
--- what a report needs of the state before an instruction
-abbrev pub before_of : Bool → State → Before
-before_of touched s =
-    record { side = s.side; touched = touched; pc = s.pc; regs = s.regs; sp = sp_of s.side s; lr = s.lr; apsr = apsr_of s }
-
-pub record Stepped : Type 0 where
-  pub state : State
-  pub report : Report
-
--- a register that differs is told
-abbrev pub changed : ℕ → ℕ → ℕ → List Change
-changed name old new = if old == new then [] else record { name = name; value = new } ∷ []
-
--- the registers that differ, the first of which has a name
-unfoldable pub registers_changed : ℕ → List ℕ → List ℕ → List Change
-registers_changed name [] ys = []
-registers_changed name (x ∷ xs) [] = []
-registers_changed name (x ∷ xs) (y ∷ ys) = changed name x y ++ registers_changed (name + 1) xs ys
-
--- R0 to R12, SP as selected before and after, LR and APSR
-abbrev pub changes_of : Before → State → List Change
-changes_of b s =
-    registers_changed 0 b.regs s.regs ++ changed 13 b.sp (sp_of s.side s) ++ changed 14 b.lr s.lr ++ changed 15 b.apsr (apsr_of s)
-
-abbrev pub locked_report : Side → Bool → Report
-locked_report start touched =
-    record { start = start; end = Secure; touched = touched; way = None; kind = Locked; changes = record { items = [] }; stores = record { items = [] } }
-
--- the machine locks
-abbrev pub locks : State → Bool → Stepped
-locks s touched = record { state = record s { locked = true }; report = locked_report (side_of s) touched }
+-- the machine locks; the stores that were made stand
+abbrev pub locks : State → Bool → List Store → Ended
+locks s touched stores =
+    record {
+      state = with_run s (record s.core.run { locked = true });
+      stores = stores;
+      ending = record { touched = touched; cause = Went; ran = None };
+    }
 
 -- an instruction ran
-abbrev pub ran : Before → Code → Option Way → List Store → State → Stepped
-ran b code way stores s =
-    record {
-      state = s;
-      report = record {
-        start = b.side;
-        end = side_of s;
-        touched = b.touched;
-        way = way;
-        kind = Ran b.pc code;
-        changes = record { items = changes_of b s };
-        stores = record { items = stores };
-      };
-    }
+abbrev pub ran : State → Bool → Code → List Store → Ended
+ran s touched code stores =
+    record { state = s; stores = stores; ending = record { touched = touched; cause = Went; ran = Some code } }
+
+-- ---- branches between the sides
 
 -- the value that a Secure call leaves in LR for Non-secure code to return by (DDI0553, FNC_RETURN)
 abbrev pub is_fnc_return : ℕ → Bool
 is_fnc_return target = target == 0xFEFFFFFE || target == 0xFEFFFFFF
 
--- the crossing of BXNS
-abbrev pub return_way : State → Option Way
-return_way s = Some (record { kind = Return; number = s.ipsr; lr = None })
+-- the code of an exchange goes on at a target, with T
+abbrev pub branched : State → ℕ → Bool → State
+branched s target t = with_registers s (record s.core.registers { pc = even_of target; t = t })
+
+-- Secure code returned to Non-secure code
+abbrev pub returned : State → Bool → Code → List Store → Ended
+returned s touched code stores =
+    record {
+      state = with_run s (record s.core.run { side = NonSecure });
+      stores = stores;
+      ending = record { touched = touched; cause = Returned; ran = Some code };
+    }
 
 -- BXNS in Secure state: where bit 0 of the target is 0, Non-secure code runs on
-abbrev pub branch_ns : Before → Code → List Store → ℕ → State → Stepped
-branch_ns b code stores target s =
-    if target % 2 == 0
-    then ran b code (return_way s) stores (record s { pc = even_of target; t = true; side = NonSecure })
-    else ran b code None stores (record s { pc = even_of target; t = true })
+abbrev pub branch_ns : State → Bool → Code → List Store → ℕ → Ended
+branch_ns s touched code stores target =
+    if target % 2 == 0 then returned (branched s target true) touched code stores
+    else ran (branched s target true) touched code stores
 
 -- BX and BXNS; a return to Secure code that was called is not built, and faults
-abbrev pub exchanged : Before → Code → List Store → ℕ → Bool → State → Stepped
-exchanged b code stores target ns s =
-    if is_fnc_return target then locks s true
-    else if ns then branch_ns b code stores target s
-    else ran b code None stores (record s { pc = even_of target; t = target % 2 == 1 })
+abbrev pub exchanged : State → Bool → Code → List Store → ℕ → Bool → Ended
+exchanged s touched code stores target ns =
+    if is_fnc_return target then locks s true stores
+    else if ns then branch_ns s touched code stores target
+    else ran (branched s target (target % 2 == 1)) touched code stores
+
+-- ---- the instruction
+
+-- to the next instruction
+abbrev pub goes_next : State → Bool → Code → List Store → Ended
+goes_next s touched code stores = ran (with_pc s (wrap (s.core.registers.pc + length_of code))) touched code stores
 
 -- how a step goes on after its instruction
-abbrev pub goes_on : Before → Code → List Store → State → Outcome → Stepped
-goes_on b code stores s Next = ran b code None stores (record s { pc = wrap (b.pc + length_of code) })
-goes_on b code stores s (Jump to) = ran b code None stores (record s { pc = to })
-goes_on b code stores s (Exchange target ns) = exchanged b code stores target ns s
-goes_on b code stores s (Sleep event) = ran b code None stores (record s { pc = wrap (b.pc + length_of code) })
-
--- what an instruction leaves: its words are read, and its own case applies
-abbrev pub finished : State → Finished → State × Result Outcome Fault
-finished s (Ok f) = (with_local s f.0, Ok f.1)
-finished s (Err fault) = (s, Err fault)
-
-abbrev pub executed_with : State → Insn → Answers → State × Result Outcome Fault
-executed_with s i (m, Ok words) = finished (record s { memory = m }) (finish i (local_of s) words)
-executed_with s i (m, Err fault) = (record s { memory = m }, Err fault)
-
--- the state after an instruction but for PC, and how it goes on or its fault
-abbrev pub executed : State → Insn → State × Result Outcome Fault
-executed s i = executed_with s i (accesses s.board s.side s.memory (plan i (local_of s)))
+abbrev pub goes_on : State → Bool → Code → List Store → Outcome → Ended
+goes_on s touched code stores Next = goes_next s touched code stores
+goes_on s touched code stores (Jump to) = ran (with_pc s to) touched code stores
+goes_on s touched code stores (Exchange target ns) = exchanged s touched code stores target ns
+goes_on s touched code stores (Sleep event) = goes_next s touched code stores
 
 -- each fault locks the machine
-abbrev pub executes : State → Bool → Code → List Store → State × Result Outcome Fault → Stepped
-executes s touched code stores (s', Ok outcome) = goes_on (before_of touched s) code stores s' outcome
-executes s touched code stores (s', Err fault) = locks s' touched
+abbrev pub concludes : State → Bool → Code → List Store → Result Outcome Fault → Ended
+concludes s touched code stores (Ok outcome) = goes_on s touched code stores outcome
+concludes s touched code stores (Err fault) = locks s touched stores
 
-abbrev pub decoded : State → Bool → Code → Option Insn → Stepped
-decoded s touched code None = locks s touched
-decoded s touched code (Some i) =
-    executes s touched code (stores_in (plan i (local_of s))) (executed s i)
+abbrev pub executes : Bool → Code → Executed → Ended
+executes touched code x = concludes x.state touched code x.stores x.outcome
+
+abbrev pub decoded : State → Bool → Code → Option Insn → Ended
+decoded s touched code None = locks s touched []
+decoded s touched code (Some i) = executes touched code (executed s i)
 
 -- SG reached from Non-secure state: bit 0 of LR is cleared, and Secure code runs on
-abbrev pub enters : State → Stepped
+abbrev pub enters : State → Ended
 enters s =
-    ran (before_of true s) (wide sg_half sg_half true).code None []
-    (record s { lr = even_of s.lr; side = Secure; pc = wrap (s.pc + 4) })
+    ran (record s {
+      core = record s.core {
+        run = record s.core.run { side = Secure };
+        registers = record s.core.registers { lr = even_of s.core.registers.lr; pc = wrap (s.core.registers.pc + 4) };
+      };
+    }) true (wide sg_half sg_half true).code []
 
-abbrev pub fetched : State → Bool → Result Fetched Fault → Stepped
-fetched s touched (Err fault) = locks s touched
-fetched s touched (Ok f) = if f.gateway then enters s else decoded s touched f.code (decode f.code)
+-- ---- the fetch
 
-abbrev pub fetches : State → FetchAnswer → Stepped
+abbrev pub fetched : State → Bool → Result Fetched Fault → Ended
+fetched s touched (Err fault) = locks s touched []
+fetched s touched (Ok f) = if f.gateway then enters s else decoded s touched f.code (built_insn f.code)
+
+abbrev pub fetches : State → FetchAnswer → Ended
 fetches s f = fetched s f.touched f.answer
+
+-- the fetch of the running code
+abbrev pub fetch_in : State → FetchAnswer
+fetch_in s = fetch (map_of s) s.core.run.side s.memory s.core.registers.pc
 
 -- a step that fetches nothing looks at Secure state where it starts Secure, or at a Secure address
 abbrev pub looks : Side → State → Bool
 looks Secure s = true
-looks NonSecure s = not (is_own_fetch s.board NonSecure s.pc)
+looks NonSecure s = not (is_own_fetch (map_of s) NonSecure s.core.registers.pc)
 
--- one step: a locked machine stays so, and where T is 0 no instruction runs
-unfoldable pub step : State → Stepped
-step s =
-    if s.locked then locks s true
-    else if s.t then fetches s (fetch s.board s.side s.memory s.pc)
-    else locks s (looks s.side s)
+-- how a step ends: a locked machine stays so; (own) where T is 0 it locks before anything is fetched
+unfoldable pub ended : State → Ended
+ended s =
+    if s.core.run.locked then locks s true []
+    else if s.core.registers.t then fetches s (fetch_in s)
+    else locks s (looks s.core.run.side s) []
+
+-- ---- the step
+
+pub record Stepped : Type 0 where
+  pub state : State
+  pub report : Report
+
+abbrev pub stepped : Before → Ended → Stepped
+stepped b e = record { state = e.state; report = report_of b e }
+
+-- one step; the events that are due are passed over
+abbrev pub step : State → List ScriptEvent → Stepped
+step s events = stepped (before_in s.core) (ended s)

@@ -1,18 +1,19 @@
-//! The definitions of what the machine does: instructions, the step, the boot, the trace, what
-//! Non-secure code sees, and the files. It has no calls but a law.
+//! The definitions of what the machine does: its start, a step with its report, and steps in a row.
+//!
+//! The definitions stand in `specs/`. The one call is a law. What is seen of a run, and what two runs
+//! have in common, is said in crates above.
 #![tactic(auto)]
 
-ghost use Rattle.std.specs.Prelude.{◌≡◌, ℕ};
-ghost use Rattle.tz_model.specs.declared.report.View.TheVariants.{Ns};
-ghost use Rattle.tz_model.specs.Board.{BoardValue};
-ghost use Rattle.tz_model.specs.Image.{ImageValue};
-ghost use Rattle.tz_sem.specs.Boot.{boot};
-ghost use Rattle.tz_sem.specs.Seen.{Agree};
-ghost use Rattle.tz_sem.specs.Text.{text_from};
+ghost use Rattle.std.specs.Prelude.{◌≡◌, List, true};
+ghost use Rattle.tz_model.specs.declared.report.ScriptEvent.{ScriptEvent};
+ghost use Rattle.tz_state.specs.State.{State};
+ghost use Rattle.tz_sem.specs.Step.{step};
 
-/// Isolation: two runs of a board and a Non-secure image, with any two Secure images, that agree in
-/// what crosses out of Secure state print the same for Non-secure code.
-pub fn isolation()
-    ensures { (b : BoardValue) (secure other nonsecure : ImageValue) (n : ℕ) → Agree (boot b secure nonsecure) (boot b other nonsecure) n →
-        text_from Ns 0 (boot b secure nonsecure) n ≡ text_from Ns 0 (boot b other nonsecure) n }
+mod ending;
+
+pub use ending::{Cause, Ending};
+
+/// A locked machine stays as it is, whatever events are due.
+pub fn locked_stays()
+    ensures { (s : State) (events : List ScriptEvent) → s.core.run.locked ≡ true → (step s events).state ≡ s }
 {}

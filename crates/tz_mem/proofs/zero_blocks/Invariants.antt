@@ -1,5 +1,5 @@
 use Rattle.std.proofs.Common.{◌≡◌, ◌++◌, drop}
-use Rattle.tz_model.specs.Zeros.{zero_entries}
+use Rattle.tz_state.specs.Zeros.{zero_entries}
 use Rattle.tz_mem.specs.Blocks.{entries_of}
 use Rattle.tz_mem.proofs.zero_blocks.Given as goal
 

@@ -1,5 +1,5 @@
 use Rattle.std.proofs.Common.{◌≡◌, drop}
-use Rattle.tz_model.specs.Attribution.{idau_side}
+use Rattle.tz_state.specs.Attribution.{idau_side}
 use Rattle.tz_sau.proofs.idau_side.Given as goal
 
 abbrev pub invariant-loop-region : goal.invariant-loop-region

@@ -1,6 +1,6 @@
 use Rattle.std.proofs.Common.{◌≡◌, drop}
 use Rattle.std.specs.Prelude.{filter}
-use Rattle.tz_model.specs.Attribution.{sau_holds, side_by}
+use Rattle.tz_state.specs.Attribution.{sau_holds, side_by}
 use Rattle.tz_sau.proofs.Holding.{side_after}
 use Rattle.tz_sau.proofs.sau_side.Given as goal
 

@@ -1,5 +1,5 @@
 use Rattle.std.proofs.Common.{◌≡◌, drop}
-use Rattle.tz_model.specs.Access.{is_mapped}
+use Rattle.tz_state.specs.Access.{is_mapped}
 use Rattle.tz_access.proofs.data.is_mapped.Given as goal
 
 abbrev pub invariant-loop-region : goal.invariant-loop-region

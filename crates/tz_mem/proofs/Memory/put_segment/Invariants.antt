@@ -1,5 +1,5 @@
 use Rattle.std.proofs.Common.{◌≡◌, drop}
-use Rattle.tz_model.specs.Memory.{with_bytes}
+use Rattle.tz_state.specs.Memory.{with_bytes}
 use Rattle.tz_mem.proofs.Memory.put_segment.Given as goal
 
 abbrev pub invariant-loop-byte : goal.invariant-loop-byte

@@ -1,0 +1,19 @@
+-- Integrity is a law of the step relation.
+use Rattle.std.proofs.Common.{subst}
+use Rattle.tz_sem.specs.Step.{Stepped}
+use Rattle.tz_twin.specs.Integrity.{LeavesSecure, EntersByGateway}
+use Rattle.tz_twin.proofs.Unharmed.{leaves_secure, enters_by_gateway}
+use Rattle.tz_core.proofs.running.Machine.step_into.Goals as goal
+
+pub returns-clause-leaves_secure : goal.returns-clause-leaves_secure
+returns-clause-leaves_secure c =
+    subst (λ (r : Stepped). LeavesSecure c.args.self.now r) (c.report_step.ensures c.args.due.now)
+    (λ is untouched. leaves_secure c.args.self.now is untouched)
+
+pub returns-clause-enters_by_gateway : goal.returns-clause-enters_by_gateway
+returns-clause-enters_by_gateway c =
+    subst (λ (r : Stepped). EntersByGateway c.args.self.now r) (c.report_step.ensures c.args.due.now)
+    (λ is secure unlocked. enters_by_gateway c.args.self.now is secure unlocked)
+
+pub returns-clause-steps : goal.returns-clause-steps
+returns-clause-steps c = c.report_step.ensures c.args.due.now

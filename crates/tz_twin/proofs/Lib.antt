@@ -1,0 +1,12 @@
+pub mod Bytes
+pub mod Fetching
+pub mod Split
+pub mod Both
+pub mod Accesses
+pub mod Executing
+pub mod Entering
+pub mod Returning
+pub mod Secured
+pub mod Stepping
+pub mod TwoRuns
+pub mod Unharmed

@@ -1,0 +1,145 @@
+-- The split of a state in which Non-secure code runs: what is open to that code, and the rest. A new part
+-- of the state goes into one of the two records here.
+use Rattle.std.proofs.Common.{◌≡◌, ℕ, Bool, true, false, cond, Option, refl, sym, ap, ◌∙◌, subst}
+use mathlib.Core.Path.{fun_ext}
+use Rattle.tz_table.specs.declared.units.Side.{Side}
+use Rattle.tz_table.specs.declared.units.Side.TheVariants.{Secure, NonSecure}
+use Rattle.tz_model.specs.Board.{BoardValue}
+use Rattle.tz_model.specs.Words.{is_nonsecure_side}
+use Rattle.tz_state.specs.declared.registers.Registers.{Registers}
+use Rattle.tz_state.specs.declared.registers.Stacks.{Stacks}
+use Rattle.tz_state.specs.Memory.{Memory}
+use Rattle.tz_state.specs.Attribution.{map_on}
+use Rattle.tz_state.specs.State.{State, map_of, side_of}
+use Rattle.tz_twin.specs.Seen.{public_of, open_bytes, Seen, Hidden, Shown, seen}
+use Rattle.tz_twin.proofs.Bytes.{SameOpen}
+
+-- what Non-secure code has, but for bytes
+pub record Open : Type 0 where
+  pub board : BoardValue
+  pub registers : Registers
+  pub stacks_ns : Stacks
+
+-- the Secure parts, and all bytes
+pub record Rest : Type 0 where
+  pub stacks_s : Stacks
+  pub memory : Memory
+
+abbrev pub open_of : State → Open
+open_of s = record { board = s.board; registers = s.core.registers; stacks_ns = s.core.stacks_ns }
+
+abbrev pub rest_of : State → Rest
+rest_of s = record { stacks_s = s.core.stacks_s; memory = s.memory }
+
+-- the state of the two in which Non-secure code runs
+abbrev pub join : Open → Rest → State
+join o x =
+    record {
+      core = record {
+        run = record { side = NonSecure; locked = false };
+        registers = o.registers;
+        stacks_s = x.stacks_s;
+        stacks_ns = o.stacks_ns;
+      };
+      memory = x.memory;
+      board = o.board;
+    }
+
+runs_open : (locked : Bool) (side : Side) → is_nonsecure_side (cond locked Secure side) ≡ true → (locked ≡ false) × (side ≡ NonSecure)
+runs_open true side e = cc
+runs_open false Secure e = cc
+runs_open false NonSecure e = (refl, refl)
+
+-- each state in which Non-secure code runs is made of the two
+pub joined : (s : State) → is_nonsecure_side (side_of s) ≡ true → s ≡ join (open_of s) (rest_of s)
+joined s is =
+    let h = runs_open s.core.run.locked s.core.run.side is in
+    λ i. record s { core = record s.core { run = record { side = h.1 i; locked = h.0 i } } }
+
+-- two states in which Non-secure code runs with the same open part and the same Non-secure bytes
+pub record Twins (s s' : State) : Type 0 where
+  pub runs : is_nonsecure_side (side_of s) ≡ true
+  pub runs' : is_nonsecure_side (side_of s') ≡ true
+  pub opens : open_of s ≡ open_of s'
+  pub bytes : SameOpen (map_of s) s.memory s'.memory
+
+pub twins_join : (o : Open) (x x' : Rest) → SameOpen (map_on o.board) x.memory x'.memory → Twins (join o x) (join o x')
+twins_join o x x' same = record { runs = refl; runs' = refl; opens = refl; bytes = same }
+
+-- what holds of any two rests beside one open part holds of twins
+pub by_join : (P : State → State → Type 0) → ((o : Open) (x x' : Rest) → SameOpen (map_on o.board) x.memory x'.memory → P (join o x) (join o x'))
+    → (s s' : State) → Twins s s' → P s s'
+by_join P h s s' t =
+    let here : P (join (open_of s) (rest_of s)) (join (open_of s) (rest_of s')) = h (open_of s) (rest_of s) (rest_of s') t.bytes in
+    let there : P (join (open_of s) (rest_of s)) (join (open_of s') (rest_of s')) =
+    subst (λ (o : Open). P (join (open_of s) (rest_of s)) (join o (rest_of s'))) t.opens here in
+    subst (λ (r : State). P r s') (sym (joined s t.runs))
+    (subst (λ (r : State). P (join (open_of s) (rest_of s)) r) (sym (joined s' t.runs')) there)
+
+-- ---- what is seen, taken apart
+
+-- the board that is seen
+pub board_seen : Seen → BoardValue
+board_seen (Hidden b) = b
+board_seen (Shown b registers p) = b
+
+is_shown : Seen → Bool
+is_shown (Hidden b) = false
+is_shown (Shown b registers p) = true
+
+-- the open part that is seen, or a given one where nothing is shown
+open_seen : Open → Seen → Open
+open_seen o (Hidden b) = o
+open_seen o (Shown b registers p) = record { board = b; registers = registers; stacks_ns = p.stacks }
+
+bytes_seen : (ℕ → Option ℕ) → Seen → ℕ → Option ℕ
+bytes_seen none (Hidden b) a = none a
+bytes_seen none (Shown b registers p) a = p.bytes a
+
+pub board_seen-seen : (s : State) → board_seen (seen s) ≡ s.board
+unfolding board_seen
+board_seen-seen s = go (is_nonsecure_side (side_of s)) where
+  go : (t : Bool) → board_seen (cond t (Shown s.board s.core.registers (public_of s)) (Hidden s.board)) ≡ s.board
+  go true = refl
+  go false = refl
+
+is_shown-seen : (s : State) → is_shown (seen s) ≡ is_nonsecure_side (side_of s)
+unfolding is_shown
+is_shown-seen s = go (is_nonsecure_side (side_of s)) where
+  go : (t : Bool) → is_shown (cond t (Shown s.board s.core.registers (public_of s)) (Hidden s.board)) ≡ t
+  go true = refl
+  go false = refl
+
+-- states that are seen alike run code of one side
+pub sides_alike : (s s' : State) → seen s ≡ seen s' → is_nonsecure_side (side_of s) ≡ is_nonsecure_side (side_of s')
+sides_alike s s' e = sym (is_shown-seen s) ∙ ap is_shown e ∙ is_shown-seen s'
+
+choose : {A : Type 0} (t : Bool) (x y : A) → t ≡ true → cond t x y ≡ x
+choose true x y e = refl
+choose false x y e = cc
+
+seen-shown : (s : State) → is_nonsecure_side (side_of s) ≡ true → seen s ≡ Shown s.board s.core.registers (public_of s)
+seen-shown s is = choose (is_nonsecure_side (side_of s)) (Shown s.board s.core.registers (public_of s)) (Hidden s.board) is
+
+-- states that are seen alike and in which Non-secure code runs are twins
+pub twins_of_seen : (s s' : State) → seen s ≡ seen s' → is_nonsecure_side (side_of s) ≡ true → Twins s s'
+unfolding open_seen bytes_seen
+twins_of_seen s s' e is =
+    let is' : is_nonsecure_side (side_of s') ≡ true = sym (sides_alike s s' e) ∙ is in
+    let both : Shown s.board s.core.registers (public_of s) ≡ Shown s'.board s'.core.registers (public_of s') =
+    sym (seen-shown s is) ∙ e ∙ seen-shown s' is' in
+    let opens : open_of s ≡ open_of s' = ap (open_seen (open_of s)) both in
+    let none : ℕ → Option ℕ = open_bytes (map_of s) s.memory in
+    let bytes : (a : ℕ) → open_bytes (map_of s) s.memory a ≡ open_bytes (map_of s') s'.memory a = λ a. ap (λ x. bytes_seen none x a) both in
+    record {
+      runs = is;
+      runs' = is';
+      opens = opens;
+      bytes = λ a. bytes a ∙ ap (λ (o : Open). open_bytes (map_on o.board) s'.memory a) (sym opens);
+    }
+
+-- and twins are seen alike
+pub seen_of_twins : (s s' : State) → Twins s s' → seen s ≡ seen s'
+seen_of_twins s s' t =
+    by_join (λ r r'. seen r ≡ seen r')
+    (λ o x x' same. ap (λ (bytes : ℕ → Option ℕ). Shown o.board o.registers (record { bytes = bytes; stacks = o.stacks_ns })) (fun_ext same)) s s' t

@@ -1,0 +1,3 @@
+pub mod Seen
+pub mod Trace
+pub mod Integrity

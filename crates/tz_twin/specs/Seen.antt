@@ -1,0 +1,55 @@
+-- What Non-secure code can see, and runs that agree.
+use Rattle.std.specs.Prelude.{◌≡◌, ℕ, zero, suc, ◌+◌, ◌&&◌, if◌then◌else◌, Option, Some, None}
+use Rattle.std.specs.FinMap.{get}
+use Rattle.tz_model.specs.declared.report.Way.{Way}
+use Rattle.tz_model.specs.Board.{BoardValue}
+use Rattle.tz_model.specs.Words.{is_nonsecure_side}
+use Rattle.tz_state.specs.declared.registers.Registers.{Registers}
+use Rattle.tz_state.specs.declared.registers.Stacks.{Stacks}
+use Rattle.tz_state.specs.Memory.{Memory}
+use Rattle.tz_state.specs.Attribution.{MapState, is_open}
+use Rattle.tz_state.specs.State.{State, map_of, side_of}
+use Rattle.tz_sem.specs.Step.{Stepped, step}
+use Rattle.tz_sem.specs.Run.{Events}
+
+-- the bytes that are Non-secure as data, by address; nothing elsewhere
+abbrev pub open_bytes : MapState → Memory → ℕ → Option ℕ
+open_bytes m memory a = if is_open m a then get memory a else None
+
+-- the public state: its parts that can change yet
+pub record Public : Type 0 where
+  pub bytes : ℕ → Option ℕ
+  pub stacks : Stacks
+
+abbrev pub public_of : State → Public
+public_of s = record { bytes = open_bytes (map_of s) s.memory; stacks = s.core.stacks_ns }
+
+-- a crossing out of Secure state: its way, the registers that Secure code hands to Non-secure code, and
+-- the public state after it
+pub record Crossing : Type 0 where
+  pub way : Option Way
+  pub handed : Registers
+  pub public : Public
+
+-- the crossing of a step that looked at Secure state and ends Non-secure
+abbrev pub crossing : Stepped → Option Crossing
+crossing r =
+    if r.report.touched && is_nonsecure_side (side_of r.state)
+    then Some (record { way = r.report.way; handed = r.state.core.registers; public = public_of r.state })
+    else None
+
+-- for n steps from step k on, with the same events: whenever one run leaves Secure state for Non-secure
+-- code, so does the other, and Non-secure code finds the same; how it got there, registers, public state
+abbrev pub Agree : Events → ℕ → State → State → ℕ → Type 0
+Agree events k s s' zero = Unit {0}
+Agree events k s s' (suc n) =
+    (crossing (step s (events k)) ≡ crossing (step s' (events k)))
+    × Agree events (k + 1) (step s (events k)).state (step s' (events k)).state n
+
+-- what Non-secure code has while it runs, and the board alone while Secure code runs
+pub data Seen : Type 0 where
+  Hidden : (board : BoardValue) → Seen
+  Shown : (board : BoardValue) (registers : Registers) (public : Public) → Seen
+
+abbrev pub seen : State → Seen
+seen s = if is_nonsecure_side (side_of s) then Shown s.board s.core.registers (public_of s) else Hidden s.board

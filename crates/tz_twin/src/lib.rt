@@ -1,0 +1,32 @@
+//! What Non-secure code sees of a run, two runs beside each other, and what Non-secure code can't change.
+//!
+//! The definitions stand in `specs/`; the calls are laws. That two runs which cross out of Secure state
+//! alike print the same is proved here, once for all; programs cite it for what they print.
+#![tactic(auto)]
+
+ghost use Rattle.std.specs.Prelude.{◌≡◌, ℕ, List};
+ghost use Rattle.tz_model.specs.declared.report.ScriptEvent.{ScriptEvent};
+ghost use Rattle.tz_model.specs.declared.report.View.TheVariants.{Ns};
+ghost use Rattle.tz_model.specs.Board.{BoardValue};
+ghost use Rattle.tz_model.specs.Image.{ImageValue};
+ghost use Rattle.tz_state.specs.State.{State};
+ghost use Rattle.tz_sem.specs.Boot.{boot};
+ghost use Rattle.tz_sem.specs.Step.{step};
+ghost use Rattle.tz_sem.specs.Run.{Events};
+ghost use Rattle.tz_twin.specs.Seen.{Agree};
+ghost use Rattle.tz_twin.specs.Trace.{text_from};
+ghost use Rattle.tz_twin.specs.Integrity.{LeavesSecure, EntersByGateway};
+
+/// Isolation: two runs of a board, a Non-secure image and a script, with any two Secure images, that
+/// agree in what crosses out of Secure state print the same for Non-secure code.
+pub fn isolation()
+    ensures { (b : BoardValue) (secure other nonsecure : ImageValue) (events : Events) (n : ℕ) → Agree events 0 (boot b secure nonsecure) (boot b other nonsecure) n →
+        text_from Ns events 0 (boot b secure nonsecure) n ≡ text_from Ns events 0 (boot b other nonsecure) n }
+{}
+
+/// Integrity: a step of Non-secure code that doesn't look at Secure state leaves it as it was, and one
+/// that gets to Secure code without locking ran SG where Non-secure code may call.
+pub fn integrity()
+    ensures leaves { (s : State) (events : List ScriptEvent) → LeavesSecure s (step s events) }
+    ensures enters { (s : State) (events : List ScriptEvent) → EntersByGateway s (step s events) }
+{}
