@@ -5,7 +5,7 @@ use Rattle.std.proofs.lemmas.List.{drop_all, drop_more}
 use Rattle.std.proofs.Math.Nat.{pow-succ'}
 use Rattle.std.specs.Char.{is_ascii_digit}
 use Rattle.tz_model.specs.Board.{within}
-use Rattle.tz_sem.specs.Scripts.{digits_from, number_of}
+use Rattle.tz_board.specs.Scripts.{digits_from, number_of}
 
 pub number_of-none : (xs : List ℕ) → length xs ≡ 0 → number_of xs ≡ None
 unfolding number_of

@@ -6,7 +6,7 @@ use Rattle.toml.specs.Data.{Members, as_table}
 use Rattle.toml.specs.View.{items_view, table_view, view}
 use Rattle.toml.specs.declared.value.Value.{Value}
 use Rattle.tz_board.specs.Boards.{◌>>=◌, BoardRefusal, Read, each, tables_of, with_table}
-use Rattle.tz_board.specs.BoardErrors.{IsRefusal, IsTold, refusal_of}
+use Rattle.tz_board.specs.BoardErrors.{IsBoardRefusal, IsTold, refusal_of}
 use Rattle.tz_board.specs.Tables.{views}
 use Rattle.tz_board.specs.declared.error.BoardError.{BoardError}
 
@@ -72,8 +72,8 @@ told_stops None read ts i t xs h at is = tt
 told_stops (Some refusal) read ts i t xs h at is = rw (views-drop ts i t h at, is)
 
 -- the first table that is refused
-pub read_stops : {A : Type 0} → (e : BoardError) (read : ℕ → Members → Read A) (ts : List TableRef) (i : ℕ) (t : TableRef) (xs : List A) → i < length ts → t ≡ get_or ts i t → IsRefusal e (read i (table_view t.now))
-    → IsRefusal e (after xs (each read i (views (drop i ts))))
+pub read_stops : {A : Type 0} → (e : BoardError) (read : ℕ → Members → Read A) (ts : List TableRef) (i : ℕ) (t : TableRef) (xs : List A) → i < length ts → t ≡ get_or ts i t → IsBoardRefusal e (read i (table_view t.now))
+    → IsBoardRefusal e (after xs (each read i (views (drop i ts))))
 read_stops e read ts i t xs h at is = told_stops (refusal_of e) read ts i t xs h at is
 
 pub all_read : {A : Type 0} → (read : ℕ → Members → Read A) (ts : List TableRef) (i : ℕ) (xs : List A) → length ts ≤ i → after xs (each read i (views (drop i ts))) ≡ Ok xs

@@ -3,7 +3,7 @@ use Rattle.std.proofs.Common.{◌≡◌, ◌∙◌, ◌<◌, ◌≤◌, ℕ, zer
 use Rattle.std.proofs.lemmas.Bool.{and_parts, eq-eqb, ltb-true, ne_eqb}
 use Rattle.std.proofs.lemmas.List.{append-nil, length-append, length-map}
 use Rattle.tz_model.specs.declared.report.ScriptEvent.{ScriptEvent}
-use Rattle.tz_sem.specs.Scripts.{Timed, due_at}
+use Rattle.tz_board.specs.Scripts.{Timed, due_at}
 use Rattle.tz_board.specs.Script.{all_timed, ascend, have_events, is_below_all, steps_of, timed_of}
 use Rattle.tz_board.specs.declared.script.Moment.{Moment}
 use Rattle.tz_board.proofs.Halving.{below_all-at, length-steps_of}

@@ -4,7 +4,7 @@ use Rattle.std.proofs.lemmas.Bool.{and_from, and_parts, le-leb, leb-true, lt-ltb
 use Rattle.std.proofs.lemmas.List.{append-nil, length_push, nil_from_length, take_more}
 use Rattle.std.proofs.Math.Seq.{take-length}
 use Rattle.tz_model.specs.declared.report.ScriptEvent.{ScriptEvent}
-use Rattle.tz_sem.specs.Scripts.{Timed, follow, last_step, most_events}
+use Rattle.tz_board.specs.Scripts.{Timed, follow, last_step, most_events}
 use Rattle.tz_board.specs.Script.{IsKept, Opens, all_timed, ascend, have_events, is_below_all, steps_of, timed_of}
 use Rattle.tz_board.specs.declared.script.Moment.{Moment}
 

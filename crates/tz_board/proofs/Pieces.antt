@@ -7,7 +7,7 @@ use Rattle.std.proofs.Math.Seq.{take-length}
 use Rattle.std.specs.List.{position_or_len}
 use lib.Dec.{ltb}
 use Rattle.std.proofs.lemmas.List.Quantifiers.{position-Some}
-use Rattle.tz_sem.specs.Scripts.{is_part, lines_of, parts_of, pieces, without_returns}
+use Rattle.tz_board.specs.Scripts.{is_part, script_lines, parts_of, pieces, without_returns}
 use Rattle.tz_board.specs.Text.{chomp, has}
 
 -- a text in front of whose index no byte is the separator
@@ -110,13 +110,13 @@ has-chomp (x ∷ y ∷ xs) h =
     let no = neither (x == 10) (has 10 (y ∷ xs)) h in
     rw no.0 (has-chomp (y ∷ xs) no.1)
 
-pub lines_of-cut : (xs more : List ℕ) → has 10 xs ≡ false → lines_of (xs ++ 10 ∷ more) ≡ chomp xs ∷ lines_of more
-unfolding lines_of
-lines_of-cut xs more h = rw (without_returns-cut xs more h) (pieces-cut 10 (chomp xs) (without_returns more) (has-chomp xs h))
+pub script_lines-cut : (xs more : List ℕ) → has 10 xs ≡ false → script_lines (xs ++ 10 ∷ more) ≡ chomp xs ∷ script_lines more
+unfolding script_lines
+script_lines-cut xs more h = rw (without_returns-cut xs more h) (pieces-cut 10 (chomp xs) (without_returns more) (has-chomp xs h))
 
-pub lines_of-last : (xs : List ℕ) → has 10 xs ≡ false → lines_of xs ≡ xs ∷ []
-unfolding lines_of
-lines_of-last xs h = rw (without_returns-none xs h) (pieces-none 10 xs h)
+pub script_lines-last : (xs : List ℕ) → has 10 xs ≡ false → script_lines xs ≡ xs ∷ []
+unfolding script_lines
+script_lines-last xs h = rw (without_returns-none xs h) (pieces-none 10 xs h)
 
 part_first : (xs : List ℕ) (ps : List (List ℕ)) → 0 < length xs → filter is_part (xs ∷ ps) ≡ xs ∷ filter is_part ps
 part_first [] ps h = absurd (omega arith)

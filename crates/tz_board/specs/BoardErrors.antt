@@ -50,8 +50,8 @@ IsTold None read = Unit {0}
 IsTold (Some refusal) read = read ≡ Err refusal
 
 -- the error is the refusal of what was read, or want of memory
-abbrev pub IsRefusal : {A : Type 0} → BoardError → Read A → Type 0
-IsRefusal e read = IsTold (refusal_of e) read
+abbrev pub IsBoardRefusal : {A : Type 0} → BoardError → Read A → Type 0
+IsBoardRefusal e read = IsTold (refusal_of e) read
 
 -- the numbers of a board file as its grammar has them
 abbrev pub numbers_of : Numbers → NumbersValue

@@ -1,6 +1,6 @@
 -- Scripts as they are kept: the steps that have events, ascending, each with its events.
 use Rattle.std.specs.Prelude.{◌≡◌, ℕ, nat_lt, Bool, true, ◌&&◌, List, [], ◌∷◌, ◌++◌, length, map, IsTrue}
-use Rattle.tz_sem.specs.Scripts.{IsScript, Timed}
+use Rattle.tz_board.specs.Scripts.{IsScript, Timed}
 use Rattle.tz_board.specs.declared.script.Moment.{Moment}
 
 -- the steps of some moments

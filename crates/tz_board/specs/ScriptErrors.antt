@@ -2,7 +2,7 @@
 use Rattle.std.specs.Prelude.{◌≡◌, Option, Some, None, Err}
 use Rattle.tz_model.specs.declared.report.ScriptEvent.{ScriptEvent}
 use Rattle.tz_model.specs.declared.report.ScriptEvent.TheVariants as events
-use Rattle.tz_sem.specs.Scripts.{ScriptRefusal, BadLine, OutOfOrder, NoSuchInterrupt, TooMany, Read, Line, Passed, Event, Bad}
+use Rattle.tz_board.specs.Scripts.{ScriptRefusal, BadLine, OutOfOrder, NoSuchInterrupt, TooMany, Read, Line, Passed, Event, Bad}
 use Rattle.tz_board.specs.declared.error.ScriptError.{ScriptError}
 use Rattle.tz_board.specs.declared.error.ScriptError.TheVariants as errors
 use Rattle.tz_board.specs.declared.line.Named.{Named}

@@ -4,7 +4,7 @@ ghost use Rattle.std.specs.Prelude.{◌≡◌, ◌^◌, ◌<◌, ◌≤◌, leng
 ghost use Rattle.toml.specs.View.{table_view};
 ghost use Rattle.tz_model.specs.Board.{are_regions, are_sau_regions};
 ghost use Rattle.tz_board.specs.Boards.{board_in, board_of, board_with, document_of, documented, number_at, numbers_at, within_limits};
-ghost use Rattle.tz_board.specs.BoardErrors.{AreWithin, IsRefusal, numbers_of, place_of};
+ghost use Rattle.tz_board.specs.BoardErrors.{AreWithin, IsBoardRefusal, numbers_of, place_of};
 
 use crate::error::{BoardError, Key, Place};
 use crate::{keys, limits, tables};
@@ -26,7 +26,7 @@ struct Numbers {
 /// A small number at the top.
 fn count(table: &Table, key: Key, low: u8, high: u8) -> Result<u8, BoardError>
     ensures ok { IfOk result (λ n. number_at (place_of (Place.Top key)) low high 1 (table_view table.now) ≡ Ok n) }
-    ensures err { IfErr result (λ e. IsRefusal e (number_at (place_of (Place.Top key)) low high 1 (table_view table.now))) }
+    ensures err { IfErr result (λ e. IsBoardRefusal e (number_at (place_of (Place.Top key)) low high 1 (table_view table.now))) }
     ensures within { IfOk result (λ n. (low ≤ n) × (n ≤ high)) }
 {
     let number = keys::number(table, Place::Top(key), u32::from(low), u32::from(high), 1)?;
@@ -36,7 +36,7 @@ fn count(table: &Table, key: Key, low: u8, high: u8) -> Result<u8, BoardError>
 /// The numbers at the top.
 fn read_numbers(table: &Table) -> Result<Numbers, BoardError>
     ensures ok { IfOk result (λ n. numbers_at (table_view table.now) ≡ Ok (numbers_of n)) }
-    ensures err { IfErr result (λ e. IsRefusal e (numbers_at (table_view table.now))) }
+    ensures err { IfErr result (λ e. IsBoardRefusal e (numbers_at (table_view table.now))) }
     ensures within { IfOk result AreWithin }
 {
     let secure_vtor = keys::number(table, Place::Top(Key::SecureVtor), 0, 0xFFFF_FFFF, 128)?;
@@ -67,7 +67,7 @@ fn board_within(
     requires regions { IsTrue (are_regions regions.items) }
     requires sau { IsTrue (are_sau_regions sau.items) }
     ensures ok { IfOk result (λ b. within_limits (board_with (numbers_of numbers) profile regions.items sau.items) ≡ Ok b) }
-    ensures err { IfErr result (λ e. IsRefusal e (within_limits (board_with (numbers_of numbers) profile regions.items sau.items))) }
+    ensures err { IfErr result (λ e. IsBoardRefusal e (within_limits (board_with (numbers_of numbers) profile regions.items sau.items))) }
 {
     if !limits::is_small(&regions, &sau, numbers.sau_regions) {
         return Err(BoardError::TooMany);
@@ -92,7 +92,7 @@ fn board_within(
 #[tactic(auto, unfolding(crate::specs::Boards::board_in))]
 fn board_in(alloc: Global, table: &Table) -> Result<Board, BoardError>
     ensures ok { IfOk result (λ b. board_in (table_view table.now) ≡ Ok b) }
-    ensures err { IfErr result (λ e. IsRefusal e (board_in (table_view table.now))) }
+    ensures err { IfErr result (λ e. IsBoardRefusal e (board_in (table_view table.now))) }
 {
     let numbers = read_numbers(table)?;
     let profile = keys::read_profile(table, Place::Top(Key::Profile))?;
@@ -104,7 +104,7 @@ fn board_in(alloc: Global, table: &Table) -> Result<Board, BoardError>
 /// The document in the bytes of a file.
 fn document(alloc: Global, bytes: &[u8]) -> Result<Table, BoardError>
     ensures ok { IfOk result (λ t. documented (document_of bytes.now) ≡ Ok (table_view t)) }
-    ensures err { IfErr result (λ e. IsRefusal e (documented (document_of bytes.now))) }
+    ensures err { IfErr result (λ e. IsBoardRefusal e (documented (document_of bytes.now))) }
 {
     let Ok(text) = std::str::from_utf8(bytes) else {
         return Err(BoardError::NotToml);
@@ -127,7 +127,7 @@ fn document(alloc: Global, bytes: &[u8]) -> Result<Table, BoardError>
 pub fn read_board(alloc: Global, bytes: &[u8]) -> Result<Board, BoardError>
     requires { length bytes.now < 2 ^ 32 }
     ensures ok { IfOk result (λ b. board_of bytes.now ≡ Ok b) }
-    ensures err { IfErr result (λ e. IsRefusal e (board_of bytes.now)) }
+    ensures err { IfErr result (λ e. IsBoardRefusal e (board_of bytes.now)) }
 {
     let table = document(alloc, bytes)?;
     board_in(alloc, &table)

@@ -1,7 +1,7 @@
 //! The built-in board, which programs call `@demo`.
 
 ghost use Rattle.std.specs.Prelude.{◌≡◌, IfOk};
-ghost use Rattle.tz_sem.specs.Demo.{demo, demo_regions, demo_sau};
+ghost use Rattle.tz_board.specs.Demo.{demo, demo_regions, demo_sau};
 
 use std::alloc::{AllocError, Global};
 use tz_model::{Board, Profile, Region, RegionKind, RegionSide, SauRegion};

@@ -3,7 +3,7 @@
 ghost use Rattle.std.specs.Prelude.{◌≡◌, ◌<◌, ◌≤◌, ◌%◌, IfOk, IfErr, Ok, option_map};
 ghost use Rattle.toml.specs.View.{table_view, view};
 ghost use Rattle.tz_board.specs.Boards.{found_at, flag_at, in_range, kind_at, number_at, profile_at, profile_named, side_at, text_at};
-ghost use Rattle.tz_board.specs.BoardErrors.{IsRefusal, place_of};
+ghost use Rattle.tz_board.specs.BoardErrors.{IsBoardRefusal, place_of};
 
 use crate::error::{BoardError, Place};
 use toml::{Table, Value};
@@ -20,7 +20,7 @@ pub fn value_at<'a>(table: &'a Table, place: Place) -> Option<&'a Value>
 fn in_range(place: Place, number: i64, low: u32, high: u32, unit: u32) -> Result<u32, BoardError>
     requires { 0 < unit }
     ensures ok { IfOk result (λ n. in_range (place_of place) low high unit number ≡ Ok n) }
-    ensures err { IfErr result (λ e. IsRefusal e (in_range (place_of place) low high unit number)) }
+    ensures err { IfErr result (λ e. IsBoardRefusal e (in_range (place_of place) low high unit number)) }
     ensures within { IfOk result (λ n. (low ≤ n) × (n ≤ high) × (n % unit ≡ 0)) }
 {
     let Ok(n) = u32::try_from(number) else {
@@ -43,7 +43,7 @@ pub fn number(
 ) -> Result<u32, BoardError>
     requires { 0 < unit }
     ensures ok { IfOk result (λ n. number_at (place_of place) low high unit (table_view table.now) ≡ Ok n) }
-    ensures err { IfErr result (λ e. IsRefusal e (number_at (place_of place) low high unit (table_view table.now))) }
+    ensures err { IfErr result (λ e. IsBoardRefusal e (number_at (place_of place) low high unit (table_view table.now))) }
     ensures within { IfOk result (λ n. (low ≤ n) × (n ≤ high) × (n % unit ≡ 0)) }
 {
     match value_at(table, place) {
@@ -58,7 +58,7 @@ pub fn number(
 /// The text at a key.
 fn text<'a>(table: &'a Table, place: Place) -> Result<&'a str, BoardError>
     ensures ok { IfOk result (λ t. text_at (place_of place) (table_view table.now) ≡ Ok t.now) }
-    ensures err { IfErr result (λ e. IsRefusal e (text_at (place_of place) (table_view table.now))) }
+    ensures err { IfErr result (λ e. IsBoardRefusal e (text_at (place_of place) (table_view table.now))) }
 {
     match value_at(table, place) {
         None => Err(BoardError::Missing(place)),
@@ -72,7 +72,7 @@ fn text<'a>(table: &'a Table, place: Place) -> Result<&'a str, BoardError>
 /// The boolean at a key.
 pub fn flag(table: &Table, place: Place) -> Result<bool, BoardError>
     ensures ok { IfOk result (λ b. flag_at (place_of place) (table_view table.now) ≡ Ok b) }
-    ensures err { IfErr result (λ e. IsRefusal e (flag_at (place_of place) (table_view table.now))) }
+    ensures err { IfErr result (λ e. IsBoardRefusal e (flag_at (place_of place) (table_view table.now))) }
 {
     match value_at(table, place) {
         None => Err(BoardError::Missing(place)),
@@ -86,7 +86,7 @@ pub fn flag(table: &Table, place: Place) -> Result<bool, BoardError>
 /// What a region takes.
 pub fn kind(table: &Table, place: Place) -> Result<RegionKind, BoardError>
     ensures ok { IfOk result (λ k. kind_at (place_of place) (table_view table.now) ≡ Ok k) }
-    ensures err { IfErr result (λ e. IsRefusal e (kind_at (place_of place) (table_view table.now))) }
+    ensures err { IfErr result (λ e. IsBoardRefusal e (kind_at (place_of place) (table_view table.now))) }
 {
     match text(table, place)? {
         "rom" => Ok(RegionKind::Rom),
@@ -98,7 +98,7 @@ pub fn kind(table: &Table, place: Place) -> Result<RegionKind, BoardError>
 /// How a region is attributed.
 pub fn side(table: &Table, place: Place) -> Result<RegionSide, BoardError>
     ensures ok { IfOk result (λ s. side_at (place_of place) (table_view table.now) ≡ Ok s) }
-    ensures err { IfErr result (λ e. IsRefusal e (side_at (place_of place) (table_view table.now))) }
+    ensures err { IfErr result (λ e. IsBoardRefusal e (side_at (place_of place) (table_view table.now))) }
 {
     match text(table, place)? {
         "secure" => Ok(RegionSide::Secure),
@@ -111,7 +111,7 @@ pub fn side(table: &Table, place: Place) -> Result<RegionSide, BoardError>
 /// The profile with a name.
 fn profile_named(place: Place, text: &str) -> Result<Profile, BoardError>
     ensures ok { IfOk result (λ p. profile_named (place_of place) text.now ≡ Ok p) }
-    ensures err { IfErr result (λ e. IsRefusal e (profile_named (place_of place) text.now)) }
+    ensures err { IfErr result (λ e. IsBoardRefusal e (profile_named (place_of place) text.now)) }
 {
     match text {
         "v8.0" => Ok(Profile::V80),
@@ -123,7 +123,7 @@ fn profile_named(place: Place, text: &str) -> Result<Profile, BoardError>
 /// The profile, which is `v8.0` where the file has none.
 pub fn read_profile(table: &Table, place: Place) -> Result<Profile, BoardError>
     ensures ok { IfOk result (λ p. profile_at (place_of place) (table_view table.now) ≡ Ok p) }
-    ensures err { IfErr result (λ e. IsRefusal e (profile_at (place_of place) (table_view table.now))) }
+    ensures err { IfErr result (λ e. IsBoardRefusal e (profile_at (place_of place) (table_view table.now))) }
 {
     match value_at(table, place) {
         None => Ok(Profile::V80),

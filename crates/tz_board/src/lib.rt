@@ -1,8 +1,8 @@
 //! Boards and scripts: what the program reads beside images.
 //!
-//! The grammars of both files, with the order of their refusals, are definitions of tz_sem; the
-//! readers here answer exactly the value or the refusal that those give. Whether bytes are TOML is
-//! toml's own word.
+//! What a file means and which refusal comes first is said by this crate's definitions; the readers answer
+//! exactly the value or the refusal that those give. That bytes are TOML, or aren't,
+//! is told by the crate toml.
 #![tactic(auto)]
 
 mod board;
@@ -14,8 +14,6 @@ mod line;
 mod script;
 mod script_file;
 mod tables;
-#[cfg(test)]
-mod tests;
 mod text;
 
 pub use board::read_board;

@@ -1,7 +1,7 @@
 //! The lines of a script: `STEP irq N`, `STEP nmi`, a comment, or nothing.
 
 ghost use Rattle.std.specs.Prelude.{◌≡◌, option_map};
-ghost use Rattle.tz_sem.specs.Scripts.{event_of, line_of, parts_of};
+ghost use Rattle.tz_board.specs.Scripts.{event_of, line_of, parts_of};
 ghost use Rattle.tz_board.specs.ScriptErrors.{event_named, line_read};
 
 use crate::text;
@@ -25,7 +25,7 @@ pub enum LineRead {
 }
 
 /// The event that the parts after the step name.
-#[tactic(auto, unfolding(tz_sem::specs::Scripts::event_of))]
+#[tactic(auto, unfolding(crate::specs::Scripts::event_of))]
 fn read_event(parts: &[u8]) -> Option<Named>
     ensures { event_of (parts_of parts.now) ≡ option_map event_named result }
 {
@@ -49,7 +49,7 @@ fn read_event(parts: &[u8]) -> Option<Named>
 }
 
 /// Reads a line.
-#[tactic(auto, unfolding(tz_sem::specs::Scripts::line_of))]
+#[tactic(auto, unfolding(crate::specs::Scripts::line_of))]
 pub fn read_line(line: &[u8]) -> LineRead
     ensures { line_of (parts_of line.now) ≡ line_read result }
 {

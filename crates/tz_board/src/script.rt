@@ -1,10 +1,11 @@
 //! Scripts: the events that are set pending, and when.
 //!
-//! A script keeps the steps that have events in ascending order, each with its events, so that the
-//! events of a step are found by halving.
+//! There is one entry for each step at which something happens, sorted by the step, so the way to the
+//! events of a step is found by halving. What a script means doesn't depend on that: it is seen as the list
+//! of its events with their steps, in the order of the file.
 
 ghost use Rattle.std.specs.Prelude.{◌≡◌, ℕ, ◌<◌, ◌≤◌, ◌+◌, ◌++◌, [], ◌∷◌, IfOk, IsTrue, ◌≢◌, MatchOption, slice_index, length};
-ghost use Rattle.tz_sem.specs.Scripts.{IsScript, due_at, last_step, most_events};
+ghost use Rattle.tz_board.specs.Scripts.{IsScript, due_at, last_step, most_events};
 ghost use Rattle.tz_board.specs.Script.{IsKept, Opens, all_timed, ascend, steps_of};
 
 use std::alloc::{AllocError, Global};
@@ -20,7 +21,8 @@ struct Moment {
     events: Vec<ScriptEvent>,
 }
 
-/// Events with their steps: at most 10,000, and no step is below the one before.
+/// What is set pending at which step. From one event to the next the step stays or grows, and there is
+/// room for 10,000 events.
 #[derive(Drop)]
 pub struct Script {
     moments: Vec<Moment>,
@@ -30,7 +32,7 @@ pub struct Script {
 
 impl Model for Script {
     ghost use Rattle.std.specs.Prelude.{List};
-    ghost use Rattle.tz_sem.specs.Scripts.{Timed};
+    ghost use Rattle.tz_board.specs.Scripts.{Timed};
 
     ghost Value = { List Timed };
 

@@ -2,7 +2,7 @@
 
 ghost use Rattle.std.specs.Prelude.{◌≡◌, ◌<◌, ◌^◌, IfErr, IfOk, IsTrue, Ok, length};
 ghost use Rattle.tz_model.specs.declared.report.ScriptEvent.{ScriptEvent};
-ghost use Rattle.tz_sem.specs.Scripts.{are_on, exists_on, line_of, parts_of, script_of, with_event, with_line};
+ghost use Rattle.tz_board.specs.Scripts.{are_on, exists_on, line_of, parts_of, script_of, with_event, with_line};
 ghost use Rattle.tz_board.specs.ScriptErrors.{IsScriptRefusal, event_named, line_read};
 
 use crate::error::ScriptError;
@@ -16,7 +16,7 @@ use tz_model::ScriptEvent;
 const MOST_EVENTS: usize = 10_000;
 
 /// The script with the event that a line names.
-#[tactic(auto, unfolding(tz_sem::specs::Scripts::with_event))]
+#[tactic(auto, unfolding(crate::specs::Scripts::with_event))]
 fn with_named(
     alloc: Global,
     script: Script,
@@ -50,7 +50,7 @@ fn with_named(
 }
 
 /// The script with what a line says.
-#[tactic(auto, unfolding(tz_sem::specs::Scripts::with_line))]
+#[tactic(auto, unfolding(crate::specs::Scripts::with_line))]
 fn with_line(
     alloc: Global,
     script: Script,

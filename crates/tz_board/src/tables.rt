@@ -4,7 +4,7 @@ ghost use Rattle.std.specs.Prelude.{◌≡◌, ◌<◌, ◌≤◌, ◌%◌, IfOk
 ghost use Rattle.toml.specs.View.{items_view, table_view, view};
 ghost use Rattle.tz_model.specs.Board.{are_regions, are_sau_regions, is_region, is_sau_region};
 ghost use Rattle.tz_board.specs.Boards.{each, last_in_block, of_kind, region_in, regions_at, regions_listed, sau_at, sau_listed, sau_region_in, tables_in, tables_of};
-ghost use Rattle.tz_board.specs.BoardErrors.{IsRefusal, place_of};
+ghost use Rattle.tz_board.specs.BoardErrors.{IsBoardRefusal, place_of};
 ghost use Rattle.tz_board.specs.Tables.{views};
 
 use crate::error::{BoardError, Key, Place};
@@ -16,7 +16,7 @@ use tz_model::{Region, SauRegion};
 /// A region, in the table at an index.
 fn region(table: &Table, index: u32) -> Result<Region, BoardError>
     ensures ok { IfOk result (λ r. region_in index (table_view table.now) ≡ Ok r) }
-    ensures err { IfErr result (λ e. IsRefusal e (region_in index (table_view table.now))) }
+    ensures err { IfErr result (λ e. IsBoardRefusal e (region_in index (table_view table.now))) }
     ensures good { IfOk result (λ r. IsTrue (is_region r)) }
 {
     let base = keys::number(table, Place::Region(index, Key::Base), 0, 0xFFFF_FFFF, 32)?;
@@ -35,7 +35,7 @@ fn region(table: &Table, index: u32) -> Result<Region, BoardError>
 /// The number, if it is the last byte of a block of 32.
 fn last_in_block(place: Place, number: u32) -> Result<u32, BoardError>
     ensures ok { IfOk result (λ n. last_in_block (place_of place) number ≡ Ok n) }
-    ensures err { IfErr result (λ e. IsRefusal e (last_in_block (place_of place) number)) }
+    ensures err { IfErr result (λ e. IsBoardRefusal e (last_in_block (place_of place) number)) }
     ensures last { IfOk result (λ n. (n ≡ number) × (n % 32 ≡ 31)) }
 {
     if number % 32 == 31 {
@@ -48,7 +48,7 @@ fn last_in_block(place: Place, number: u32) -> Result<u32, BoardError>
 /// An SAU region, in the table at an index.
 fn sau_region(table: &Table, index: u32) -> Result<SauRegion, BoardError>
     ensures ok { IfOk result (λ r. sau_region_in index (table_view table.now) ≡ Ok r) }
-    ensures err { IfErr result (λ e. IsRefusal e (sau_region_in index (table_view table.now))) }
+    ensures err { IfErr result (λ e. IsBoardRefusal e (sau_region_in index (table_view table.now))) }
     ensures good { IfOk result (λ r. IsTrue (is_sau_region r)) }
 {
     let place = Place::Sau(index, Key::Limit);
@@ -65,7 +65,7 @@ fn as_tables<'a>(
     place: Place,
 ) -> Result<Vec<&'a Table>, BoardError>
     ensures ok { IfOk result (λ v. tables_of (items_view values.now) ≡ Some (views v.items)) }
-    ensures err { IfErr result (λ e. IsRefusal e (of_kind (place_of place) (tables_of (items_view values.now)))) }
+    ensures err { IfErr result (λ e. IsBoardRefusal e (of_kind (place_of place) (tables_of (items_view values.now)))) }
 {
     let mut tables = Vec::new(alloc);
     for value in values {
@@ -83,7 +83,7 @@ fn as_tables<'a>(
 /// The tables of a list of tables.
 fn tables<'a>(alloc: Global, value: &'a Value, place: Place) -> Result<Vec<&'a Table>, BoardError>
     ensures ok { IfOk result (λ v. tables_in (place_of place) (view value.now) ≡ Ok (views v.items)) }
-    ensures err { IfErr result (λ e. IsRefusal e (tables_in (place_of place) (view value.now))) }
+    ensures err { IfErr result (λ e. IsBoardRefusal e (tables_in (place_of place) (view value.now))) }
 {
     match value.as_array() {
         None => Err(BoardError::WrongKind(place)),
@@ -94,7 +94,7 @@ fn tables<'a>(alloc: Global, value: &'a Value, place: Place) -> Result<Vec<&'a T
 /// The regions in their tables.
 fn each_region(alloc: Global, tables: &[&Table]) -> Result<Vec<Region>, BoardError>
     ensures ok { IfOk result (λ v. each region_in 0 (views tables.now) ≡ Ok v.items) }
-    ensures err { IfErr result (λ e. IsRefusal e (each region_in 0 (views tables.now))) }
+    ensures err { IfErr result (λ e. IsBoardRefusal e (each region_in 0 (views tables.now))) }
     ensures count { IfOk result (λ v. length v.items ≡ length tables.now) }
     ensures good { IfOk result (λ v. IsTrue (are_regions v.items)) }
 {
@@ -117,7 +117,7 @@ fn each_region(alloc: Global, tables: &[&Table]) -> Result<Vec<Region>, BoardErr
 /// The SAU regions in their tables.
 fn each_sau_region(alloc: Global, tables: &[&Table]) -> Result<Vec<SauRegion>, BoardError>
     ensures ok { IfOk result (λ v. each sau_region_in 0 (views tables.now) ≡ Ok v.items) }
-    ensures err { IfErr result (λ e. IsRefusal e (each sau_region_in 0 (views tables.now))) }
+    ensures err { IfErr result (λ e. IsBoardRefusal e (each sau_region_in 0 (views tables.now))) }
     ensures good { IfOk result (λ v. IsTrue (are_sau_regions v.items)) }
 {
     let mut regions = Vec::new(alloc);
@@ -139,7 +139,7 @@ fn each_sau_region(alloc: Global, tables: &[&Table]) -> Result<Vec<SauRegion>, B
 /// The regions of a list of tables, which isn't empty.
 fn regions_listed(alloc: Global, value: &Value) -> Result<Vec<Region>, BoardError>
     ensures ok { IfOk result (λ v. regions_listed (view value.now) ≡ Ok v.items) }
-    ensures err { IfErr result (λ e. IsRefusal e (regions_listed (view value.now))) }
+    ensures err { IfErr result (λ e. IsBoardRefusal e (regions_listed (view value.now))) }
     ensures some { IfOk result (λ v. 0 < length v.items) }
     ensures good { IfOk result (λ v. IsTrue (are_regions v.items)) }
 {
@@ -154,7 +154,7 @@ fn regions_listed(alloc: Global, value: &Value) -> Result<Vec<Region>, BoardErro
 /// The regions of a board.
 pub fn regions(alloc: Global, table: &Table) -> Result<Vec<Region>, BoardError>
     ensures ok { IfOk result (λ v. regions_at (table_view table.now) ≡ Ok v.items) }
-    ensures err { IfErr result (λ e. IsRefusal e (regions_at (table_view table.now))) }
+    ensures err { IfErr result (λ e. IsBoardRefusal e (regions_at (table_view table.now))) }
     ensures some { IfOk result (λ v. 0 < length v.items) }
     ensures good { IfOk result (λ v. IsTrue (are_regions v.items)) }
 {
@@ -168,7 +168,7 @@ pub fn regions(alloc: Global, table: &Table) -> Result<Vec<Region>, BoardError>
 /// The SAU regions of a list of tables.
 fn sau_listed(alloc: Global, value: &Value) -> Result<Vec<SauRegion>, BoardError>
     ensures ok { IfOk result (λ v. sau_listed (view value.now) ≡ Ok v.items) }
-    ensures err { IfErr result (λ e. IsRefusal e (sau_listed (view value.now))) }
+    ensures err { IfErr result (λ e. IsBoardRefusal e (sau_listed (view value.now))) }
     ensures good { IfOk result (λ v. IsTrue (are_sau_regions v.items)) }
 {
     let tables = tables(alloc, value, Place::Top(Key::Sau))?;
@@ -178,7 +178,7 @@ fn sau_listed(alloc: Global, value: &Value) -> Result<Vec<SauRegion>, BoardError
 /// The SAU regions of a board, of which there may be none.
 pub fn sau(alloc: Global, table: &Table) -> Result<Vec<SauRegion>, BoardError>
     ensures ok { IfOk result (λ v. sau_at (table_view table.now) ≡ Ok v.items) }
-    ensures err { IfErr result (λ e. IsRefusal e (sau_at (table_view table.now))) }
+    ensures err { IfErr result (λ e. IsBoardRefusal e (sau_at (table_view table.now))) }
     ensures good { IfOk result (λ v. IsTrue (are_sau_regions v.items)) }
 {
     match keys::value_at(table, Place::Top(Key::Sau)) {

@@ -1,7 +1,7 @@
 //! Texts of bytes, cut at separators.
 
 ghost use Rattle.std.specs.Prelude.{◌≡◌, ◌<◌, ◌==◌, ◌++◌, [], ◌∷◌, MatchOption, false, length, position};
-ghost use Rattle.tz_sem.specs.Scripts.{number_of, parts_of};
+ghost use Rattle.tz_board.specs.Scripts.{number_of, parts_of};
 ghost use Rattle.tz_board.specs.Text.{chomp, has};
 
 /// Where a separator first stands.

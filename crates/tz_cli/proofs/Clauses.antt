@@ -1,44 +1,37 @@
 -- What each answer of the top call says, clause by clause.
-use Rattle.std.proofs.Common.{◌≡◌, ◌≢◌, ◌⊎◌, inl, inr, ℕ, ◌+◌, ◌<◌, ◌≤◌, Bool, true, false, cond, List, [], ◌∷◌, ◌++◌, length, Option, Some, None, Result, Ok, Err, refl, sym, ap, ◌∙◌, subst, arith, append-nil}
-use Rattle.std.specs.Prelude.{IfSome, IsTrue, codes, nat_lt}
-use Rattle.tz_table.specs.declared.units.Side.{Side}
-use Rattle.tz_table.specs.declared.units.Side.TheVariants as sides
-use Rattle.tz_model.specs.declared.report.View.{View}
+use Rattle.std.proofs.Common.{◌≡◌, ◌≢◌, ◌⊎◌, inl, inr, ℕ, ◌<◌, ◌≤◌, List, [], length, Option, Some, None, refl, sym, ap, ◌∙◌, subst, arith, append-nil}
+use Rattle.std.specs.Prelude.{IfSome, IsTrue, codes}
 use Rattle.tz_model.specs.declared.report.View.TheVariants.{Ns}
-use Rattle.tz_model.specs.Board.{BoardValue}
 use Rattle.tz_model.specs.Image.{ImageValue}
-use Rattle.tz_model.specs.Outside.{Held, Absent, Rose, Gains}
+use Rattle.tz_model.specs.Outside.{Held, Rose, Gains}
 use Rattle.tz_sem.specs.Boot.{boot}
-use Rattle.tz_sem.specs.Images.{image_of}
-use Rattle.tz_sem.specs.Seen.{Agree}
-use Rattle.tz_sem.specs.Text.{text_from}
-use Rattle.tz_sem.proofs.TwoRuns.{isolated}
-use Rattle.tz_cli.specs.declared.stops.File.{File}
-use Rattle.tz_cli.specs.declared.stops.File.TheVariants.{Board, Secure, Nonsecure, Script}
-use Rattle.tz_cli.specs.Words.{RunWords, run_of}
-use Rattle.tz_cli.specs.Told.{Stop, BadWords, TooManySteps, Unread, TooLong, BadBoard, BadImage, BadScript, Told, Unknown, Stops, Gives, told_then, Start, Job, is_demo, is_none_script, board_told, board_file, image_told, script_told, script_file, secure_told, nonsecure_told, start_told, job_with, text_of, state_of, step_limit}
-use Rattle.tz_cli.specs.Lines.{line_of, status_of}
-use Rattle.tz_cli.specs.Answer.{Allows, AllowsStop, IsOfFile, IsRefusal, IsReached, IsUnread, name_in, line_room, Call, told_of, GainsFront, Exceeds, Answer, Done, Broken, Misused, Stopped, Missed, Wanting, Silent, Excused, IsText, IsRefusedBy, NamesUnread, IsStatus}
+use Rattle.tz_twin.specs.Seen.{Agree}
+use Rattle.tz_twin.specs.Trace.{text_from}
+use Rattle.tz_run.specs.Events.{events_of}
+use Rattle.tz_twin.proofs.TwoRuns.{isolated}
+use Rattle.tz_words.specs.Run.{RunWords}
+use Rattle.tz_words.specs.Commands.{Command, Run, command_of}
+use Rattle.tz_cli.specs.Told.{Stop, BadWords, TooManySteps, Unread, TooLong, BadBoard, BadImage, BadScript, Told, Unknown, Stops, Gives, told_then, Job, Task, run_task, told, IsDone, job_told, trace_of, state_of}
+use Rattle.tz_cli.specs.Reads.{reads_of, TellsOf}
+use Rattle.tz_cli.specs.Lines.{stop_line, status_of}
+use Rattle.tz_cli.specs.Answer.{Allows, AllowsStop, Shelved, IsUnread, IsCaused, IsLine, Call, told_of, GainsFront, Exceeds, Answer, Done, Broken, Stopped, Wanting, Silent, Excused, IsText, IsRefusedBy, NamesUnread, CutsLine, IsStatus}
+use Rattle.tz_cli.proofs.Reached.{absent_task, never_gives}
 
-other : (c : Call) (result : ℕ) (text : List ℕ) → result ≢ 4 → IfSome c.out_space (λ n. length text ≤ n → IfSome c.err_space (λ m. line_room c.words ≤ m → result ≢ 4))
-other c result text never = outer c.out_space where
-  inner : (space : Option ℕ) → IfSome space (λ m. line_room c.words ≤ m → result ≢ 4)
-  inner None = tt
-  inner (Some m) = λ enough. never
+-- ---- statuses
 
-  outer : (space : Option ℕ) → IfSome space (λ n. length text ≤ n → IfSome c.err_space (λ m. line_room c.words ≤ m → result ≢ 4))
-  outer None = tt
-  outer (Some n) = λ fits. inner c.err_space
+-- the statuses of done work are below those of stops
+done_below : (o : Option Command) (n : ℕ) → IsDone o n → n < 2
+done_below None n h = absurd h
+done_below (Some (Run r)) n h = omega arith
 
--- no stop has the status of a run that was made, of a broken sink, or of want of memory
-not_done : (stop : Stop) → status_of stop ≢ 0
-not_done BadWords e = cc
-not_done TooManySteps e = cc
-not_done (Unread name) e = cc
-not_done (TooLong name) e = cc
-not_done (BadBoard name refusal) e = cc
-not_done (BadImage name refusal) e = cc
-not_done (BadScript name refusal) e = cc
+stop_above : (stop : Stop) → 2 ≤ status_of stop
+stop_above BadWords = omega arith
+stop_above TooManySteps = omega arith
+stop_above (Unread name) = omega arith
+stop_above (TooLong name) = omega arith
+stop_above (BadBoard name refusal) = omega arith
+stop_above (BadImage name refusal) = omega arith
+stop_above (BadScript name refusal) = omega arith
 
 not_broken : (stop : Stop) → status_of stop ≢ 4
 not_broken BadWords e = cc
@@ -58,31 +51,7 @@ not_wanting (BadBoard name refusal) e = cc
 not_wanting (BadImage name refusal) e = cc
 not_wanting (BadScript name refusal) e = cc
 
-not_misused : (stop : Stop) → IsRefusal stop → status_of stop ≢ 2
-not_misused BadWords is e = absurd is
-not_misused TooManySteps is e = cc
-not_misused (Unread name) is e = absurd is
-not_misused (TooLong name) is e = cc
-not_misused (BadBoard name refusal) is e = cc
-not_misused (BadImage name refusal) is e = cc
-not_misused (BadScript name refusal) is e = cc
-
-stop_of_words : (held : List ℕ → Held) (o : Option RunWords) (stop : Stop) → o ≡ None → job_with held o ≡ Stops stop → BadWords ≡ stop
-stop_of_words held None stop none e = cc
-stop_of_words held (Some r) stop none e = absurd (cc (none))
-
-no_job : (held : List ℕ → Held) (o : Option RunWords) (job : Job) → o ≡ None → job_with held o ≡ Gives job → ⊥
-no_job held None job none e = cc
-no_job held (Some r) job none e = cc (none)
-
-not_missed : (stop : Stop) → IsRefusal stop → status_of stop ≢ 3
-not_missed BadWords is e = absurd is
-not_missed TooManySteps is e = cc
-not_missed (Unread name) is e = absurd is
-not_missed (TooLong name) is e = cc
-not_missed (BadBoard name refusal) is e = cc
-not_missed (BadImage name refusal) is e = cc
-not_missed (BadScript name refusal) is e = cc
+-- ---- what is settled
 
 not_stopped : {A : Type 0} (t : Told A) (x : A) (stop : Stop) → Allows t x → t ≡ Stops stop → ⊥
 not_stopped t x stop h e = let stops : Allows (Stops stop) x = subst (λ y. Allows y x) e h in stops
@@ -90,148 +59,213 @@ not_stopped t x stop h e = let stops : Allows (Stops stop) x = subst (λ y. Allo
 same_stop : {A : Type 0} (t : Told A) (s stop : Stop) → AllowsStop t s → t ≡ Stops stop → stop ≡ s
 same_stop {A = A} t s stop h e = let stops : AllowsStop {A = A} (Stops stop) s = subst (λ y. AllowsStop y s) e h in stops
 
-same_job : (t : Told Job) (x job : Job) → Allows t x → t ≡ Gives job → job ≡ x
-same_job t x job h e = let gives : Allows (Gives job) x = subst (λ y. Allows y x) e h in gives
+same_task : (t : Told Task) (x task : Task) → Allows t x → t ≡ Gives task → task ≡ x
+same_task t x task h e = let gives : Allows (Gives task) x = subst (λ y. Allows y x) e h in gives
 
-not_given : (t : Told Job) (s : Stop) (job : Job) → AllowsStop t s → t ≡ Gives job → ⊥
-not_given t s job h e = let gives : AllowsStop (Gives job) s = subst (λ y. AllowsStop y s) e h in gives
+not_given : (t : Told Task) (s : Stop) (task : Task) → AllowsStop t s → t ≡ Gives task → ⊥
+not_given t s task h e = let gives : AllowsStop (Gives task) s = subst (λ y. AllowsStop y s) e h in gives
 
 gains_same : (old new : Option (List ℕ)) → Gains old new [] → new ≡ old
 gains_same None new h = h
 gains_same (Some old) new h = h ∙ ap Some (append-nil old)
 
--- ---- the clauses
+-- a stop with its cause: a file can't be read, or it is settled
+pub data Cause (c : Call) (stop : Stop) : Type 0 where
+  OfFile : (name : List ℕ) → stop ≡ Unread name → IsUnread (reads_of c.shelf.held c.command) c.shelf name → Cause c stop
+  OfTold : AllowsStop (told_of c) stop → TellsOf (reads_of c.shelf.held c.command) stop → status_of stop ≢ 3 → Cause c stop
 
-pub usage_only : (c : Call) (result : ℕ) → Answer c result → result ≡ 2 → run_of c.words ≡ None
-usage_only c result (Done job e told out err) is = cc
-usage_only c result (Broken job e told out rose full err) is = cc
-usage_only c result (Misused e none out err) is = none
-usage_only c result (Stopped stop e of told out err) is = absurd (not_misused stop of (sym e ∙ is))
-usage_only c result (Missed r file e run limit unread out err) is = cc
-usage_only c result (Wanting e out err) is = cc
-usage_only c result (Silent e out rose full) is = cc
+no_words : (held : List ℕ → Held) (o : Option Command) → o ≡ None → AllowsStop (told held o) BadWords
+no_words held o e = let stops : AllowsStop (told held None) BadWords = refl in subst (λ x. AllowsStop (told held x) BadWords) (sym e) stops
 
--- where the words and the shelf settle a stop, it is the answer, or excused
-pub settled_stop : (c : Call) (result : ℕ) → Answer c result → (stop : Stop) → told_of c ≡ Stops stop
-    → ((result ≡ status_of stop) × Gains c.err_old c.err_new (line_of stop)) ⊎ Excused result c.shelf_before c.shelf_now c.out_before c.out_now c.err_before c.err_now
-settled_stop c result (Done job e told out err) stop is = absurd (not_stopped (told_of c) job stop told is)
-settled_stop c result (Broken job e told out rose full err) stop is = inr (inr (inl (e, inl rose)))
-settled_stop c result (Misused e none out err) stop is =
-    let same : BadWords ≡ stop = stop_of_words c.held (run_of c.words) stop none is in
-    inl (e ∙ ap status_of same, subst (λ s. Gains c.err_old c.err_new (line_of s)) same err)
-settled_stop c result (Stopped s e of told out err) stop is =
-    let same : s ≡ stop = sym (same_stop (told_of c) s stop told is) in
-    inl (e ∙ ap status_of same, subst (λ x. Gains c.err_old c.err_new (line_of x)) same err)
-settled_stop c result (Missed r file e run limit unread out err) stop is = inr (inl (e, unread.rose))
-settled_stop c result (Wanting e out err) stop is = inr (inr (inr e))
-settled_stop c result (Silent e out rose full) stop is = inr (inr (inl (e, inr rose)))
+cause_of : (c : Call) (stop : Stop) → IsCaused c.command c.shelf stop → Cause c stop
+cause_of c BadWords h = OfTold (no_words c.shelf.held c.command h) tt (λ e. cc)
+cause_of c TooManySteps h = OfTold h.0 h.1 (λ e. cc)
+cause_of c (Unread name) h = OfFile name refl h
+cause_of c (TooLong name) h = OfTold h.0 h.1 (λ e. cc)
+cause_of c (BadBoard name refusal) h = OfTold h.0 h.1 (λ e. cc)
+cause_of c (BadImage name refusal) h = OfTold h.0 h.1 (λ e. cc)
+cause_of c (BadScript name refusal) h = OfTold h.0 h.1 (λ e. cc)
 
--- where they settle a job, it is done, or excused
-pub settled_job : (c : Call) (result : ℕ) → Answer c result → (job : Job) → told_of c ≡ Gives job
-    → (result ≡ 0) ⊎ Excused result c.shelf_before c.shelf_now c.out_before c.out_now c.err_before c.err_now
-settled_job c result (Done job' e told out err) job is = inl e
-settled_job c result (Broken job' e told out rose full err) job is = inr (inr (inl (e, inl rose)))
-settled_job c result (Misused e none out err) job is = absurd (no_job c.held (run_of c.words) job none is)
-settled_job c result (Stopped s e of told out err) job is = absurd (not_given (told_of c) s job told is)
-settled_job c result (Missed r file e run limit unread out err) job is = inr (inl (e, unread.rose))
-settled_job c result (Wanting e out err) job is = inr (inr (inr e))
-settled_job c result (Silent e out rose full) job is = inr (inr (inl (e, inr rose)))
+-- ---- the causes of answers
 
-pub unread_only : (c : Call) (result : ℕ) → Answer c result → result ≡ 3 → NamesUnread c.words c.held c.sound c.shelf_before c.shelf_now c.err_old c.err_new
-unread_only c result (Done job e told out err) is = absurd (cc)
-unread_only c result (Broken job e told out rose full err) is = absurd (cc)
-unread_only c result (Misused e none out err) is = absurd (cc)
-unread_only c result (Stopped stop e of told out err) is = absurd (not_missed stop of (sym e ∙ is))
-unread_only c result (Missed r file e run limit unread out err) is =
-    record { run = r; words_say = run; within_limit = limit; file = file; unread = unread; line = err }
-unread_only c result (Wanting e out err) is = absurd (cc)
-unread_only c result (Silent e out rose full) is = absurd (cc)
+usage_of_stop : (c : Call) (stop : Stop) → status_of stop ≡ 2 → IsCaused c.command c.shelf stop → c.command ≡ None
+usage_of_stop c BadWords e h = h
+usage_of_stop c TooManySteps e h = absurd (cc)
+usage_of_stop c (Unread name) e h = absurd (cc)
+usage_of_stop c (TooLong name) e h = absurd (cc)
+usage_of_stop c (BadBoard name refusal) e h = absurd (cc)
+usage_of_stop c (BadImage name refusal) e h = absurd (cc)
+usage_of_stop c (BadScript name refusal) e h = absurd (cc)
+
+pub usage_only : (c : Call) (result : ℕ) → Answer c result → result ≡ 2 → c.command ≡ None
+usage_only c result (Done task e done told out err) is = let below = done_below c.command result done in absurd (omega arith)
+usage_only c result (Broken task e told out rose full err) is = absurd (cc)
+usage_only c result (Stopped stop e caused out err) is = usage_of_stop c stop (sym e ∙ is) caused
+usage_only c result (Wanting e out err) is = absurd (cc)
+usage_only c result (Silent line e says front out rose full) is = absurd (cc)
+
+-- the command of words that read a file
+reads_some : (held : List ℕ → Held) (s : Shelved) (o : Option Command) (name : List ℕ) → IsUnread (reads_of held o) s name → (command : Command) × (o ≡ Some command)
+reads_some held s None name h = absurd h.read
+reads_some held s (Some command) name h = (command, refl)
+
+unread_of_stop : (c : Call) (words : List (List ℕ)) (stop : Stop) → command_of words ≡ c.command → Cause c stop → status_of stop ≡ 3 → Gains c.err_old c.err_new (stop_line stop)
+    → NamesUnread words c.shelf.held c.shelf.sound c.shelf.before c.shelf.now c.err_old c.err_new
+unread_of_stop c words stop same (OfFile name e unread) is err =
+    let some = reads_some c.shelf.held c.shelf c.command name unread in
+    record {
+      command = some.0;
+      words_say = same ∙ some.1;
+      name = name;
+      unread = subst (λ (o : Option Command). IsUnread (reads_of c.shelf.held o) c.shelf name) some.1 unread;
+      line = subst (λ (s : Stop). Gains c.err_old c.err_new (stop_line s)) e err;
+    }
+unread_of_stop c words stop same (OfTold told read other) is err = absurd (other is)
+
+pub unread_only : (c : Call) (result : ℕ) (words : List (List ℕ)) → command_of words ≡ c.command → Answer c result → result ≡ 3
+    → NamesUnread words c.shelf.held c.shelf.sound c.shelf.before c.shelf.now c.err_old c.err_new
+unread_only c result words same (Done task e done told out err) is = let below = done_below c.command result done in absurd (omega arith)
+unread_only c result words same (Broken task e told out rose full err) is = absurd (cc)
+unread_only c result words same (Stopped stop e caused out err) is = unread_of_stop c words stop same (cause_of c stop caused) (sym e ∙ is) err
+unread_only c result words same (Wanting e out err) is = absurd (cc)
+unread_only c result words same (Silent line e says front out rose full) is = absurd (cc)
 
 pub unwritten_only : (c : Call) (result : ℕ) → Answer c result → result ≡ 4 → Rose c.out_before c.out_now ⊎ Rose c.err_before c.err_now
-unwritten_only c result (Done job e told out err) is = absurd (cc)
-unwritten_only c result (Broken job e told out rose full err) is = inl rose
-unwritten_only c result (Misused e none out err) is = absurd (cc)
-unwritten_only c result (Stopped stop e of told out err) is = absurd (not_broken stop (sym e ∙ is))
-unwritten_only c result (Missed r file e run limit unread out err) is = absurd (cc)
+unwritten_only c result (Done task e done told out err) is = let below = done_below c.command result done in absurd (omega arith)
+unwritten_only c result (Broken task e told out rose full err) is = inl rose
+unwritten_only c result (Stopped stop e caused out err) is = absurd (not_broken stop (sym e ∙ is))
 unwritten_only c result (Wanting e out err) is = absurd (cc)
-unwritten_only c result (Silent e out rose full) is = inr rose
+unwritten_only c result (Silent line e says front out rose full) is = inr rose
 
-pub refused_only : (c : Call) (result : ℕ) → Answer c result → (result ≡ 5) ⊎ (result ≡ 6) → IsRefusedBy (told_of c) result c.err_old c.err_new
-refused_only c result (Done job e told out err) (inl is) = absurd (cc)
-refused_only c result (Done job e told out err) (inr is) = absurd (cc)
-refused_only c result (Broken job e told out rose full err) (inl is) = absurd (cc)
-refused_only c result (Broken job e told out rose full err) (inr is) = absurd (cc)
-refused_only c result (Misused e none out err) (inl is) = absurd (cc)
-refused_only c result (Misused e none out err) (inr is) = absurd (cc)
-refused_only c result (Stopped stop e of told out err) is = record { stop = stop; status = e; settled = told; line = err }
-refused_only c result (Missed r file e run limit unread out err) (inl is) = absurd (cc)
-refused_only c result (Missed r file e run limit unread out err) (inr is) = absurd (cc)
-refused_only c result (Wanting e out err) (inl is) = absurd (cc)
-refused_only c result (Wanting e out err) (inr is) = absurd (cc)
-refused_only c result (Silent e out rose full) (inl is) = absurd (cc)
-refused_only c result (Silent e out rose full) (inr is) = absurd (cc)
+pub cut_only : (c : Call) (result : ℕ) (words : List (List ℕ)) → command_of words ≡ c.command → Answer c result → result ≡ 4
+    → (c.err_new ≡ c.err_old) ⊎ CutsLine words c.shelf.held c.shelf.sound c.shelf.before c.shelf.now c.err_before c.err_now c.err_old c.err_new
+cut_only c result words same (Done task e done told out err) is = let below = done_below c.command result done in absurd (omega arith)
+cut_only c result words same (Broken task e told out rose full err) is = inl (gains_same c.err_old c.err_new err)
+cut_only c result words same (Stopped stop e caused out err) is = absurd (not_broken stop (sym e ∙ is))
+cut_only c result words same (Wanting e out err) is = absurd (cc)
+cut_only c result words same (Silent line e says front out rose full) is =
+    inr (record { line = line; says = subst (λ (o : Option Command). IsLine o c.shelf line) (sym same) says; rose = rose; front = front })
 
--- a run that was made, with its job
-done_job : (c : Call) (result : ℕ) → Answer c result → result ≡ 0 → (job : Job) × Allows (told_of c) job × Gains c.out_old c.out_new (text_of job) × Gains c.err_old c.err_new []
-done_job c result (Done job e told out err) is = (job, told, out, err)
-done_job c result (Broken job e told out rose full err) is = absurd (cc)
-done_job c result (Misused e none out err) is = absurd (cc)
-done_job c result (Stopped stop e of told out err) is = absurd (not_done stop (sym e ∙ is))
-done_job c result (Missed r file e run limit unread out err) is = absurd (cc)
-done_job c result (Wanting e out err) is = absurd (cc)
-done_job c result (Silent e out rose full) is = absurd (cc)
+-- a status of a refusal
+abbrev IsRefused : ℕ → Type 0
+IsRefused status = (status ≡ 5) ⊎ (status ≡ 6)
 
-pub trace_written : (c : Call) (result : ℕ) → Answer c result → result ≡ 0 → (job : Job) → told_of c ≡ Gives job → Gains c.out_old c.out_new (text_of job)
-trace_written c result a is job told =
-    let d = done_job c result a is in
-    subst (λ (j : Job). Gains c.out_old c.out_new (text_of j)) (sym (same_job (told_of c) d.0 job d.1 told)) d.2
+refused_of_stop : (c : Call) (result : ℕ) (stop : Stop) → Cause c stop → result ≡ status_of stop → IsRefused result → Gains c.err_old c.err_new (stop_line stop)
+    → IsRefusedBy (told_of c) (reads_of c.shelf.held c.command) result c.err_old c.err_new
+refused_of_stop c result stop (OfFile name e unread) s (inl is) err = let three = ap status_of e in absurd (cc)
+refused_of_stop c result stop (OfFile name e unread) s (inr is) err = let three = ap status_of e in absurd (cc)
+refused_of_stop c result stop (OfTold told read other) s is err = record { stop = stop; status = s; settled = told; read = read; line = err }
 
-pub nothing_told : (c : Call) (result : ℕ) → Answer c result → result ≡ 0 → c.err_new ≡ c.err_old
-nothing_told c result a is = let d = done_job c result a is in gains_same c.err_old c.err_new d.3
+not_refusal : (result : ℕ) → IsRefused result → (result ≡ 4 → ⊥) × (result ≡ 7 → ⊥) × (result < 2 → ⊥)
+not_refusal result (inl is) = (λ e. cc, λ e. cc, λ l. omega arith)
+not_refusal result (inr is) = (λ e. cc, λ e. cc, λ l. omega arith)
 
-pub no_stop : (c : Call) (result : ℕ) → Answer c result → result ≡ 0 → (stop : Stop) → told_of c ≢ Stops stop
-no_stop c result a is stop told = let d = done_job c result a is in not_stopped (told_of c) d.0 stop d.1 told
-
-pub quiet_else : (c : Call) (result : ℕ) → Answer c result → result ≢ 0 → result ≢ 4 → c.out_new ≡ c.out_old
-quiet_else c result (Done job e told out err) never broken = absurd (never e)
-quiet_else c result (Broken job e told out rose full err) never broken = absurd (broken e)
-quiet_else c result (Misused e none out err) never broken = gains_same c.out_old c.out_new out
-quiet_else c result (Stopped stop e of told out err) never broken = gains_same c.out_old c.out_new out
-quiet_else c result (Missed r file e run limit unread out err) never broken = gains_same c.out_old c.out_new out
-quiet_else c result (Wanting e out err) never broken = gains_same c.out_old c.out_new out
-quiet_else c result (Silent e out rose full) never broken = gains_same c.out_old c.out_new out
+pub refused_only : (c : Call) (result : ℕ) → Answer c result → (result ≡ 5) ⊎ (result ≡ 6) → IsRefusedBy (told_of c) (reads_of c.shelf.held c.command) result c.err_old c.err_new
+refused_only c result (Done task e done told out err) is = absurd ((not_refusal result is).2 (done_below c.command result done))
+refused_only c result (Broken task e told out rose full err) is = absurd ((not_refusal result is).0 e)
+refused_only c result (Stopped stop e caused out err) is = refused_of_stop c result stop (cause_of c stop caused) e is err
+refused_only c result (Wanting e out err) is = absurd ((not_refusal result is).1 e)
+refused_only c result (Silent line e says front out rose full) is = absurd ((not_refusal result is).0 e)
 
 pub memory_told : (c : Call) (result : ℕ) → Answer c result → result ≡ 7 → Gains c.err_old c.err_new (codes "no memory\n")
-memory_told c result (Done job e told out err) is = absurd (cc)
-memory_told c result (Broken job e told out rose full err) is = absurd (cc)
-memory_told c result (Misused e none out err) is = absurd (cc)
-memory_told c result (Stopped stop e of told out err) is = absurd (not_wanting stop (sym e ∙ is))
-memory_told c result (Missed r file e run limit unread out err) is = absurd (cc)
+memory_told c result (Done task e done told out err) is = let below = done_below c.command result done in absurd (omega arith)
+memory_told c result (Broken task e told out rose full err) is = absurd (cc)
+memory_told c result (Stopped stop e caused out err) is = absurd (not_wanting stop (sym e ∙ is))
 memory_told c result (Wanting e out err) is = err
-memory_told c result (Silent e out rose full) is = absurd (cc)
+memory_told c result (Silent line e says front out rose full) is = absurd (cc)
+
+-- ---- where the words and the shelf settle it
+
+stop_answers : (c : Call) (result : ℕ) (s stop : Stop) → Cause c s → result ≡ status_of s → Gains c.err_old c.err_new (stop_line s) → told_of c ≡ Stops stop
+    → ((result ≡ status_of stop) × Gains c.err_old c.err_new (stop_line stop)) ⊎ Excused result c.shelf.before c.shelf.now c.out_before c.out_now c.err_before c.err_now
+stop_answers c result s stop (OfFile name e unread) r err is = inr (inl (r ∙ ap status_of e, unread.rose))
+stop_answers c result s stop (OfTold told read other) r err is =
+    let same : s ≡ stop = sym (same_stop (told_of c) s stop told is) in
+    inl (r ∙ ap status_of same, subst (λ x. Gains c.err_old c.err_new (stop_line x)) same err)
+
+-- a stop is the answer, or excused
+pub settled_stop : (c : Call) (result : ℕ) → Answer c result → (stop : Stop) → told_of c ≡ Stops stop
+    → ((result ≡ status_of stop) × Gains c.err_old c.err_new (stop_line stop)) ⊎ Excused result c.shelf.before c.shelf.now c.out_before c.out_now c.err_before c.err_now
+settled_stop c result (Done task e done told out err) stop is = absurd (not_stopped (told_of c) task stop told is)
+settled_stop c result (Broken task e told out rose full err) stop is = inr (inr (inl (e, inl rose)))
+settled_stop c result (Stopped s e caused out err) stop is = stop_answers c result s stop (cause_of c s caused) e err is
+settled_stop c result (Wanting e out err) stop is = inr (inr (inr e))
+settled_stop c result (Silent line e says front out rose full) stop is = inr (inr (inl (e, inr rose)))
+
+stop_of_task : (c : Call) (result : ℕ) (s : Stop) (task : Task) → Cause c s → result ≡ status_of s → told_of c ≡ Gives task
+    → (result ≡ task.status) ⊎ Excused result c.shelf.before c.shelf.now c.out_before c.out_now c.err_before c.err_now
+stop_of_task c result s task (OfFile name e unread) r is = inr (inl (r ∙ ap status_of e, unread.rose))
+stop_of_task c result s task (OfTold told read other) r is = absurd (not_given (told_of c) s task told is)
+
+-- a task is done, or excused
+pub settled_task : (c : Call) (result : ℕ) → Answer c result → (task : Task) → told_of c ≡ Gives task
+    → (result ≡ task.status) ⊎ Excused result c.shelf.before c.shelf.now c.out_before c.out_now c.err_before c.err_now
+settled_task c result (Done x e done told out err) task is = inl (e ∙ ap (λ (t : Task). t.status) (sym (same_task (told_of c) x task told is)))
+settled_task c result (Broken x e told out rose full err) task is = inr (inr (inl (e, inl rose)))
+settled_task c result (Stopped s e caused out err) task is = stop_of_task c result s task (cause_of c s caused) e is
+settled_task c result (Wanting e out err) task is = inr (inr (inr e))
+settled_task c result (Silent line e says front out rose full) task is = inr (inr (inl (e, inr rose)))
+
+-- work that is done, with its task
+pub record WasDone (c : Call) (result : ℕ) : Type 0 where
+  pub task : Task
+  pub status : result ≡ task.status
+  pub told : Allows (told_of c) task
+  pub out : Gains c.out_old c.out_new task.text
+  pub err : Gains c.err_old c.err_new []
+
+was_done : (c : Call) (result : ℕ) → Answer c result → result < 2 → WasDone c result
+was_done c result (Done task e done told out err) is = record { task = task; status = e; told = told; out = out; err = err }
+was_done c result (Broken task e told out rose full err) is = absurd (omega arith)
+was_done c result (Stopped stop e caused out err) is = let above = stop_above stop in absurd (omega arith)
+was_done c result (Wanting e out err) is = absurd (omega arith)
+was_done c result (Silent line e says front out rose full) is = absurd (omega arith)
+
+pub task_written : (c : Call) (result : ℕ) → Answer c result → result < 2 → (task : Task) → told_of c ≡ Gives task
+    → (result ≡ task.status) × Gains c.out_old c.out_new task.text
+task_written c result a is task told =
+    let d = was_done c result a is in
+    subst (λ (t : Task). (result ≡ t.status) × Gains c.out_old c.out_new t.text) (sym (same_task (told_of c) d.task task d.told told)) (d.status, d.out)
+
+pub nothing_told : (c : Call) (result : ℕ) → Answer c result → result < 2 → c.err_new ≡ c.err_old
+nothing_told c result a is = let d = was_done c result a is in gains_same c.err_old c.err_new d.err
+
+pub no_stop : (c : Call) (result : ℕ) → Answer c result → result < 2 → (stop : Stop) → told_of c ≢ Stops stop
+no_stop c result a is stop told = let d = was_done c result a is in not_stopped (told_of c) d.task stop d.told told
+
+pub quiet_else : (c : Call) (result : ℕ) → Answer c result → (IsDone c.command result → ⊥) → result ≢ 4 → c.out_new ≡ c.out_old
+quiet_else c result (Done task e done told out err) never broken = absurd (never done)
+quiet_else c result (Broken task e told out rose full err) never broken = absurd (broken e)
+quiet_else c result (Stopped stop e caused out err) never broken = gains_same c.out_old c.out_new out
+quiet_else c result (Wanting e out err) never broken = gains_same c.out_old c.out_new out
+quiet_else c result (Silent line e says front out rose full) never broken = gains_same c.out_old c.out_new out
 
 -- ---- the text
 
--- a text of which a job that is allowed gave the front, or the whole
-text_of_job : (t : Told Job) (job : Job) (text : List ℕ) → Allows t job → IsText t text → text ≡ text_of job
-text_of_job Unknown job text h is = absurd is
-text_of_job (Stops stop) job text h is = absurd h
-text_of_job (Gives x) job text h is = is ∙ ap text_of h
+-- a text of which a task that is allowed gave the front, or the whole
+text_of_task : (t : Told Task) (task : Task) (text : List ℕ) → Allows t task → IsText t text → text ≡ task.text
+text_of_task Unknown task text h is = absurd is
+text_of_task (Stops stop) task text h is = absurd h
+text_of_task (Gives x) task text h is = is ∙ ap (λ (t : Task). t.text) h
 
 front_of_none : (old new : Option (List ℕ)) (text : List ℕ) → Gains old new [] → GainsFront old new text
 front_of_none old new text h = record { gained = []; rest = text; front = refl; gains = h }
 
 pub front_written : (c : Call) (result : ℕ) → Answer c result → (text : List ℕ) → IsText (told_of c) text → GainsFront c.out_old c.out_new text
-front_written c result (Done job e told out err) text is =
-    let same = text_of_job (told_of c) job text told is in
+front_written c result (Done task e done told out err) text is =
+    let same = text_of_task (told_of c) task text told is in
     record { gained = text; rest = []; front = append-nil text; gains = subst (λ (x : List ℕ). Gains c.out_old c.out_new x) (sym same) out }
-front_written c result (Broken job e told out rose full err) text is =
-    subst (λ (x : List ℕ). GainsFront c.out_old c.out_new x) (sym (text_of_job (told_of c) job text told is)) out
-front_written c result (Misused e none out err) text is = front_of_none c.out_old c.out_new text out
-front_written c result (Stopped stop e of told out err) text is = front_of_none c.out_old c.out_new text out
-front_written c result (Missed r file e run limit unread out err) text is = front_of_none c.out_old c.out_new text out
+front_written c result (Broken task e told out rose full err) text is =
+    subst (λ (x : List ℕ). GainsFront c.out_old c.out_new x) (sym (text_of_task (told_of c) task text told is)) out
+front_written c result (Stopped stop e caused out err) text is = front_of_none c.out_old c.out_new text out
 front_written c result (Wanting e out err) text is = front_of_none c.out_old c.out_new text out
-front_written c result (Silent e out rose full) text is = front_of_none c.out_old c.out_new text out
+front_written c result (Silent line e says front out rose full) text is = front_of_none c.out_old c.out_new text out
+
+-- ---- room
+
+-- where both sinks tell room enough
+abbrev RoomSuffices : Call → ℕ → List ℕ → Type 0
+RoomSuffices c result text = IfSome c.out_space (λ n. length text ≤ n → IfSome c.err_space (λ m. c.room ≤ m → result ≢ 4))
 
 fits_told : (space : Option ℕ) (n : ℕ) (P : ℕ → Type 0) → Exceeds space n → ((room : ℕ) → (n ≤ room → ⊥) → P room) → IfSome space P
 fits_told None n P full h = tt
@@ -241,121 +275,71 @@ told_any : (space : Option ℕ) (P : ℕ → Type 0) → ((room : ℕ) → P roo
 told_any None P h = tt
 told_any (Some room) P h = h room
 
+never_four : (c : Call) (result : ℕ) (text : List ℕ) → result ≢ 4 → RoomSuffices c result text
+never_four c result text never =
+    told_any c.out_space (λ n. length text ≤ n → IfSome c.err_space (λ m. c.room ≤ m → result ≢ 4)) (λ n fits.
+    told_any c.err_space (λ m. c.room ≤ m → result ≢ 4) (λ m enough. never))
+
 pub room_suffices : (c : Call) (result : ℕ) → Answer c result → (text : List ℕ) → IsText (told_of c) text
-    → IfSome c.out_space (λ n. length text ≤ n → IfSome c.err_space (λ m. line_room c.words ≤ m → result ≢ 4))
-room_suffices c result (Broken job e told out rose full err) text is =
-    let same = text_of_job (told_of c) job text told is in
-    fits_told c.out_space (length (text_of job)) (λ n. length text ≤ n → IfSome c.err_space (λ m. line_room c.words ≤ m → result ≢ 4)) full
+    → IfSome c.out_space (λ n. length text ≤ n → IfSome c.err_space (λ m. c.room ≤ m → result ≢ 4))
+room_suffices c result (Broken task e told out rose full err) text is =
+    let same = text_of_task (told_of c) task text told is in
+    fits_told c.out_space (length task.text) (λ n. length text ≤ n → IfSome c.err_space (λ m. c.room ≤ m → result ≢ 4)) full
     (λ room over fits. absurd (over (subst (λ (x : List ℕ). length x ≤ room) same fits)))
-room_suffices c result (Silent e out rose full) text is =
-    told_any c.out_space (λ n. length text ≤ n → IfSome c.err_space (λ m. line_room c.words ≤ m → result ≢ 4)) (λ room fits.
-    fits_told c.err_space (line_room c.words) (λ m. line_room c.words ≤ m → result ≢ 4) full (λ m over enough. absurd (over enough)))
-room_suffices c result (Done job e told out err) text is = other c result text (λ is4. cc)
-room_suffices c result (Misused e none out err) text is = other c result text (λ is4. cc)
-room_suffices c result (Stopped stop e of told out err) text is = other c result text (λ is4. not_broken stop (sym e ∙ is4))
-room_suffices c result (Missed r file e run limit unread out err) text is = other c result text (λ is4. cc)
-room_suffices c result (Wanting e out err) text is = other c result text (λ is4. cc)
+room_suffices c result (Silent line e says front out rose full) text is =
+    told_any c.out_space (λ n. length text ≤ n → IfSome c.err_space (λ m. c.room ≤ m → result ≢ 4)) (λ room fits.
+    fits_told c.err_space c.room (λ m. c.room ≤ m → result ≢ 4) full (λ m over enough. absurd (over enough)))
+room_suffices c result (Done task e done told out err) text is = let below = done_below c.command result done in never_four c result text (λ four. omega arith)
+room_suffices c result (Stopped stop e caused out err) text is = never_four c result text (λ four. not_broken stop (sym e ∙ four))
+room_suffices c result (Wanting e out err) text is = never_four c result text (λ four. cc)
 
 -- ---- a sound shelf
 
--- no value is settled
-NeverGives : {A : Type 0} → Told A → Type 0
-NeverGives {A = A} t = (x : A) → t ≢ Gives x
+sound_stop : (c : Call) (stop : Stop) → Cause c stop → IsTrue c.shelf.sound → (task : Task) → told_of c ≡ Gives task → status_of stop ≢ 3
+sound_stop c stop (OfFile name e unread) sound task is three =
+    never_gives (told_of c) task (absent_task c.shelf.held c.command name unread.form (unread.absent sound) unread.read) is
+sound_stop c stop (OfTold told read other) sound task is three = other three
 
-never_stops : {A : Type 0} (t : Told A) (stop : Stop) → t ≡ Stops stop → NeverGives t
-unfolding NeverGives
-never_stops t stop e = λ x h. cc (e, h)
+pub sound_reads : (c : Call) (result : ℕ) → Answer c result → IsTrue c.shelf.sound → (task : Task) → told_of c ≡ Gives task → result ≢ 3
+sound_reads c result (Done x e done told out err) sound task is three = let below = done_below c.command result done in omega arith
+sound_reads c result (Broken x e told out rose full err) sound task is three = cc
+sound_reads c result (Stopped stop e caused out err) sound task is three = sound_stop c stop (cause_of c stop caused) sound task is (sym e ∙ three)
+sound_reads c result (Wanting e out err) sound task is three = cc
+sound_reads c result (Silent line e says front out rose full) sound task is three = cc
 
-never_then : {A B : Type 0} (t : Told A) (next : A → Told B) → NeverGives t → NeverGives (told_then t next)
-unfolding NeverGives
-never_then Unknown next h = λ x e. cc
-never_then (Stops stop) next h = λ x e. cc
-never_then (Gives a) next h = absurd (h a refl)
+-- ---- runs
 
-never_after : {A B : Type 0} (t : Told A) (next : A → Told B) → ((a : A) → NeverGives (next a)) → NeverGives (told_then t next)
-unfolding NeverGives
-never_after Unknown next h = λ x e. cc
-never_after (Stops stop) next h = λ x e. cc
-never_after (Gives a) next h = h a
+-- the task of a job
+told_job : (held : List ℕ → Held) (o : Option Command) (r : RunWords) (job : Job) → o ≡ Some (Run r) → job_told held r ≡ Gives job → told held o ≡ Gives (run_task job)
+told_job held o r job e h = ap (told held) e ∙ ap (λ (t : Told Job). told_then t (λ j. Gives (run_task j))) h
 
-absent_board : (held : List ℕ → Held) (name : List ℕ) → held name ≡ Absent → is_demo name ≡ false → board_told held name ≡ Stops (Unread name)
-unfolding board_told board_file
-absent_board held name e demo = rw (demo, e) refl
-
-absent_image : (held : List ℕ → Held) (b : BoardValue) (side : Side) (name : List ℕ) → held name ≡ Absent → image_told held b side name ≡ Stops (Unread name)
-unfolding image_told
-absent_image held b side name e = rw e refl
-
-absent_script : (held : List ℕ → Held) (interrupts : ℕ) (name : List ℕ) → held name ≡ Absent → is_none_script name ≡ false → script_told held interrupts name ≡ Stops (Unread name)
-unfolding script_told script_file
-absent_script held interrupts name e named = rw (named, e) refl
-
-never_nonsecure : (held : List ℕ → Held) (r : RunWords) → NeverGives (nonsecure_told held r) → NeverGives (start_told held r)
-never_nonsecure held r h = never_then (nonsecure_told held r) _ h
-
-never_secure : (held : List ℕ → Held) (r : RunWords) → NeverGives (secure_told held r) → NeverGives (start_told held r)
-never_secure held r h = never_nonsecure held r (never_then (secure_told held r) _ h)
-
--- an absent file that is read settles no start
-absent_start : (held : List ℕ → Held) (r : RunWords) (file : File) → held (name_in r file) ≡ Absent → IsReached held r file → NeverGives (start_told held r)
-absent_start held r Board e reached =
-    never_secure held r (never_then (board_told held r.board) _ (never_stops (board_told held r.board) (Unread r.board) (absent_board held r.board e reached)))
-absent_start held r Secure e reached =
-    never_secure held r (never_after (board_told held r.board) _ (λ b.
-    never_then (image_told held b sides.Secure r.secure) _ (never_stops (image_told held b sides.Secure r.secure) (Unread r.secure) (absent_image held b sides.Secure r.secure e))))
-absent_start held r Nonsecure e reached =
-    never_nonsecure held r (never_after (secure_told held r) _ (λ p.
-    never_then (image_told held p.board sides.NonSecure r.nonsecure) _
-    (never_stops (image_told held p.board sides.NonSecure r.nonsecure) (Unread r.nonsecure) (absent_image held p.board sides.NonSecure r.nonsecure e))))
-absent_start held r Script e reached =
-    never_after (nonsecure_told held r) _ (λ p.
-    never_then (script_told held p.board.interrupts r.script) _
-    (never_stops (script_told held p.board.interrupts r.script) (Unread r.script) (absent_script held p.board.interrupts r.script e reached.0)))
-
-never_job : (held : List ℕ → Held) (o : Option RunWords) (r : RunWords) → o ≡ Some r → NeverGives (start_told held r) → NeverGives {A = Job} (job_with held o)
-never_job held o r e h = subst (λ (x : Option RunWords). NeverGives {A = Job} (job_with held x)) (sym e) (go (nat_lt step_limit r.steps)) where
-  go : (many : Bool) → NeverGives {A = Job} (cond many (Stops TooManySteps) (told_then (start_told held r) (λ start. Gives (record { words = r; start = start }))))
-  go true = never_stops (Stops TooManySteps) TooManySteps refl
-  go false = never_then (start_told held r) (λ start. Gives (record { words = r; start = start })) h
-
-pub sound_reads : (c : Call) (result : ℕ) → Answer c result → IsTrue c.sound → (job : Job) → told_of c ≡ Gives job → result ≢ 3
-unfolding NeverGives
-sound_reads c result (Done job' e told out err) sound job is three = cc
-sound_reads c result (Broken job' e told out rose full err) sound job is three = cc
-sound_reads c result (Misused e none out err) sound job is three = cc
-sound_reads c result (Stopped stop e of told out err) sound job is three = not_missed stop of (sym e ∙ three)
-sound_reads c result (Missed r file e run limit unread out err) sound job is three =
-    never_job c.held (run_of c.words) r run (absent_start c.held r file (unread.absent sound) unread.reached) job is
-sound_reads c result (Wanting e out err) sound job is three = cc
-sound_reads c result (Silent e out rose full) sound job is three = cc
-
--- ---- isolation
+pub trace_written : (c : Call) (result : ℕ) → Answer c result → result ≡ 0 → (r : RunWords) → c.command ≡ Some (Run r) → (job : Job) → job_told c.shelf.held r ≡ Gives job
+    → Gains c.out_old c.out_new (trace_of job)
+trace_written c result a is r e job told = (task_written c result a (omega arith) (run_task job) (told_job c.shelf.held c.command r job e told)).1
 
 -- what was written is the trace of each other Secure image whose run agrees
-pub isolated_trace : (c : Call) (result : ℕ) → Answer c result → result ≡ 0 → (job : Job) → told_of c ≡ Gives job → job.words.view ≡ Ns → (image : ImageValue)
-    → Agree (state_of job.start) (boot job.start.board image job.start.nonsecure) job.words.steps
-    → Gains c.out_old c.out_new (text_from Ns 0 (boot job.start.board image job.start.nonsecure) job.words.steps)
-isolated_trace c result a is job told view image agree =
-    let shown : text_of job ≡ text_from Ns 0 (state_of job.start) job.words.steps = ap (λ v. text_from v 0 (state_of job.start) job.words.steps) view in
-    let same = isolated job.start.board job.start.secure image job.start.nonsecure job.words.steps agree in
-    subst (λ (x : List ℕ). Gains c.out_old c.out_new x) (shown ∙ same) (trace_written c result a is job told)
+pub isolated_trace : (c : Call) (result : ℕ) → Answer c result → result ≡ 0 → (r : RunWords) → c.command ≡ Some (Run r) → (job : Job) → job_told c.shelf.held r ≡ Gives job → job.words.view ≡ Ns
+    → (image : ImageValue) → Agree (events_of job.start.script) 0 (state_of job.start) (boot job.start.board image job.start.nonsecure) job.words.steps
+    → Gains c.out_old c.out_new (text_from Ns (events_of job.start.script) 0 (boot job.start.board image job.start.nonsecure) job.words.steps)
+isolated_trace c result a is r e job told view image agree =
+    let shown : trace_of job ≡ text_from Ns (events_of job.start.script) 0 (state_of job.start) job.words.steps = ap (λ v. text_from v (events_of job.start.script) 0 (state_of job.start) job.words.steps) view in
+    let same = isolated job.start.board job.start.secure image job.start.nonsecure (events_of job.start.script) job.words.steps agree in
+    subst (λ (x : List ℕ). Gains c.out_old c.out_new x) (shown ∙ same) (trace_written c result a is r e job told)
 
--- ---- the statuses
+-- ---- all statuses
 
-status_of_stop : (stop : Stop) → IsStatus (status_of stop)
-status_of_stop BadWords = inr (inl refl)
-status_of_stop TooManySteps = inr (inr (inr (inr (inr (inl refl)))))
-status_of_stop (Unread name) = inr (inr (inl refl))
-status_of_stop (TooLong name) = inr (inr (inr (inr (inr (inl refl)))))
-status_of_stop (BadBoard name refusal) = inr (inr (inr (inr (inl refl))))
-status_of_stop (BadImage name refusal) = inr (inr (inr (inr (inl refl))))
-status_of_stop (BadScript name refusal) = inr (inr (inr (inr (inl refl))))
+stop_status : (o : Option Command) (stop : Stop) → IsStatus o (status_of stop)
+stop_status o BadWords = inr (inl refl)
+stop_status o TooManySteps = inr (inr (inr (inr (inr (inl refl)))))
+stop_status o (Unread name) = inr (inr (inl refl))
+stop_status o (TooLong name) = inr (inr (inr (inr (inr (inl refl)))))
+stop_status o (BadBoard name refusal) = inr (inr (inr (inr (inl refl))))
+stop_status o (BadImage name refusal) = inr (inr (inr (inr (inl refl))))
+stop_status o (BadScript name refusal) = inr (inr (inr (inr (inl refl))))
 
-pub one_status : (c : Call) (result : ℕ) → Answer c result → IsStatus result
-one_status c result (Done job e told out err) = inl e
-one_status c result (Broken job e told out rose full err) = inr (inr (inr (inl e)))
-one_status c result (Misused e none out err) = inr (inl e)
-one_status c result (Stopped stop e of told out err) = subst IsStatus (sym e) (status_of_stop stop)
-one_status c result (Missed r file e run limit unread out err) = inr (inr (inl e))
+pub one_status : (c : Call) (result : ℕ) → Answer c result → IsStatus c.command result
+one_status c result (Done task e done told out err) = inl done
+one_status c result (Broken task e told out rose full err) = inr (inr (inr (inl e)))
+one_status c result (Stopped stop e caused out err) = subst (IsStatus c.command) (sym e) (stop_status c.command stop)
 one_status c result (Wanting e out err) = inr (inr (inr (inr (inr (inr e)))))
-one_status c result (Silent e out rose full) = inr (inr (inr (inl e)))
+one_status c result (Silent line e says front out rose full) = inr (inr (inr (inl e)))

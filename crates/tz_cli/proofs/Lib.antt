@@ -1,12 +1,4 @@
-pub mod Looks
-pub mod Views
-pub mod WordAnswers
-pub mod WordTurns
-pub mod WordValues
-pub mod WordWalks
-pub mod Counts
-pub mod Names
-pub mod Stages
+pub mod Reached
 pub mod Exits
 pub mod Clauses
 pub mod Reading

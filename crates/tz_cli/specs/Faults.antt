@@ -1,23 +1,25 @@
 -- What a fault of the files says of the outside and of what is settled.
-use Rattle.std.specs.Prelude.{◌≡◌, ℕ, Bool, List, [], Option, Some, None, IsTrue, codes}
+use Rattle.std.specs.Prelude.{◌≡◌, ℕ, true, false, List, [], Option, Some, None, IsTrue, codes}
 use Rattle.tz_model.specs.declared.outside.ShelfError.{ShelfError}
 use Rattle.tz_model.specs.declared.outside.ShelfError.TheVariants as shelf_errors
 use Rattle.tz_model.specs.Outside.{Held, Absent, Rose}
-use Rattle.tz_sem.specs.Images.{Refusal}
-use Rattle.tz_sem.specs.Images as refusals
+use Rattle.tz_elf.specs.Images.{Refusal}
+use Rattle.tz_elf.specs.Images as refusals
 use Rattle.tz_board.specs.BoardErrors.{refusal_of}
 use Rattle.tz_board.specs.ScriptErrors.{script_refusal_of}
 use Rattle.tz_elf.specs.declared.error.ElfError.{ElfError}
 use Rattle.tz_elf.specs.declared.error.ElfError.TheVariants as errors
 use Rattle.tz_cli.specs.declared.stops.File.{File}
-use Rattle.tz_cli.specs.declared.stops.Fault.{Fault}
-use Rattle.tz_cli.specs.declared.stops.Fault.TheVariants.{Unread, Long, Board, Image, Script, Memory}
+use Rattle.tz_cli.specs.declared.stops.File.TheVariants as files
+use Rattle.tz_cli.specs.declared.stops.LoadError.{LoadError}
+use Rattle.tz_cli.specs.declared.stops.LoadError.TheVariants.{Unread, Long, Board, Image, Script, Memory}
 use Rattle.tz_cli.specs.declared.files.Files.{Files}
-use Rattle.tz_cli.specs.Words.{RunWords}
-use Rattle.tz_cli.specs.Lines.{line_of, status_of}
+use Rattle.tz_words.specs.Run.{RunWords}
+use Rattle.tz_cli.specs.Lines.{stop_line, status_of}
 use Rattle.tz_cli.specs.Told as stops
-use Rattle.tz_cli.specs.Told.{Stop, Told, Start, TooLong, BadBoard, BadImage, BadScript}
-use Rattle.tz_cli.specs.Answer.{AllowsStop, IsReached, IsUnread, name_in}
+use Rattle.tz_cli.specs.Told.{Stop, Told, Start, TooLong, BadBoard, BadImage, BadScript, is_demo, is_none_script, board_told, secure_told, nonsecure_told}
+use Rattle.tz_cli.specs.Reads.{Form, AsBoard, AsImage, AsScript, goes_on}
+use Rattle.tz_cli.specs.Answer.{Shelved, AllowsStop}
 
 -- the refusal that an error tells; want of memory tells none
 abbrev pub image_refusal : ElfError → Option Refusal
@@ -37,35 +39,48 @@ abbrev pub AllowsRefusal : {A E : Type 0} → Told A → (E → Stop) → Option
 AllowsRefusal told stop None = Unit {0}
 AllowsRefusal told stop (Some refusal) = AllowsStop told (stop refusal)
 
--- the shelf's word and counts in a call
-pub record Shelved : Type 0 where
-  pub held : List ℕ → Held
-  pub sound : Bool
-  pub before : ℕ
-  pub now : ℕ
-
 -- the fault of a file that a shelf doesn't give
-abbrev pub unread_in : File → ShelfError → Fault
+abbrev pub unread_in : File → ShelfError → LoadError
 unread_in file shelf_errors.Failed = Unread file
 unread_in file shelf_errors.Long = Long file
 unread_in file shelf_errors.Memory = Memory
 
+-- the name of a file in the words, and what it is read as
+abbrev pub name_in : RunWords → File → List ℕ
+name_in r files.Board = r.board
+name_in r files.Secure = r.secure
+name_in r files.Nonsecure = r.nonsecure
+name_in r files.Script = r.script
+
+abbrev pub form_of : File → Form
+form_of files.Board = AsBoard
+form_of files.Secure = AsImage
+form_of files.Nonsecure = AsImage
+form_of files.Script = AsScript
+
+-- a file is read: it is one, and no file before it stops the command
+abbrev pub IsReached : (List ℕ → Held) → RunWords → File → Type 0
+IsReached held r files.Board = is_demo r.board ≡ false
+IsReached held r files.Secure = goes_on (board_told held r.board) ≡ true
+IsReached held r files.Nonsecure = goes_on (secure_told held r) ≡ true
+IsReached held r files.Script = (is_none_script r.script ≡ false) × (goes_on (nonsecure_told held r) ≡ true)
+
 -- a fault of one file
-abbrev pub IsStageFault : {A : Type 0} → Shelved → RunWords → File → Told A → Fault → Type 0
+abbrev pub IsStageFault : {A : Type 0} → Shelved → RunWords → File → Told A → LoadError → Type 0
 IsStageFault s r file told (Unread f) = (f ≡ file) × Rose s.before s.now × (IsTrue s.sound → s.held (name_in r file) ≡ Absent)
-IsStageFault s r file told (Long f) = AllowsStop told (TooLong (name_in r f))
-IsStageFault s r file told (Board e) = AllowsRefusal told (BadBoard r.board) (refusal_of e)
-IsStageFault s r file told (Image f e) = AllowsRefusal told (BadImage (name_in r f)) (image_refusal e)
-IsStageFault s r file told (Script e) = AllowsRefusal told (BadScript r.script) (script_refusal_of e)
+IsStageFault s r file told (Long f) = (f ≡ file) × AllowsStop told (TooLong (name_in r file))
+IsStageFault s r file told (Board e) = (file ≡ files.Board) × AllowsRefusal told (BadBoard r.board) (refusal_of e)
+IsStageFault s r file told (Image f e) = (f ≡ file) × (form_of file ≡ AsImage) × AllowsRefusal told (BadImage (name_in r file)) (image_refusal e)
+IsStageFault s r file told (Script e) = (file ≡ files.Script) × AllowsRefusal told (BadScript r.script) (script_refusal_of e)
 IsStageFault s r file told Memory = Unit {0}
 
--- a fault of the files of a run
-abbrev pub IsFault : {A : Type 0} → Shelved → RunWords → Told A → Fault → Type 0
-IsFault s r told (Unread f) = IsUnread s.held s.sound s.before s.now r f
-IsFault s r told (Long f) = AllowsStop told (TooLong (name_in r f))
-IsFault s r told (Board e) = AllowsRefusal told (BadBoard r.board) (refusal_of e)
-IsFault s r told (Image f e) = AllowsRefusal told (BadImage (name_in r f)) (image_refusal e)
-IsFault s r told (Script e) = AllowsRefusal told (BadScript r.script) (script_refusal_of e)
+-- a fault of the files of a run: of one that is read
+abbrev pub IsFault : {A : Type 0} → Shelved → RunWords → Told A → LoadError → Type 0
+IsFault s r told (Unread f) = IsReached s.held r f × Rose s.before s.now × (IsTrue s.sound → s.held (name_in r f) ≡ Absent)
+IsFault s r told (Long f) = IsReached s.held r f × AllowsStop told (TooLong (name_in r f))
+IsFault s r told (Board e) = IsReached s.held r files.Board × AllowsRefusal told (BadBoard r.board) (refusal_of e)
+IsFault s r told (Image f e) = IsReached s.held r f × (form_of f ≡ AsImage) × AllowsRefusal told (BadImage (name_in r f)) (image_refusal e)
+IsFault s r told (Script e) = IsReached s.held r files.Script × AllowsRefusal told (BadScript r.script) (script_refusal_of e)
 IsFault s r told Memory = Unit {0}
 
 -- the stop that a fault tells; want of memory tells none
@@ -73,7 +88,7 @@ abbrev pub stop_with : {E : Type 0} → (E → Stop) → Option E → Option Sto
 stop_with stop None = None
 stop_with stop (Some refusal) = Some (stop refusal)
 
-abbrev pub stop_of : RunWords → Fault → Option Stop
+abbrev pub stop_of : RunWords → LoadError → Option Stop
 stop_of r (Unread f) = Some (stops.Unread (name_in r f))
 stop_of r (Long f) = Some (TooLong (name_in r f))
 stop_of r (Board e) = stop_with (BadBoard r.board) (refusal_of e)
@@ -89,7 +104,7 @@ code_with code (Some refusal) = code refusal
 -- the line of a fault, and its status
 abbrev pub line_with : Option Stop → List ℕ
 line_with None = codes "no memory\n"
-line_with (Some stop) = line_of stop
+line_with (Some stop) = stop_line stop
 
 abbrev pub status_with : Option Stop → ℕ
 status_with None = 7

@@ -1,9 +1,9 @@
 -- The lines on standard error, and the statuses that go with them.
 use Rattle.std.specs.Prelude.{ℕ, List, ◌++◌, codes, decimal}
-use Rattle.tz_sem.specs.Images.{Refusal, Magic, ClassOrOrder, TypeOrMachine, HeaderCut, SegmentCut, Outside, WrongSide, Hex}
-use Rattle.tz_sem.specs.Images as images
-use Rattle.tz_sem.specs.Scripts.{ScriptRefusal, BadLine, OutOfOrder, NoSuchInterrupt}
-use Rattle.tz_sem.specs.Scripts as scripts
+use Rattle.tz_elf.specs.Images.{Refusal, Magic, ClassOrOrder, TypeOrMachine, HeaderCut, SegmentCut, Outside, WrongSide, Hex}
+use Rattle.tz_elf.specs.Images as images
+use Rattle.tz_board.specs.Scripts.{ScriptRefusal, BadLine, OutOfOrder, NoSuchInterrupt}
+use Rattle.tz_board.specs.Scripts as scripts
 use Rattle.tz_board.specs.Boards.{BoardRefusal, NotToml, Missing, WrongKind, Range, TooMany, Place, Top, InRegion, InSau, key_text}
 use Rattle.tz_board.specs.Boards as boards
 use Rattle.tz_cli.specs.Told.{Stop, BadWords, TooManySteps, Unread, TooLong, BadBoard, BadImage, BadScript}
@@ -48,14 +48,14 @@ unread_line name = codes "cannot read " ++ name ++ codes "\n"
 abbrev pub limit_line : List ℕ → List ℕ
 limit_line name = codes "limit " ++ name ++ codes "\n"
 
-abbrev pub line_of : Stop → List ℕ
-line_of BadWords = codes "usage\n"
-line_of TooManySteps = codes "limit steps\n"
-line_of (Unread name) = unread_line name
-line_of (TooLong name) = limit_line name
-line_of (BadBoard name refusal) = refused_line name (board_code refusal)
-line_of (BadImage name refusal) = refused_line name (image_code refusal)
-line_of (BadScript name refusal) = refused_line name (script_code refusal)
+abbrev pub stop_line : Stop → List ℕ
+stop_line BadWords = codes "usage\n"
+stop_line TooManySteps = codes "limit steps\n"
+stop_line (Unread name) = unread_line name
+stop_line (TooLong name) = limit_line name
+stop_line (BadBoard name refusal) = refused_line name (board_code refusal)
+stop_line (BadImage name refusal) = refused_line name (image_code refusal)
+stop_line (BadScript name refusal) = refused_line name (script_code refusal)
 
 abbrev pub status_of : Stop → ℕ
 status_of BadWords = 2

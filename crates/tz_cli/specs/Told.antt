@@ -1,19 +1,21 @@
 -- What the words and a shelf's word settle: that a command stops, and why, or what it begins with.
-use Rattle.std.specs.Prelude.{◌≡◌, ℕ, nat_lt, Bool, true, false, if◌then◌else◌, List, [], length, codes, Option, Some, None, Result, Ok, Err}
+use Rattle.std.specs.Prelude.{◌≡◌, ℕ, nat_lt, Bool, if◌then◌else◌, List, [], length, codes, Option, Some, None, Result, Ok, Err}
 use Rattle.std.specs.Str.{bytes_eq}
 use Rattle.tz_table.specs.declared.units.Side.{Side}
 use Rattle.tz_table.specs.declared.units.Side.TheVariants.{Secure, NonSecure}
 use Rattle.tz_model.specs.Board.{BoardValue}
 use Rattle.tz_model.specs.Image.{ImageValue}
 use Rattle.tz_model.specs.Outside.{Held, Untold, Absent, Holds}
-use Rattle.tz_model.specs.State.{State}
+use Rattle.tz_state.specs.State.{State}
 use Rattle.tz_sem.specs.Boot.{boot}
-use Rattle.tz_sem.specs.Demo.{demo}
-use Rattle.tz_sem.specs.Images.{Refusal, image_of}
-use Rattle.tz_sem.specs.Scripts.{Timed, ScriptRefusal, script_of}
-use Rattle.tz_sem.specs.Text.{text_from}
+use Rattle.tz_board.specs.Demo.{demo}
+use Rattle.tz_elf.specs.Images.{Refusal, image_of}
+use Rattle.tz_board.specs.Scripts.{Timed, ScriptRefusal, script_of}
+use Rattle.tz_twin.specs.Trace.{text_from}
+use Rattle.tz_run.specs.Events.{events_of}
 use Rattle.tz_board.specs.Boards.{BoardRefusal, board_of}
-use Rattle.tz_cli.specs.Words.{RunWords}
+use Rattle.tz_words.specs.Run.{RunWords}
+use Rattle.tz_words.specs.Commands.{Command, Run}
 
 -- why a command stops before it begins
 pub data Stop : Type 0 where
@@ -113,9 +115,9 @@ pub record Job : Type 0 where
   pub words : RunWords
   pub start : Start
 
-abbrev pub job_with : (List ℕ → Held) → Option RunWords → Told Job
-job_with held None = Stops BadWords
-job_with held (Some r) =
+-- the limit of steps is tested before any file is read
+abbrev pub job_told : (List ℕ → Held) → RunWords → Told Job
+job_told held r =
     if nat_lt step_limit r.steps then Stops TooManySteps
     else told_then (start_told held r) (λ start. Gives (record { words = r; start = start }))
 
@@ -123,5 +125,26 @@ abbrev pub state_of : Start → State
 state_of start = boot start.board start.secure start.nonsecure
 
 -- the trace of a run
-abbrev pub text_of : Job → List ℕ
-text_of job = text_from job.words.view 0 (state_of job.start) job.words.steps
+abbrev pub trace_of : Job → List ℕ
+trace_of job = text_from job.words.view (events_of job.start.script) 0 (state_of job.start) job.words.steps
+
+-- ---- commands
+
+-- what a command does: the text on standard output, and the status once all of it is written
+pub record Task : Type 0 where
+  pub text : List ℕ
+  pub status : ℕ
+
+-- a run writes its trace
+abbrev pub run_task : Job → Task
+run_task job = record { text = trace_of job; status = 0 }
+
+-- what is settled of a command, or of words that are refused
+abbrev pub told : (List ℕ → Held) → Option Command → Told Task
+told held None = Stops BadWords
+told held (Some (Run r)) = told_then (job_told held r) (λ job. Gives (run_task job))
+
+-- the statuses of a command whose work is done
+abbrev pub IsDone : Option Command → ℕ → Type 0
+IsDone None status = ⊥
+IsDone (Some (Run r)) status = status ≡ 0

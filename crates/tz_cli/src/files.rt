@@ -1,21 +1,22 @@
 //! The files of a run: each is read, then its length, then its form, in the order of the words.
 
-ghost use Rattle.std.specs.Prelude.{◌≡◌, ◌≤◌, ◌<◌, ◌^◌, ℕ, List, length, IfOk, IfErr, IsErrOf, IsTrue, false};
+ghost use Rattle.std.specs.Prelude.{◌≡◌, ◌≢◌, ◌≤◌, ◌<◌, ◌^◌, ℕ, List, length, IfOk, IfErr, IsErrOf, IsTrue, false};
 ghost use Rattle.std.specs.Str.{bytes_eq};
 ghost use Rattle.tz_model.specs.Outside.{Held, Absent, Rose};
 ghost use Rattle.tz_cli.specs.declared.stops.File.TheVariants as files;
-ghost use Rattle.tz_cli.specs.declared.stops.Fault.TheVariants as faults;
-ghost use Rattle.tz_cli.specs.Words.{run_in};
+ghost use Rattle.tz_cli.specs.declared.stops.LoadError.TheVariants as faults;
+ghost use Rattle.tz_words.specs.Run.{run_in};
 ghost use Rattle.tz_cli.specs.Told.{file_with, board_told, image_told, script_told, start_told, is_demo, is_none_script, TooLong};
-ghost use Rattle.tz_cli.specs.Answer.{Allows, AllowsStop, name_in};
-ghost use Rattle.tz_cli.specs.Faults.{unread_in, IsStageFault, IsFault, start_in};
+ghost use Rattle.tz_cli.specs.Reads.{AsImage};
+ghost use Rattle.tz_cli.specs.Answer.{Allows, AllowsStop};
+ghost use Rattle.tz_cli.specs.Faults.{form_of, name_in, unread_in, IsStageFault, IsFault, start_in};
 
-use crate::stops::{Fault, File};
-use crate::words::RunWords;
+use crate::stops::{File, LoadError};
 use std::alloc::{AllocError, Global};
 use tz_board::{Script, demo_board, read_board, read_script};
 use tz_elf::read_image;
 use tz_model::{Board, Image, Shelf, ShelfError, Side};
+use tz_words::RunWords;
 
 /// What the files of a run give.
 #[derive(Drop)]
@@ -72,22 +73,26 @@ fn read<H: Shelf>(
 }
 
 /// The fault of a file that isn't read.
-fn unread(file: File, error: ShelfError) -> Fault
+fn unread(file: File, error: ShelfError) -> LoadError
     ensures { result ≡ unread_in file error }
 {
     match error {
-        ShelfError::Failed => Fault::Unread(file),
-        ShelfError::Long => Fault::Long(file),
-        ShelfError::Memory => Fault::Memory,
+        ShelfError::Failed => LoadError::Unread(file),
+        ShelfError::Long => LoadError::Long(file),
+        ShelfError::Memory => LoadError::Memory,
     }
 }
 
 /// The board that the words name: the built-in one, or a file.
 #[tactic(auto, unfolding(crate::specs::Told::board_told, crate::specs::Told::board_file))]
-fn load_board<H: Shelf>(alloc: Global, shelf: &mut H, words: &RunWords<'_>) -> Result<Board, Fault>
+fn load_board<H: Shelf>(
+    alloc: Global,
+    shelf: &mut H,
+    words: &RunWords<'_>,
+) -> Result<Board, LoadError>
     ensures ok { IfOk result (λ b. Allows (board_told (H.held shelf.old) words.now.board.now) b) }
     ensures err { IfErr result (λ e. IsStageFault (record { held = H.held shelf.old; sound = H.sound shelf.old; before = H.faults shelf.old; now = H.faults shelf.new }) (run_in words.now) files.Board (board_told (H.held shelf.old) words.now.board.now) e) }
-    ensures named { IfErr result (λ e. e ≡ faults.Unread files.Board → is_demo words.now.board.now ≡ false) }
+    ensures named { IfErr result (λ e. e ≢ faults.Memory → is_demo words.now.board.now ≡ false) }
     ensures later { H.faults shelf.old ≤ H.faults shelf.new }
     ensures sound { H.sound shelf.new ≡ H.sound shelf.old }
     ensures held { H.held shelf.new ≡ H.held shelf.old }
@@ -95,7 +100,7 @@ fn load_board<H: Shelf>(alloc: Global, shelf: &mut H, words: &RunWords<'_>) -> R
     if words.board == "@demo" {
         return match demo_board(alloc) {
             Ok(board) => Ok(board),
-            Err(_) => Err(Fault::Memory),
+            Err(_) => Err(LoadError::Memory),
         };
     }
     let bytes = match read(alloc, shelf, words.board, BOARD_LIMIT) {
@@ -104,7 +109,7 @@ fn load_board<H: Shelf>(alloc: Global, shelf: &mut H, words: &RunWords<'_>) -> R
     };
     match read_board(alloc, &bytes) {
         Ok(board) => Ok(board),
-        Err(error) => Err(Fault::Board(error)),
+        Err(error) => Err(LoadError::Board(error)),
     }
 }
 
@@ -117,7 +122,8 @@ fn load_image<H: Shelf>(
     file: File,
     board: &Board,
     side: Side,
-) -> Result<Image, Fault>
+) -> Result<Image, LoadError>
+    requires { form_of file ≡ AsImage }
     ensures ok { IfOk result (λ i. Allows (image_told (H.held shelf.old) board.now side (name_in (run_in words.now) file)) i) }
     ensures err { IfErr result (λ e. IsStageFault (record { held = H.held shelf.old; sound = H.sound shelf.old; before = H.faults shelf.old; now = H.faults shelf.new }) (run_in words.now) file (image_told (H.held shelf.old) board.now side (name_in (run_in words.now) file)) e) }
     ensures later { H.faults shelf.old ≤ H.faults shelf.new }
@@ -130,7 +136,7 @@ fn load_image<H: Shelf>(
     };
     match read_image(alloc, &bytes, board, side) {
         Ok(image) => Ok(image),
-        Err(error) => Err(Fault::Image(file, error)),
+        Err(error) => Err(LoadError::Image(file, error)),
     }
 }
 
@@ -141,16 +147,16 @@ fn load_script<H: Shelf>(
     shelf: &mut H,
     words: &RunWords<'_>,
     interrupts: u16,
-) -> Result<Script, Fault>
+) -> Result<Script, LoadError>
     ensures ok { IfOk result (λ s. Allows (script_told (H.held shelf.old) interrupts words.now.script.now) s) }
     ensures err { IfErr result (λ e. IsStageFault (record { held = H.held shelf.old; sound = H.sound shelf.old; before = H.faults shelf.old; now = H.faults shelf.new }) (run_in words.now) files.Script (script_told (H.held shelf.old) interrupts words.now.script.now) e) }
-    ensures named { IfErr result (λ e. e ≡ faults.Unread files.Script → is_none_script words.now.script.now ≡ false) }
+    ensures named { IfErr result (λ e. e ≢ faults.Memory → is_none_script words.now.script.now ≡ false) }
     ensures later { H.faults shelf.old ≤ H.faults shelf.new }
 {
     if words.script == "@none" {
         return match Script::of(alloc, &[]) {
             Ok(script) => Ok(script),
-            Err(_) => Err(Fault::Memory),
+            Err(_) => Err(LoadError::Memory),
         };
     }
     let bytes = match read(alloc, shelf, words.script, SCRIPT_LIMIT) {
@@ -159,12 +165,16 @@ fn load_script<H: Shelf>(
     };
     match read_script(alloc, &bytes, interrupts) {
         Ok(script) => Ok(script),
-        Err(error) => Err(Fault::Script(error)),
+        Err(error) => Err(LoadError::Script(error)),
     }
 }
 
 /// The files of a run, in the order of its words.
-pub fn load<H: Shelf>(alloc: Global, shelf: &mut H, words: &RunWords<'_>) -> Result<Files, Fault>
+pub fn load<H: Shelf>(
+    alloc: Global,
+    shelf: &mut H,
+    words: &RunWords<'_>,
+) -> Result<Files, LoadError>
     ensures ok { IfOk result (λ f. Allows (start_told (H.held shelf.old) (run_in words.now)) (start_in f)) }
     ensures err { IfErr result (λ e. IsFault (record { held = H.held shelf.old; sound = H.sound shelf.old; before = H.faults shelf.old; now = H.faults shelf.new }) (run_in words.now) (start_told (H.held shelf.old) (run_in words.now)) e) }
     ensures later { H.faults shelf.old ≤ H.faults shelf.new }

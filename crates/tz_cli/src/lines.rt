@@ -2,23 +2,25 @@
 //!
 //! A line is built whole and goes out as one put. Its text is exactly the definition's.
 
-ghost use Rattle.std.specs.Prelude.{◌≡◌, ◌≤◌, ◌+◌, ◌++◌, IfOk, OnOk, decimal, length, vec_len};
-ghost use Rattle.tz_cli.specs.Answer.{most_name};
-ghost use Rattle.tz_cli.specs.declared.stops.Fault.TheVariants as faults;
-ghost use Rattle.tz_sem.specs.Images.{Refusal};
+ghost use Rattle.std.specs.Prelude.{◌≡◌, ◌⊎◌, ◌≤◌, ◌+◌, ◌++◌, IfOk, OnOk, decimal, length, vec_len};
+ghost use Rattle.tz_model.specs.Outside.{Rose, Gains};
+ghost use Rattle.tz_elf.specs.Images.{Refusal};
 ghost use Rattle.tz_board.specs.BoardErrors.{refusal_of, place_of};
 ghost use Rattle.tz_board.specs.ScriptErrors.{script_refusal_of};
-ghost use Rattle.tz_cli.specs.Words.{run_in};
+ghost use Rattle.tz_words.specs.Run.{run_in, run_names};
+ghost use Rattle.tz_words.specs.Commands.{longest};
+ghost use Rattle.tz_cli.specs.Answer.{Exceeds, GainsFront};
 ghost use Rattle.tz_cli.specs.Lines.{board_code, image_code, script_code, place_text, refused_line, unread_line, limit_line};
 ghost use Rattle.tz_cli.specs.Faults.{image_refusal, line_with, status_with, stop_of, code_with};
 
 use crate::files::name_of;
-use crate::stops::Fault;
-use crate::words::RunWords;
+use crate::stops::LoadError;
 use itoa::Buffer;
 use std::alloc::{AllocError, Global};
 use tz_board::{BoardError, Place, ScriptError};
 use tz_elf::ElfError;
+use tz_model::Sink;
+use tz_words::RunWords;
 
 /// Appends a text.
 fn push_text(line: &mut Vec<u8>, text: &str) -> Result<(), AllocError>
@@ -198,21 +200,33 @@ fn script_line(alloc: Global, name: &str, error: ScriptError) -> Result<Vec<u8>,
 pub fn fault_line(
     alloc: Global,
     words: &RunWords<'_>,
-    fault: Fault,
+    fault: LoadError,
 ) -> Result<(Vec<u8>, u8), AllocError>
     ensures line { IfOk result (λ p. p.0.items ≡ line_with (stop_of (run_in words.now) fault)) }
-    ensures len { IfOk result (λ p. vec_len p.0 ≤ 64 + most_name (run_in words.now)) }
+    ensures len { IfOk result (λ p. vec_len p.0 ≤ 64 + longest (run_names (run_in words.now))) }
     ensures status { IfOk result (λ p. p.1 ≡ status_with (stop_of (run_in words.now) fault)) }
 {
     match fault {
-        Fault::Unread(file) => Ok((unread_line(alloc, name_of(words, file))?, 3)),
-        Fault::Long(file) => Ok((limit_line(alloc, name_of(words, file))?, 6)),
-        Fault::Board(BoardError::Memory) => Err(AllocError),
-        Fault::Image(_, ElfError::Memory) => Err(AllocError),
-        Fault::Script(ScriptError::Memory) => Err(AllocError),
-        Fault::Memory => Err(AllocError),
-        Fault::Board(error) => Ok((board_line(alloc, words.board, error)?, 5)),
-        Fault::Script(error) => Ok((script_line(alloc, words.script, error)?, 5)),
-        Fault::Image(file, error) => Ok((image_line(alloc, name_of(words, file), error)?, 5)),
+        LoadError::Unread(file) => Ok((unread_line(alloc, name_of(words, file))?, 3)),
+        LoadError::Long(file) => Ok((limit_line(alloc, name_of(words, file))?, 6)),
+        LoadError::Board(BoardError::Memory) => Err(AllocError),
+        LoadError::Image(_, ElfError::Memory) => Err(AllocError),
+        LoadError::Script(ScriptError::Memory) => Err(AllocError),
+        LoadError::Memory => Err(AllocError),
+        LoadError::Board(error) => Ok((board_line(alloc, words.board, error)?, 5)),
+        LoadError::Script(error) => Ok((script_line(alloc, words.script, error)?, 5)),
+        LoadError::Image(file, error) => Ok((image_line(alloc, name_of(words, file), error)?, 5)),
+    }
+}
+
+/// Writes a line on standard error, and answers the status, or 4 where the line can't be written.
+pub fn refuse<E: Sink>(err: &mut E, line: &[u8], status: u8) -> u8
+    ensures { ((result ≡ status) × Gains (E.written err.old) (E.written err.new) line.now)
+        ⊎ ((result ≡ 4) × Rose (E.faults err.old) (E.faults err.new) × Exceeds (E.space err.old) (length line.now)
+        × GainsFront (E.written err.old) (E.written err.new) line.now) }
+{
+    match err.put(line) {
+        Ok(()) => status,
+        Err(_) => 4,
     }
 }

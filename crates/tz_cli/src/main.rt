@@ -8,16 +8,16 @@ mod edge;
 mod files;
 mod lines;
 mod program;
+mod run;
 mod stops;
 #[cfg(test)]
 mod tests;
-mod words;
 
 use edge::{FileShelf, OutSink};
 use program::top;
 use std::alloc::{AllocError, Global};
 use std::env::{self, Env};
-use std::io::{BufWriter, ErrorKind};
+use std::io::ErrorKind;
 use std::process::ExitCode;
 use tz_model::Sink;
 
@@ -44,15 +44,12 @@ fn read_words(rt: &(impl Env + AllocGlobal)) -> Result<Vec<String>, AllocError> 
 
 fn main(rt: HostRuntime) -> ExitCode {
     let alloc = rt.alloc();
-    let mut err = OutSink::new(rt.stderr());
-    let (Ok(words), Ok(writer)) = (
-        read_words(&rt),
-        BufWriter::with_capacity(alloc, BUFFER, rt.stdout()),
-    ) else {
+    let mut err = OutSink::new(rt.stderr(), Vec::new(alloc));
+    let (Ok(words), Ok(buffer)) = (read_words(&rt), Vec::with_capacity(alloc, BUFFER)) else {
         let _ = err.put(b"no memory\n");
         return ExitCode::from(7);
     };
-    let mut out = OutSink::new(writer);
+    let mut out = OutSink::new(rt.stdout(), buffer);
     let mut shelf = FileShelf::new(&rt);
     let status = top(alloc, &words, &mut shelf, &mut out, &mut err);
     if out.flush() {

@@ -14,7 +14,7 @@ pub enum File {
 
 /// Why the files give no start.
 #[derive(Clone, Copy)]
-pub enum Fault {
+pub enum LoadError {
     Unread(File),
     Long(File),
     Board(BoardError),

@@ -29,201 +29,86 @@ fn file(alloc: Global, name: &str, bytes: &str) -> Result<File, AllocError> {
     })
 }
 
-/// The worked images, and files that are refused, each named by why.
-fn files(alloc: Global) -> Result<Vec<File>, AllocError> {
-    let named = [
-        ("S", SECURE),
-        ("N", NONSECURE),
-        ("empty", ""),
-        ("digits", "1000000 00\n"),
-        ("outside", "0fffffff 00\n"),
-        ("past", "10000000 00\n30007fff 0000\n"),
-        ("secure", "10000000 00\n"),
-        ("nonsecure", "00200000 00\n"),
-        ("overlap", "10000000 0011\n\n10000001 22\n"),
-        ("no_keys", "profile = \"v8.0\"\n"),
-        ("late", "5 nmi\n5 irq 3\n4 irq 1\n"),
-    ];
+/// The worked images, a file that is refused, and a board that is too long.
+fn shelf(alloc: Global) -> Result<MemoryShelf, AllocError> {
     let mut files = Vec::new(alloc);
-    for (name, bytes) in named {
-        files.push(file(alloc, name, bytes)?)?;
-    }
-    Ok(files)
+    files.push(file(alloc, "S", SECURE)?)?;
+    files.push(file(alloc, "N", NONSECURE)?)?;
+    files.push(file(alloc, "past", "10000000 00\n30007fff 0000\n")?)?;
+    files.push(File {
+        name: String::from_str(alloc, "long")?,
+        bytes: vec![in alloc; b'\n'; 65_537]?,
+    })?;
+    Ok(MemoryShelf::new(files))
+}
+
+/// The answer to a line, with what was written.
+fn told(alloc: Global, line: &str) -> Result<(u8, MemorySink, MemorySink), AllocError> {
+    let words = words_of(alloc, line)?;
+    let mut shelf = shelf(alloc)?;
+    let mut out = MemorySink::new(alloc, 256)?;
+    let mut err = MemorySink::new(alloc, 128)?;
+    let status = top(alloc, &words, &mut shelf, &mut out, &mut err);
+    Ok((status, out, err))
 }
 
 #[test]
 fn answers(rt: HostRuntime) -> Result<(), Fail> {
-    let alloc = rt.alloc();
-    let cases = [
+    for (line, status, written, line_told) in [
         ("tzrun run @demo S N @none 4", 0, TRACE, ""),
-        ("tzrun run @demo S N @none 0", 0, "", ""),
-        (
-            "tzrun run @demo S N @none 1 --view=all",
-            0,
-            "0 s N 10000040 4800 ldr r0, [pc, #0] r0=00200040\n",
-            "",
-        ),
-        ("tzrun run @demo empty empty @none 2", 0, "0 S\n1 S\n", ""),
         ("tzrun", 2, "", "usage\n"),
-        ("tzrun run @demo S N 4", 2, "", "usage\n"),
-        ("tzrun run @demo S N @none 10000001", 6, "", "limit steps\n"),
-        (
-            "tzrun run @demo absent N @none 10000001",
-            6,
-            "",
-            "limit steps\n",
-        ),
         (
             "tzrun run @demo absent N @none 4",
             3,
             "",
             "cannot read absent\n",
         ),
-        (
-            "tzrun run @demo S absent @none 4",
-            3,
-            "",
-            "cannot read absent\n",
-        ),
-        (
-            "tzrun run absent digits N @none 4",
-            3,
-            "",
-            "cannot read absent\n",
-        ),
-        (
-            "tzrun run @demo S N absent 4",
-            3,
-            "",
-            "cannot read absent\n",
-        ),
-        (
-            "tzrun run @demo digits absent @none 4",
-            5,
-            "",
-            "digits: L9 1\n",
-        ),
-        (
-            "tzrun run @demo outside N @none 4",
-            5,
-            "",
-            "outside: L6 0\n",
-        ),
         ("tzrun run @demo past N @none 4", 5, "", "past: L6 1\n"),
+        ("tzrun run long S N @none 4", 6, "", "limit long\n"),
         (
-            "tzrun run @demo nonsecure N @none 4",
-            5,
+            "tzrun run @demo absent N @none 10000001",
+            6,
             "",
-            "nonsecure: L7 0\n",
+            "limit steps\n",
         ),
-        ("tzrun run @demo S secure @none 4", 5, "", "secure: L7 0\n"),
-        (
-            "tzrun run @demo overlap N @none 4",
-            5,
-            "",
-            "overlap: L8 0 1\n",
-        ),
-        (
-            "tzrun run no_keys S N @none 4",
-            5,
-            "",
-            "no_keys: B2 secure_vtor\n",
-        ),
-        ("tzrun run @demo S N late 4", 5, "", "late: C2 3\n"),
-        ("tzrun run @demo S digits late 4", 5, "", "digits: L9 1\n"),
-    ];
-    for (line, status, written, told) in cases {
-        let words = words_of(alloc, line)?;
-        let mut shelf = MemoryShelf::new(files(alloc)?);
-        let mut out = MemorySink::new(alloc, 256)?;
-        let mut err = MemorySink::new(alloc, 128)?;
-        let answer = top(alloc, &words, &mut shelf, &mut out, &mut err);
+    ] {
+        let (answer, out, err) = told(rt.alloc(), line)?;
         assert_eq!(rt; answer, status, "{line}");
         assert_eq!(rt; out.bytes(), written.as_bytes(), "{line}");
-        assert_eq!(rt; err.bytes(), told.as_bytes(), "{line}");
+        assert_eq!(rt; err.bytes(), line_told.as_bytes(), "{line}");
     }
     Ok(())
 }
 
-#[test]
-fn long_files(rt: HostRuntime) -> Result<(), Fail> {
-    let alloc = rt.alloc();
-    let mut held = files(alloc)?;
-    held.push(File {
-        name: String::from_str(alloc, "long")?,
-        bytes: vec![in alloc; b'\n'; 8_388_609]?,
-    })?;
-    held.push(File {
-        name: String::from_str(alloc, "board")?,
-        bytes: vec![in alloc; b'\n'; 65_537]?,
-    })?;
-    let mut shelf = MemoryShelf::new(held);
-    for (line, told) in [
-        ("tzrun run @demo long N @none 4", "limit long\n"),
-        ("tzrun run @demo S long @none 4", "limit long\n"),
-        ("tzrun run board S N @none 4", "limit board\n"),
-        ("tzrun run @demo S N long 4", "limit long\n"),
-    ] {
-        let words = words_of(alloc, line)?;
-        let mut out = MemorySink::new(alloc, 256)?;
-        let mut err = MemorySink::new(alloc, 128)?;
-        assert_eq!(rt;
-            top(alloc, &words, &mut shelf, &mut out, &mut err),
-            6,
-            "{line}"
-        );
-        assert_eq!(rt; out.bytes().len(), 0, "{line}");
-        assert_eq!(rt; err.bytes(), told.as_bytes(), "{line}");
-    }
-    Ok(())
-}
-
+/// The third line can't be written: the two before it stand.
 #[test]
 fn failing_sinks(rt: HostRuntime) -> Result<(), Fail> {
     let alloc = rt.alloc();
     let words = words_of(alloc, "tzrun run @demo S N @none 4")?;
-    // How many bytes stand on `out` before each put.
-    for (put, bytes) in [(0, 0), (1, 4), (2, 8), (3, 50)] {
-        let mut shelf = MemoryShelf::new(files(alloc)?);
-        let mut out = FailingSink::new(alloc, vec![in alloc; put]?);
-        let mut err = MemorySink::new(alloc, 128)?;
-        assert_eq!(rt;
-            top(alloc, &words, &mut shelf, &mut out, &mut err),
-            4,
-            "put {put}"
-        );
-        assert_eq!(rt; out.bytes().len(), bytes, "put {put}");
-        assert_eq!(rt;
-            TRACE.as_bytes().starts_with(out.bytes()),
-            true,
-            "put {put}"
-        );
-        assert_eq!(rt; err.bytes().len(), 0, "put {put}");
-    }
-    let refused = words_of(alloc, "tzrun run")?;
-    let mut shelf = MemoryShelf::new(files(alloc)?);
-    let mut out = MemorySink::new(alloc, 256)?;
+    let mut out = FailingSink::new(alloc, vec![in alloc; 2]?);
     let mut err = FailingSink::new(alloc, vec![in alloc; 0]?);
-    assert_eq!(rt; top(alloc, &refused, &mut shelf, &mut out, &mut err), 4);
-    assert_eq!(rt; out.bytes().len(), 0);
+    let mut held = shelf(alloc)?;
+    assert_eq!(rt; top(alloc, &words, &mut held, &mut out, &mut err), 4);
+    assert_eq!(rt; out.bytes(), b"0 S\n1 S\n".as_slice());
+    assert_eq!(rt; err.bytes().len(), 0);
+    let refused = words_of(alloc, "tzrun run")?;
+    assert_eq!(rt; top(alloc, &refused, &mut held, &mut out, &mut err), 4);
+    assert_eq!(rt; err.bytes().len(), 0);
     Ok(())
 }
 
 #[test]
-fn failing_shelves(rt: HostRuntime) -> Result<(), Fail> {
+fn failing_shelf(rt: HostRuntime) -> Result<(), Fail> {
     let alloc = rt.alloc();
     let words = words_of(alloc, "tzrun run @demo S N @none 4")?;
-    for (get, told) in [(0, "cannot read S\n"), (1, "cannot read N\n")] {
-        let mut shelf = FailingShelf::new(files(alloc)?, vec![in alloc; get]?);
-        let mut out = MemorySink::new(alloc, 256)?;
-        let mut err = MemorySink::new(alloc, 128)?;
-        assert_eq!(rt;
-            top(alloc, &words, &mut shelf, &mut out, &mut err),
-            3,
-            "get {get}"
-        );
-        assert_eq!(rt; out.bytes().len(), 0, "get {get}");
-        assert_eq!(rt; err.bytes(), told.as_bytes(), "get {get}");
-    }
+    let mut files = Vec::new(alloc);
+    files.push(file(alloc, "S", SECURE)?)?;
+    files.push(file(alloc, "N", NONSECURE)?)?;
+    let mut shelf = FailingShelf::new(files, vec![in alloc; 1]?);
+    let mut out = MemorySink::new(alloc, 256)?;
+    let mut err = MemorySink::new(alloc, 128)?;
+    assert_eq!(rt; top(alloc, &words, &mut shelf, &mut out, &mut err), 3);
+    assert_eq!(rt; out.bytes().len(), 0);
+    assert_eq!(rt; err.bytes(), b"cannot read N\n".as_slice());
     Ok(())
 }

@@ -3,11 +3,11 @@ use Rattle.std.proofs.Common.{◌≡◌, ◌<◌, ◌≤◌, ◌+◌, ◌-◌, �
 use Rattle.std.specs.Prelude.{nat_le}
 use Rattle.std.proofs.lemmas.Bool.{and_from, and_parts, false≢true, le-leb, leb-true, or_cases}
 use Rattle.tz_model.specs.declared.board.Region.{Region}
-use Rattle.tz_model.specs.Attribution.{in_region}
+use Rattle.tz_model.specs.Board.{in_region}
 use Rattle.tz_model.specs.Board.{are_regions, bytes_of as sizes_of, is_multiple, is_region, most_bytes, within}
 use Rattle.tz_model.specs.Image.{IsImage, SegmentValue, are_addressed, are_clear, clear_of_all, end_of, is_clear_of}
-use Rattle.tz_sem.specs.Placement.{Refusal, Outside, Segments, WrongSide, first_sharing, in_some, lies_in, overlap_with, placed_in, unless}
-use Rattle.tz_sem.specs.PlainImage.{bytes_of, line_then, segment_of, segment_then, segment_with, segments_from, without_return}
+use Rattle.tz_elf.specs.Placement.{Refusal, Outside, Segments, WrongSide, first_sharing, in_some, lies_in, overlap_with, placed_in, unless}
+use Rattle.tz_elf.specs.PlainImage.{bytes_of, line_then, segment_of, segment_then, segment_with, segments_from, without_return}
 use Rattle.tz_elf.proofs.Counting.{are_placed, bytes_in-most, end_below, in_region-bounds, lies_in-at}
 use Rattle.tz_elf.proofs.Digits.{length-bytes_of}
 
@@ -66,7 +66,8 @@ Accepted-push all usable index earlier s before accepted some sharing passed =
 
 -- ---- the lines of a plain image
 
-segment_of-bytes : (line : List ℕ) (s : SegmentValue) → segment_of line ≡ Some s → 1 ≤ length s.bytes
+-- the segment of a line has bytes
+pub segment_of-bytes : (line : List ℕ) (s : SegmentValue) → segment_of line ≡ Some s → 1 ≤ length s.bytes
 segment_of-bytes line s e = by_test (within 11 137 (length line) && slice_index line 8 == 32) refl e
   where
     by_bytes : (address bytes : Option (List ℕ)) → bytes_of (drop 9 line) ≡ bytes → 11 ≤ length line → segment_with address bytes ≡ Some s → 1 ≤ length s.bytes

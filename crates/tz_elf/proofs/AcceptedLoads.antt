@@ -4,8 +4,8 @@ use Rattle.std.specs.Prelude.{option_map, slice_index}
 use Rattle.std.proofs.lemmas.Bool.{and_parts, eqb-false, leb-true, not-true}
 use Rattle.tz_model.specs.declared.board.Region.{Region}
 use Rattle.tz_model.specs.Image.{SegmentValue}
-use Rattle.tz_sem.specs.Placement.{Refusal, SegmentCut, Segments, first_sharing, placed_in, unless}
-use Rattle.tz_sem.specs.ElfImage.{ProgramHeader, brings_bytes, earlier_header, elf_segments, entry_count, header_refusal, headers_from, is_whole, load_then, loaded, loads_from, table_place}
+use Rattle.tz_elf.specs.Placement.{Refusal, SegmentCut, Segments, first_sharing, placed_in, unless}
+use Rattle.tz_elf.specs.ElfImage.{ProgramHeader, brings_bytes, earlier_header, elf_segments, entry_count, header_refusal, headers_from, is_whole, load_then, loaded, loads_from, table_place}
 use Rattle.tz_elf.proofs.Accepted.{Accepted, Accepted-push}
 
 -- a program header that brings bytes which are in the file brings some

@@ -5,10 +5,10 @@ use Rattle.std.specs.Prelude.{nat_le, nat_lt}
 use Rattle.std.proofs.lemmas.Bool.{and_parts, cases_lt, false≢true, leb-true, ltb-true, or_cases}
 use Rattle.std.proofs.lemmas.List.Recursion.{is_sum_by}
 use Rattle.tz_model.specs.declared.board.Region.{Region}
-use Rattle.tz_model.specs.Attribution.{in_region}
+use Rattle.tz_model.specs.Board.{in_region}
 use Rattle.tz_model.specs.Board.{bytes_of}
 use Rattle.tz_model.specs.Image.{SegmentValue, are_clear, bytes_in, clear_of_all, end_of, is_clear_of}
-use Rattle.tz_sem.specs.Placement.{in_some, lies_in}
+use Rattle.tz_elf.specs.Placement.{in_some, lies_in}
 
 -- how many of some bytes from a base on stand below an address
 abbrev pub below : ℕ → ℕ → ℕ → ℕ

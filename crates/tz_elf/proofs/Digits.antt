@@ -6,7 +6,7 @@ use Rattle.tz_model.specs.Board.{within}
 use Rattle.hex.specs.Hex.{decode_of, decode_pairs, decode_sized, hex_digit_value}
 use Rattle.hex.specs.declared.error.FromHexError.{FromHexError}
 use Rattle.hex.proofs.HexLemmas.{decode_of-even, decode_of-odd, decode_sized-twice}
-use Rattle.tz_sem.specs.PlainImage.{byte_of, bytes_of, digit_of, segment_of, segment_with}
+use Rattle.tz_elf.specs.PlainImage.{byte_of, bytes_of, digit_of, segment_of, segment_with}
 
 -- what a decoder's answer is to the definition, which gives no causes
 abbrev pub decoded : Result (List ℕ) FromHexError → Option (List ℕ)

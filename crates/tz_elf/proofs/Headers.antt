@@ -2,15 +2,15 @@
 use Rattle.std.proofs.Common.{◌≡◌, ◌<◌, ◌≤◌, ◌+◌, ◌*◌, ◌-◌, ℕ, suc, refl, sym, subst, arith, List, [], length, drop, slice_index, Option, None, Result, Ok}
 use Rattle.std.specs.Prelude.{IfErr}
 use Rattle.std.proofs.lemmas.Bool.{le-leb, le-ltb}
-use Rattle.tz_sem.specs.Placement.{Refusal, Segments, Test, unless}
-use Rattle.tz_sem.specs.ElfImage.{ProgramHeader, elf_segments, entry_count, half_at, header_refusal, headers_from, load_then, loads_from, program_header, table_place, table_refusal}
+use Rattle.tz_elf.specs.Placement.{Refusal, Segments, Test, unless}
+use Rattle.tz_elf.specs.ElfImage.{ProgramHeader, elf_segments, entry_count, half_field, header_refusal, headers_from, load_then, loads_from, program_header, table_place, table_refusal}
 use Rattle.tz_model.specs.Image.{SegmentValue}
-use Rattle.tz_elf.specs.Refusals.{IsRefusal}
+use Rattle.tz_elf.specs.Refusals.{IsImageRefusal}
 use Rattle.tz_elf.specs.declared.error.ElfError.{ElfError}
 
 -- a file header whose fields are right is refused for its table alone
 pub header_refusal-table : (file : List ℕ) → 52 ≤ length file → slice_index file 0 ≡ 0x7F → slice_index file 1 ≡ 0x45 → slice_index file 2 ≡ 0x4C → slice_index file 3 ≡ 0x46
-    → slice_index file 4 ≡ 1 → slice_index file 5 ≡ 1 → half_at file 16 ≡ 2 → half_at file 18 ≡ 40
+    → slice_index file 4 ≡ 1 → slice_index file 5 ≡ 1 → half_field file 16 ≡ 2 → half_field file 18 ≡ 40
     → header_refusal file ≡ table_refusal file
 header_refusal-table file long f0 f1 f2 f3 f4 f5 kind machine =
     let some : 4 ≤ length file = omega arith in
@@ -18,9 +18,9 @@ header_refusal-table file long f0 f1 f2 f3 f4 f5 kind machine =
 
 -- what is said of a refusal is said of an equal one
 pub refused_as : (r : Result Unit ElfError) (a b : Option Refusal) → a ≡ b
-    → IfErr r (λ e. (follows : Segments) → IsRefusal e (unless b follows)) → IfErr r (λ e. (follows : Segments) → IsRefusal e (unless a follows))
+    → IfErr r (λ e. (follows : Segments) → IsImageRefusal e (unless b follows)) → IfErr r (λ e. (follows : Segments) → IsImageRefusal e (unless a follows))
 refused_as r a b same h =
-    let P : Option Refusal → Type 0 = λ o. IfErr r (λ e. (follows : Segments) → IsRefusal e (unless o follows)) in
+    let P : Option Refusal → Type 0 = λ o. IfErr r (λ e. (follows : Segments) → IsImageRefusal e (unless o follows)) in
     subst P (sym same) h
 
 -- before the first program header

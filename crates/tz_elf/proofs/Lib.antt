@@ -4,6 +4,7 @@ pub mod Lines
 pub mod RefusalLemmas
 pub mod Counting
 pub mod Accepted
+pub mod Taken
 pub mod Images
 pub mod Headers
 pub mod AcceptedLoads

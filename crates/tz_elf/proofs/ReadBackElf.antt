@@ -4,10 +4,10 @@ use Rattle.std.specs.Prelude.{nat_le}
 use Rattle.std.proofs.lemmas.Bool.{and_parts, cases_lt, le-leb, leb-true, ne_eqb, or_right}
 use Rattle.std.proofs.lemmas.List.{append-nil}
 use Rattle.tz_model.specs.Image.{SegmentValue, are_addressed, bytes_in, end_of}
-use Rattle.tz_model.specs.Memory.{entries_from}
-use Rattle.tz_sem.specs.Placement.{no_test}
-use Rattle.tz_sem.specs.ElfImage.{ProgramHeader, all_bytes, brings_bytes, elf_bytes, elf_segments, entries_bytes, entry_bytes, entry_count, entry_size, has_table, header_bytes, header_refusal, headers_from, is_whole, loaded, loads_from, program_header, table_place}
-use Rattle.tz_sem.specs.Images.{pairs_in, pairs_of, pairs_with}
+use Rattle.tz_model.specs.Image.{entries_from}
+use Rattle.tz_elf.specs.Placement.{no_test}
+use Rattle.tz_elf.specs.ElfImage.{ProgramHeader, all_bytes, brings_bytes, elf_bytes, elf_segments, entries_bytes, entry_bytes, entry_count, entry_size, has_table, header_bytes, header_refusal, headers_from, is_whole, loaded, loads_from, program_header, table_place}
+use Rattle.tz_elf.specs.Images.{pairs_in, pairs_of, pairs_with}
 use Rattle.tz_elf.proofs.Counting.{lengths, lengths-bytes_in}
 use Rattle.tz_elf.proofs.ReadBack.{pairs_in-push}
 use Rattle.tz_elf.proofs.Headers.{elf_segments-start, header_refusal-table}

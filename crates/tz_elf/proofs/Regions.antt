@@ -3,8 +3,8 @@ use Rattle.std.proofs.Common.{◌≡◌, ◌<◌, ◌≤◌, ◌+◌, ◌-◌, �
 use Rattle.std.proofs.lemmas.Bool.{cases_lt, or_right}
 use Rattle.std.proofs.lemmas.Bool.Decides.{nat_tests}
 use Rattle.tz_model.specs.declared.board.Region.{Region}
-use Rattle.tz_model.specs.Attribution.{in_region}
-use Rattle.tz_sem.specs.Placement.{in_some, lies_in}
+use Rattle.tz_model.specs.Board.{in_region}
+use Rattle.tz_elf.specs.Placement.{in_some, lies_in}
 
 pub in_region-within : (r : Region) (a : ℕ) → r.base ≤ a → a < r.base + r.size → in_region r a ≡ true
 in_region-within r a low high =

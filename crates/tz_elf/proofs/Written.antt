@@ -5,7 +5,7 @@ use Rattle.std.proofs.lemmas.Bool.{and_parts, cases_lt, leb-true}
 use Rattle.std.proofs.lemmas.List.{append-nil}
 use Rattle.tz_elf.proofs.Digits.{take_whole}
 use Rattle.hex.specs.Hex.{encode_lower, encode_with, lower_digits}
-use Rattle.tz_sem.specs.PlainImage.{digits_of, line_text, lines_text, plain_text, segment_text}
+use Rattle.tz_elf.specs.PlainImage.{digits_of, line_text, lines_text, plain_text, segment_text}
 use Rattle.tz_model.specs.Image.{SegmentValue, are_addressed, end_of}
 
 -- the encoder's digits are those of the definition

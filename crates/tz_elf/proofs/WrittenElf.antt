@@ -1,7 +1,7 @@
 -- ELF images as they are written, part by part.
 use Rattle.std.proofs.Common.{◌≡◌, ◌∙◌, ◌<◌, ◌≤◌, ◌+◌, ℕ, zero, suc, refl, sym, ap, arith, List, [], ◌∷◌, ◌++◌, append_assoc, length, drop, get_or, add-one, drop-cons}
 use Rattle.tz_model.specs.Image.{SegmentValue}
-use Rattle.tz_sem.specs.ElfImage.{all_bytes, entries_bytes, entry_bytes}
+use Rattle.tz_elf.specs.ElfImage.{all_bytes, entries_bytes, entry_bytes}
 use Rattle.tz_elf.proofs.Counting.{lengths}
 
 -- one part behind another

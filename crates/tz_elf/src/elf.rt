@@ -4,13 +4,15 @@
 //! header that brings bytes. Those that bring none aren't looked at, and no other part of a file is.
 
 ghost use Rattle.std.specs.Prelude.{◌≡◌, ◌+◌, ◌^◌, ◌<◌, ◌≤◌, true, length, drop, None, Ok, IfOk, IfErr, OnOk};
-ghost use Rattle.tz_sem.specs.ElfImage as elf;
-ghost use Rattle.tz_sem.specs.Placement.{placed_in};
-ghost use Rattle.tz_elf.specs.Refusals.{IsRefusal};
+ghost use Rattle.tz_elf.specs.ElfImage as elf;
+ghost use Rattle.tz_elf.specs.Placement.{placed_in};
+ghost use Rattle.tz_elf.specs.Refusals.{IsImageRefusal};
 ghost use Rattle.tz_elf.specs.Steps.{HeaderGives, HeaderIsRefused, IsCause};
+ghost use Rattle.tz_elf.specs.Taken.{Keeps};
 
 use crate::error::ElfError;
-use crate::placement::{first_sharing, test_segment};
+use crate::placed::Placed;
+use crate::placement::test_segment;
 use byteorder::{ByteOrder, LittleEndian};
 use std::alloc::{AllocError, Global};
 use std::marker::Model;
@@ -30,7 +32,7 @@ struct ProgramHeader {
 }
 
 impl Model for ProgramHeader {
-    ghost use Rattle.tz_sem.specs.ElfImage as elf;
+    ghost use Rattle.tz_elf.specs.ElfImage as elf;
 
     ghost Value = { elf.ProgramHeader };
 
@@ -67,17 +69,17 @@ impl ProgramHeader {
 }
 
 /// The field of 2 bytes at a place, the low byte first.
-fn half_at(bytes: &[u8], place: usize) -> u16
+fn half_field(bytes: &[u8], place: usize) -> u16
     requires { place + 2 ≤ length bytes.now }
-    ensures { elf.half_at bytes.now place ≡ result }
+    ensures { elf.half_field bytes.now place ≡ result }
 {
     LittleEndian::read_u16(&bytes[place..])
 }
 
 /// The field of 4 bytes at a place, the low byte first.
-fn word_at(bytes: &[u8], place: usize) -> u32
+fn word_field(bytes: &[u8], place: usize) -> u32
     requires { place + 4 ≤ length bytes.now }
-    ensures { elf.word_at bytes.now place ≡ result }
+    ensures { elf.word_field bytes.now place ≡ result }
 {
     LittleEndian::read_u32(&bytes[place..])
 }
@@ -89,9 +91,9 @@ fn test_table(file: &[u8]) -> Result<(), ElfError>
     ensures table { OnOk result (elf.has_table file.now ≡ true) }
     ensures err { IfErr result (IsCause (elf.table_refusal file.now)) }
 {
-    let place = word_at(file, 28);
-    let size = half_at(file, 42);
-    let count = half_at(file, 44);
+    let place = word_field(file, 28);
+    let size = half_field(file, 42);
+    let count = half_field(file, 44);
     if count != 0 && (size != 32 || u64::from(place) + 32 * u64::from(count) > file.len() as u64) {
         return Err(ElfError::HeaderCut);
     }
@@ -114,7 +116,7 @@ fn test_header(file: &[u8]) -> Result<(), ElfError>
     if file[4] != 1 || file[5] != 1 {
         return Err(ElfError::ClassOrOrder);
     }
-    if half_at(file, 16) != 2 || half_at(file, 18) != 40 {
+    if half_field(file, 16) != 2 || half_field(file, 18) != 40 {
         return Err(ElfError::TypeOrMachine);
     }
     test_table(file)
@@ -127,10 +129,10 @@ fn read_program_header(file: &[u8], place: usize) -> ProgramHeader
 {
     let entry = &file[place..];
     ProgramHeader {
-        kind: word_at(entry, 0),
-        offset: word_at(entry, 4),
-        address: word_at(entry, 12),
-        size: word_at(entry, 16),
+        kind: word_field(entry, 0),
+        offset: word_field(entry, 4),
+        address: word_field(entry, 12),
+        size: word_field(entry, 16),
     }
 }
 
@@ -138,16 +140,17 @@ fn read_program_header(file: &[u8], place: usize) -> ProgramHeader
 #[derive(Drop)]
 struct Loads {
     numbers: Vec<u32>,
-    segments: Vec<Segment>,
+    placed: Placed,
 }
 
 /// The index of the program header of the first segment that shares a byte with another.
-fn earlier_header(numbers: &[u32], segment: &Segment, segments: &[Segment]) -> Option<u32>
-    requires paired { length numbers.now ≡ length segments.now }
-    requires few { length segments.now < 2 ^ 32 }
-    ensures { elf.earlier_header numbers.now segment.now segments.now ≡ result }
+fn earlier_header(numbers: &[u32], segment: &Segment, placed: &Placed) -> Option<u32>
+    requires kept { Keeps placed.now }
+    requires paired { length numbers.now ≡ length placed.now.segments.items }
+    requires few { length placed.now.segments.items < 2 ^ 32 }
+    ensures { elf.earlier_header numbers.now segment.now placed.now.segments.items ≡ result }
 {
-    match first_sharing(segments, segment) {
+    match placed.first_sharing(segment) {
         Some(place) => Some(numbers[place as usize]),
         None => None,
     }
@@ -164,15 +167,17 @@ fn add_load(
     header: &ProgramHeader,
     loads: &mut Loads,
 ) -> Result<(), ElfError>
-    requires paired { length loads.old.numbers.items ≡ length loads.old.segments.items }
-    requires few { length loads.old.segments.items < 2 ^ 32 }
+    requires kept { Keeps loads.old.placed }
+    requires paired { length loads.old.numbers.items ≡ length loads.old.placed.segments.items }
+    requires few { length loads.old.placed.segments.items < 2 ^ 32 }
     ensures ok { OnOk result (HeaderGives (placed_in regions.now usable.now) file.now index
-        loads.old.numbers.items loads.old.segments.items header.now
-        loads.new.numbers.items loads.new.segments.items) }
-    ensures paired { OnOk result (length loads.new.numbers.items ≡ length loads.new.segments.items) }
-    ensures grows { OnOk result (length loads.new.segments.items ≤ length loads.old.segments.items + 1) }
+        loads.old.numbers.items loads.old.placed.segments.items header.now
+        loads.new.numbers.items loads.new.placed.segments.items) }
+    ensures kept { OnOk result (Keeps loads.new.placed) }
+    ensures paired { OnOk result (length loads.new.numbers.items ≡ length loads.new.placed.segments.items) }
+    ensures grows { OnOk result (length loads.new.placed.segments.items ≤ length loads.old.placed.segments.items + 1) }
     ensures err { IfErr result (HeaderIsRefused (placed_in regions.now usable.now) file.now index
-        loads.old.numbers.items loads.old.segments.items header.now) }
+        loads.old.numbers.items loads.old.placed.segments.items header.now) }
 {
     if !header.brings_bytes() {
         return Ok(());
@@ -184,14 +189,17 @@ fn add_load(
         Ok(segment) => segment,
         Err(_) => return Err(ElfError::Memory),
     };
-    let earlier = earlier_header(&loads.numbers, &segment, &loads.segments);
+    let earlier = earlier_header(&loads.numbers, &segment, &loads.placed);
     if let Err(error) = test_segment(regions, usable, index, earlier, &segment) {
         return Err(error);
     }
-    if loads.numbers.push(index).is_err() || loads.segments.push(segment).is_err() {
+    if loads.numbers.push(index).is_err() {
         return Err(ElfError::Memory);
     }
-    Ok(())
+    match loads.placed.push(segment) {
+        Ok(()) => Ok(()),
+        Err(_) => Err(ElfError::Memory),
+    }
 }
 
 /// Reads an ELF image whose segments may stand in some of all regions.
@@ -202,17 +210,17 @@ pub fn read_elf(
     usable: &[Region],
 ) -> Result<Vec<Segment>, ElfError>
     ensures ok { IfOk result (λ v. elf.elf_segments (placed_in regions.now usable.now) file.now ≡ Ok v.items) }
-    ensures err { IfErr result (λ e. IsRefusal e (elf.elf_segments (placed_in regions.now usable.now) file.now)) }
+    ensures err { IfErr result (λ e. IsImageRefusal e (elf.elf_segments (placed_in regions.now usable.now) file.now)) }
 {
     if let Err(error) = test_header(file) {
         return Err(error);
     }
-    let table = word_at(file, 28) as usize;
+    let table = word_field(file, 28) as usize;
     let mut loads = Loads {
         numbers: Vec::new(alloc),
-        segments: Vec::new(alloc),
+        placed: Placed::new(alloc),
     };
-    for index in 0..half_at(file, 44) {
+    for index in 0..half_field(file, 44) {
         let header = read_program_header(file, table + 32 * index as usize);
         if let Err(error) = add_load(
             alloc,
@@ -226,5 +234,6 @@ pub fn read_elf(
             return Err(error);
         }
     }
-    Ok(loads.segments)
+    let placed = loads.placed;
+    Ok(placed.segments)
 }

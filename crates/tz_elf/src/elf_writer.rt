@@ -8,8 +8,8 @@ ghost use Rattle.std.specs.Prelude.{◌≡◌, ◌+◌, ◌*◌, ◌<◌, ◌≤
 ghost use Rattle.std.specs.Int.{to_le_bytes, w32};
 ghost use Rattle.tz_model.specs.Board.{most_bytes};
 ghost use Rattle.tz_model.specs.Image.{bytes_in};
-ghost use Rattle.tz_sem.specs.ElfImage.{elf_bytes, entries_bytes, entry_bytes, header_bytes};
-ghost use Rattle.tz_sem.specs.Images.{pairs_in, pairs_of};
+ghost use Rattle.tz_elf.specs.ElfImage.{elf_bytes, entries_bytes, entry_bytes, header_bytes};
+ghost use Rattle.tz_elf.specs.Images.{pairs_in, pairs_of};
 
 use std::alloc::{AllocError, Global};
 use tz_model::{Image, Segment};

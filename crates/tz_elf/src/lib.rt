@@ -7,18 +7,17 @@
 #![tactic(auto)]
 
 ghost use Rattle.std.specs.Prelude.{◌≡◌, ◌^◌, ◌<◌, length, Ok, IfOk, IfErr};
-ghost use Rattle.tz_sem.specs.Images.{image_of, segments_of};
-ghost use Rattle.tz_sem.specs.Placement.{placed_in};
-ghost use Rattle.tz_elf.specs.Refusals.{IsRefusal};
+ghost use Rattle.tz_elf.specs.Images.{image_of, segments_of};
+ghost use Rattle.tz_elf.specs.Placement.{placed_in};
+ghost use Rattle.tz_elf.specs.Refusals.{IsImageRefusal};
 
 mod elf;
 mod elf_writer;
 mod error;
+mod placed;
 mod placement;
 mod plain;
 mod plain_writer;
-#[cfg(test)]
-mod tests;
 
 use elf::read_elf;
 pub use elf_writer::write_image;
@@ -38,7 +37,7 @@ fn read_segments(
 ) -> Result<Vec<Segment>, ElfError>
     requires { length bytes.now < 2 ^ 32 }
     ensures ok { IfOk result (λ v. segments_of (placed_in regions.now usable.now) bytes.now ≡ Ok v.items) }
-    ensures err { IfErr result (λ e. IsRefusal e (segments_of (placed_in regions.now usable.now) bytes.now)) }
+    ensures err { IfErr result (λ e. IsImageRefusal e (segments_of (placed_in regions.now usable.now) bytes.now)) }
 {
     if !bytes.is_empty() && bytes[0] == 0x7F {
         read_elf(alloc, bytes, regions, usable)
@@ -55,10 +54,13 @@ fn read_segments(
 /// `ClassOrOrder`, `TypeOrMachine`, `HeaderCut` for the table of program headers; and then each program
 /// header that brings bytes: `SegmentCut`, `Outside`, `WrongSide`, `Overlap`. `Memory` comes only where
 /// memory runs out.
+///
+/// The time grows with the file, times the logarithm of the number of segments. Beside the segments, of each
+/// its range of addresses is kept while the file is read, in 16 bytes and their place in an ordered map.
 pub fn read_image(alloc: Global, bytes: &[u8], board: &Board, side: Side) -> Result<Image, ElfError>
     requires { length bytes.now < 2 ^ 32 }
     ensures ok { IfOk result (λ i. image_of bytes.now board.now side ≡ Ok i) }
-    ensures err { IfErr result (λ e. IsRefusal e (image_of bytes.now board.now side)) }
+    ensures err { IfErr result (λ e. IsImageRefusal e (image_of bytes.now board.now side)) }
 {
     let regions = board.regions.as_slice();
     let usable = match regions_for(alloc, side, regions) {

@@ -5,7 +5,7 @@
 //! never at single bytes.
 
 ghost use Rattle.std.specs.Prelude.{◌≡◌, ◌^◌, ◌<◌, ◌≤◌, ℕ, false, true, length, None, IfNone, IfOk, IfErr, IfSome, OnOk};
-ghost use Rattle.tz_sem.specs.Placement as placement;
+ghost use Rattle.tz_elf.specs.Placement as placement;
 ghost use Rattle.tz_elf.specs.Steps.{IsCause};
 
 use crate::error::ElfError;

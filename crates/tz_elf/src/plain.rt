@@ -1,20 +1,22 @@
-//! Plain images: lines of an address and bytes in hexadecimal digits.
+//! Plain images: text that says, a line at a time, which bytes stand from which address on.
 //!
-//! A file is read line by line, and its first refusal ends the reading. What a line means stands in the
-//! definitions of plain images.
+//! Each line is judged before the next one is looked at, so the refusal is that of the first bad line.
+//! What a line means is told by the definitions; digits are read by the crate hex.
 
 ghost use Rattle.std.specs.Prelude.{◌≡◌, ◌≢◌, ◌+◌, ◌^◌, ◌<◌, ◌≤◌, ℕ, ◌∷◌, length, slice_index, Ok, IfOk, IfErr, OnOk};
-ghost use Rattle.tz_sem.specs.Placement.{placed_in};
-ghost use Rattle.tz_sem.specs.PlainImage.{lines_of, plain_segments, segment_of, without_return};
-ghost use Rattle.tz_elf.specs.Refusals.{IsRefusal};
+ghost use Rattle.tz_elf.specs.Placement.{placed_in};
+ghost use Rattle.tz_elf.specs.PlainImage.{image_lines, plain_segments, segment_of, without_return};
+ghost use Rattle.tz_elf.specs.Refusals.{IsImageRefusal};
 ghost use Rattle.tz_elf.specs.Steps.{LineGives, LineIsRefused};
+ghost use Rattle.tz_elf.specs.Taken.{Keeps};
 
 use crate::error::ElfError;
-use crate::placement::{first_sharing, test_segment};
+use crate::placed::Placed;
+use crate::placement::test_segment;
 use std::alloc::{AllocError, Global};
 use tz_model::{Region, Segment};
 
-/// The segment of a line: 8 digits, a space, and 1 to 64 bytes as pairs of digits.
+/// The segment that a line tells, or none where the line isn't of the form that tells one.
 fn read_line(alloc: Global, line: &[u8]) -> Result<Option<Segment>, AllocError>
     ensures { IfOk result (λ s. segment_of line.now ≡ s) }
 {
@@ -54,7 +56,7 @@ fn feed_at(text: &[u8]) -> usize
 /// The first line, without its line feed, and what follows it.
 fn first_line(text: &[u8]) -> (&[u8], &[u8])
     requires { 0 < length text.now }
-    ensures lines { lines_of text.now ≡ result.0.now ∷ lines_of result.1.now }
+    ensures lines { image_lines text.now ≡ result.0.now ∷ image_lines result.1.now }
     ensures shorter { length result.1.now < length text.now }
 {
     let end = feed_at(text);
@@ -84,13 +86,16 @@ fn add_line(
     usable: &[Region],
     number: u32,
     line: &[u8],
-    segments: &mut Vec<Segment>,
+    placed: &mut Placed,
 ) -> Result<(), ElfError>
-    requires { length segments.old.items < 2 ^ 32 }
+    requires kept { Keeps placed.old }
+    requires few { length placed.old.segments.items < 2 ^ 32 }
     ensures ok { OnOk result (LineGives (placed_in regions.now usable.now) number
-        segments.old.items line.now segments.new.items) }
-    ensures grows { length segments.new.items ≤ length segments.old.items + 1 }
-    ensures err { IfErr result (LineIsRefused (placed_in regions.now usable.now) number segments.old.items line.now) }
+        placed.old.segments.items line.now placed.new.segments.items) }
+    ensures kept { OnOk result (Keeps placed.new) }
+    ensures grows { OnOk result (length placed.new.segments.items ≤ length placed.old.segments.items + 1) }
+    ensures err { IfErr result (LineIsRefused (placed_in regions.now usable.now) number
+        placed.old.segments.items line.now) }
 {
     if line.is_empty() {
         return Ok(());
@@ -100,11 +105,12 @@ fn add_line(
         Ok(None) => return Err(ElfError::Hex(number)),
         Err(_) => return Err(ElfError::Memory),
     };
-    let earlier = first_sharing(segments, &segment);
-    if let Err(error) = test_segment(regions, usable, segments.len() as u32, earlier, &segment) {
+    let index = placed.segments.len() as u32;
+    let earlier = placed.first_sharing(&segment);
+    if let Err(error) = test_segment(regions, usable, index, earlier, &segment) {
         return Err(error);
     }
-    match segments.push(segment) {
+    match placed.push(segment) {
         Ok(()) => Ok(()),
         Err(_) => Err(ElfError::Memory),
     }
@@ -119,19 +125,19 @@ pub fn read_plain(
 ) -> Result<Vec<Segment>, ElfError>
     requires { length file.now < 2 ^ 32 }
     ensures ok { IfOk result (λ v. plain_segments (placed_in regions.now usable.now) file.now ≡ Ok v.items) }
-    ensures err { IfErr result (λ e. IsRefusal e (plain_segments (placed_in regions.now usable.now) file.now)) }
+    ensures err { IfErr result (λ e. IsImageRefusal e (plain_segments (placed_in regions.now usable.now) file.now)) }
 {
-    let mut segments = Vec::new(alloc);
+    let mut placed = Placed::new(alloc);
     let mut rest = file;
     let mut number: u64 = 1;
     while !rest.is_empty() {
         let (whole, after) = first_line(rest);
         let line = line_without_return(whole);
-        if let Err(error) = add_line(alloc, regions, usable, number as u32, line, &mut segments) {
+        if let Err(error) = add_line(alloc, regions, usable, number as u32, line, &mut placed) {
             return Err(error);
         }
         number += 1;
         rest = after;
     }
-    Ok(segments)
+    Ok(placed.segments)
 }

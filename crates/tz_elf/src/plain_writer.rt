@@ -5,8 +5,8 @@
 
 ghost use Rattle.std.specs.Prelude.{◌≡◌, ◌+◌, ◌^◌, ◌<◌, ◌≤◌, ℕ, [], ◌∷◌, ◌++◌, slice_index, Ok, IfOk, OnOk};
 ghost use Rattle.tz_model.specs.Image.{end_of};
-ghost use Rattle.tz_sem.specs.Images.{pairs_in, pairs_of};
-ghost use Rattle.tz_sem.specs.PlainImage.{line_text, plain_text, segment_text};
+ghost use Rattle.tz_elf.specs.Images.{pairs_in, pairs_of};
+ghost use Rattle.tz_elf.specs.PlainImage.{line_text, plain_text, segment_text};
 
 use std::alloc::{AllocError, Global};
 use tz_model::{Image, Segment};

@@ -4,22 +4,25 @@
 //! the steps from the machine's state on. It takes no memory, and knows nothing of where bytes go.
 #![tactic(auto)]
 
-ghost use Rattle.std.specs.Prelude.{◌≡◌, OnOk};
+ghost use Rattle.std.specs.Prelude.{◌≡◌, ◌<◌, OnOk};
 ghost use Rattle.tz_model.specs.Outside.{HasCause, Put};
 ghost use Rattle.tz_sem.specs.Run.{state_after};
-ghost use Rattle.tz_sem.specs.Text.{text_from};
+ghost use Rattle.tz_twin.specs.Trace.{text_from};
+ghost use Rattle.tz_run.specs.Events.{events_of};
 
 #[cfg(test)]
 mod tests;
 
+use std::marker::Brand;
+use std::sync::ledger::{Blank, Ledger};
 use tz_board::Script;
 use tz_core::Machine;
-use tz_model::{Sink, SinkError, View};
-use tz_text::line;
+use tz_model::{Report, Sink, SinkError, View};
+use tz_ready::Steps;
+use tz_text::{Line, push_line};
 
-/// Runs `steps` steps and writes a line for each, numbered from 0.
-///
-/// The script's events are passed over: no step takes an exception yet.
+/// Runs `steps` steps and writes a line for each, numbered from 0. At each step its events of the script
+/// are due.
 ///
 /// A line that can't be written is the one error. The run ends there: the lines before it went out, and
 /// the machine stands after the step whose line failed.
@@ -30,14 +33,37 @@ pub fn run<O: Sink>(
     view: View,
     out: &mut O,
 ) -> Result<(), SinkError>
-    ensures put { Put (O.written out.old) (O.written out.new) (O.space out.old) (O.space out.new) (text_from view 0 machine.old steps) result }
+    ensures put { Put (O.written out.old) (O.written out.new) (O.space out.old) (O.space out.new) (text_from view (events_of script.now) 0 machine.old steps) result }
     ensures cause { HasCause (O.faults out.old) (O.faults out.new) (result ≡ Err SinkError.Failed) }
-    ensures state { OnOk result (machine.new ≡ state_after machine.old steps) }
+    ensures state { OnOk result (machine.new ≡ state_after (events_of script.now) 0 machine.old steps) }
 {
-    let _script = script;
+    run_counted::<Brand, O>(Blank::new(1), machine, script, steps, view, out)
+}
+
+/// The run, over a ledger of the looks into the script. One report and one line serve all steps.
+fn run_counted<L: Ledger, O: Sink>(
+    blank: Blank,
+    machine: &mut Machine,
+    script: &Script,
+    steps: u32,
+    view: View,
+    out: &mut O,
+) -> Result<(), SinkError>
+    requires name { blank.name ≡ L.name }
+    requires parts { blank.parts ≡ L.parts }
+    requires some_part { 0 < blank.parts }
+    ensures put { Put (O.written out.old) (O.written out.new) (O.space out.old) (O.space out.new) (text_from view (events_of script.now) 0 machine.old steps) result }
+    ensures cause { HasCause (O.faults out.old) (O.faults out.new) (result ≡ Err SinkError.Failed) }
+    ensures state { OnOk result (machine.new ≡ state_after (events_of script.now) 0 machine.old steps) }
+{
+    let mut looks = Steps::<L>::start(blank);
+    let mut report = Report::new();
+    let mut text = Line::new();
     for step in 0..steps {
-        let report = machine.step(&[]);
-        let text = line(&report, step, view);
+        let due = script.due(step, &mut looks);
+        machine.step_into(due, &mut report);
+        text.clear();
+        push_line(&mut text, &report, step, view);
         if let Err(error) = out.put(text.as_str().as_bytes()) {
             return Err(error);
         }

@@ -4,63 +4,9 @@
 use crate::run;
 use std::alloc::{AllocError, Global};
 use std::test::Fail;
-use tz_board::Script;
+use tz_board::{Script, demo_board};
 use tz_core::Machine;
-use tz_model::{
-    Board, FailingSink, Image, MemorySink, Profile, Region, RegionKind, RegionSide, SauRegion,
-    Segment, SinkError, View,
-};
-
-/// Secure and callable flash, Non-secure flash, and Secure RAM.
-fn board(alloc: Global) -> Result<Board, AllocError> {
-    Ok(Board {
-        secure_vtor: 0x10000000,
-        nonsecure_vtor: 0x00200000,
-        interrupts: 8,
-        sau_regions: 8,
-        mpu_secure: 8,
-        mpu_nonsecure: 8,
-        profile: Profile::V80,
-        regions: vec![in alloc;
-            Region {
-                base: 0x10000000,
-                size: 0x8000,
-                kind: RegionKind::Rom,
-                side: RegionSide::Secure
-            },
-            Region {
-                base: 0x10008000,
-                size: 0x8000,
-                kind: RegionKind::Rom,
-                side: RegionSide::Nsc
-            },
-            Region {
-                base: 0x00200000,
-                size: 0x10000,
-                kind: RegionKind::Rom,
-                side: RegionSide::NonSecure
-            },
-            Region {
-                base: 0x30000000,
-                size: 0x8000,
-                kind: RegionKind::Ram,
-                side: RegionSide::Secure
-            },
-        ]?,
-        sau: vec![in alloc;
-            SauRegion {
-                base: 0x00200000,
-                limit: 0x0020ffff,
-                nsc: false
-            },
-            SauRegion {
-                base: 0x10008000,
-                limit: 0x1000ffff,
-                nsc: true
-            },
-        ]?,
-    })
-}
+use tz_model::{FailingSink, Image, MemorySink, Segment, SinkError, View};
 
 /// Loads the Non-secure start from a literal and goes there; at the gateway, sets R0 and returns.
 fn secure_image(alloc: Global) -> Result<Image, AllocError> {
@@ -112,7 +58,7 @@ fn calling(alloc: Global) -> Result<Image, AllocError> {
 }
 
 fn machine(alloc: Global, nonsecure: &Image) -> Result<Machine, AllocError> {
-    let board = board(alloc)?;
+    let board = demo_board(alloc)?;
     let secure = secure_image(alloc)?;
     Machine::new(alloc, &board, &secure, nonsecure)
 }

@@ -1,9 +1,9 @@
 use Rattle.std.proofs.Common.{◌∙◌, ap, List}
 use Rattle.tz_model.specs.Board.{BoardValue}
 use Rattle.tz_model.specs.declared.board.Region.{Region}
-use Rattle.tz_sem.specs.Placement.{image_with}
+use Rattle.tz_elf.specs.Placement.{image_with}
 use Rattle.tz_elf.proofs.Images.{IsImage-board, image_of-segments, segments_of-accepted}
-use Rattle.tz_elf.proofs.RefusalLemmas.{IsRefusal-image_along}
+use Rattle.tz_elf.proofs.RefusalLemmas.{IsImageRefusal-image_along}
 use Rattle.tz_elf.proofs.read_image.Goals as goal
 
 abbrev regions_of : BoardValue → List Region
@@ -24,7 +24,7 @@ returns-in-Ok-read_segments-clause-ok c =
 
 pub returns-clause-err : goal.returns-clause-err
 returns-clause-err c =
-    IsRefusal-image_along c.in-Err-read_segments.error _ _
+    IsImageRefusal-image_along c.in-Err-read_segments.error _ _
     (image_of-segments c.args.bytes.now c.args.board.now c.args.side c.as_slice-regions.result.now c.as_slice.result.now
     (c.as_slice-regions.ensures.value ∙ ap regions_of c.board.view_is) (c.as_slice.ensures.value ∙ c.in-Ok.ensures))
     c.in-Err-read_segments.ensures.err

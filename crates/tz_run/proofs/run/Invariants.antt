@@ -1,9 +1,4 @@
-use Rattle.std.proofs.Common.{◌≤◌}
-use Rattle.tz_run.proofs.Lines.{SoFar}
 use Rattle.tz_run.proofs.run.Given as goal
 
-abbrev pub invariant-loop-step : goal.invariant-loop-step
-invariant-loop-step g l = record {
-  lines : SoFar l.view (g.O.Sink.written l.fn.out) (g.O.Sink.written l.out) (g.O.Sink.space l.fn.out) (g.O.Sink.space l.out) l.fn.machine l.machine l.step l.steps;
-  later : g.O.Sink.faults l.fn.out ≤ g.O.Sink.faults l.out;
-}
+abbrev pub ghosts-run_counted : goal.ghosts-run_counted
+ghosts-run_counted g a = record { name = a.blank.name; parts = a.blank.parts }

@@ -1,5 +1,5 @@
 use Rattle.std.proofs.Common.{refl}
-use Rattle.tz_sem.specs.Demo.{demo}
+use Rattle.tz_board.specs.Demo.{demo}
 use Rattle.tz_board.proofs.demo.demo_board.Goals as goal
 
 pub returns : goal.returns

@@ -2,14 +2,14 @@ use Rattle.std.proofs.Common.{◌∙◌, List, ap, arith, length, sym}
 use Rattle.std.proofs.lemmas.Bool.{eqb-true}
 use Rattle.std.proofs.lemmas.List.{length-append}
 use Rattle.std.proofs.lemmas.Result.{IfErr-weaker, IfOk-weaker}
-use Rattle.tz_sem.specs.Scripts.{Timed, lines_of, script_from, script_of}
+use Rattle.tz_board.specs.Scripts.{Timed, script_lines, script_from, script_of}
 use Rattle.tz_board.proofs.ScriptLines.{goes_on, last_line, no_line, stops}
 use Rattle.tz_board.proofs.script_file.read_lines.Goals as goal
 
 pub loop-line-init : goal.loop-line-init
 unfolding script_of
 loop-line-init c = record {
-  read = ap (λ (events : List Timed). script_from c.args.interrupts 1 events (lines_of c.args.bytes.now)) (sym c.none-script.ensures);
+  read = ap (λ (events : List Timed). script_from c.args.interrupts 1 events (script_lines c.args.bytes.now)) (sym c.none-script.ensures);
   counted = omega arith;
 }
 

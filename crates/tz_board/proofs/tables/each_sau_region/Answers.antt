@@ -1,6 +1,6 @@
 use Rattle.std.proofs.Common.{◌∙◌, ◌+◌, ℕ, ap, subst, sym, drop}
 use Rattle.toml.specs.View.{table_view}
-use Rattle.tz_board.specs.BoardErrors.{IsRefusal}
+use Rattle.tz_board.specs.BoardErrors.{IsBoardRefusal}
 use Rattle.tz_board.specs.Boards.{each, sau_region_in}
 use Rattle.tz_board.specs.Tables.{views}
 use Rattle.tz_board.proofs.Accepted.{are_sau_regions-last}
@@ -9,8 +9,8 @@ use Rattle.tz_board.proofs.tables.each_sau_region.Goals as goal
 
 pub returns-in-Err-clause-err : goal.returns-in-Err-clause-err
 returns-in-Err-clause-err c =
-    let here : IsRefusal c.in-Err.error (sau_region_in c.loop-index.index (table_view c.index-tables-index.result.now)) =
-    subst (λ (i : ℕ). IsRefusal c.in-Err.error (sau_region_in i (table_view c.index-tables-index.result.now))) c.in-Ok.ensures.1 c.in-Err.ensures.err in
+    let here : IsBoardRefusal c.in-Err.error (sau_region_in c.loop-index.index (table_view c.index-tables-index.result.now)) =
+    subst (λ (i : ℕ). IsBoardRefusal c.in-Err.error (sau_region_in i (table_view c.index-tables-index.result.now))) c.in-Ok.ensures.1 c.in-Err.ensures.err in
     rw c.loop-index.invariant.read (read_stops c.in-Err.error sau_region_in c.args.tables.now c.loop-index.index c.index-tables-index.result c.loop-index.regions.items c.loop-index-test.true c.index-tables-index.is here)
 
 pub loop-index-preserved : goal.loop-index-preserved

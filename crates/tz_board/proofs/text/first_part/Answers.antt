@@ -1,6 +1,6 @@
 use Rattle.std.proofs.Common.{◌∙◌, ◌<◌, ap, arith, length, sym}
 use Rattle.std.proofs.lemmas.Bool.{eqb-false, eqb-true}
-use Rattle.tz_sem.specs.Scripts.{parts_of}
+use Rattle.tz_board.specs.Scripts.{parts_of}
 use Rattle.tz_board.proofs.Pieces.{parts_of-cut, parts_of-last, parts_of-none, parts_of-skip}
 use Rattle.tz_board.proofs.text.first_part.Goals as goal
 

@@ -1,5 +1,5 @@
 use Rattle.std.proofs.Common.{◌≡◌, length}
-use Rattle.tz_sem.specs.Scripts.{parts_of}
+use Rattle.tz_board.specs.Scripts.{parts_of}
 use Rattle.tz_board.proofs.text.first_part.Given as goal
 
 abbrev pub invariant-loop-part : goal.invariant-loop-part

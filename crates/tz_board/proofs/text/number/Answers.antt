@@ -1,6 +1,6 @@
 use Rattle.std.proofs.Common.{◌∙◌, ◌+◌, ◌*◌, ◌^◌, ◌<◌, ◌≤◌, ℕ, arith, ap, drop, length, sym}
 use Rattle.std.proofs.lemmas.Bool.{eqb-false, eqb-true}
-use Rattle.tz_sem.specs.Scripts.{digits_from}
+use Rattle.tz_board.specs.Scripts.{digits_from}
 use Rattle.tz_board.proofs.Digits.{all_digits, fits_eight, longer, no_digit, number_of-digits, number_of-long, number_of-none, one_digit}
 use Rattle.tz_board.proofs.text.number.Goals as goal
 use Rattle.tz_board.proofs.text.number.Goals.{then-is_empty-via-then-is_empty, then-is_empty-via-else-is_empty+then-part-gt8}

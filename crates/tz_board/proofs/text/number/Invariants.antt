@@ -1,5 +1,5 @@
 use Rattle.std.proofs.Common.{◌≡◌, ◌<◌, ◌^◌, drop}
-use Rattle.tz_sem.specs.Scripts.{digits_from}
+use Rattle.tz_board.specs.Scripts.{digits_from}
 use Rattle.tz_board.proofs.text.number.Given as goal
 
 abbrev pub invariant-loop-b : goal.invariant-loop-b

@@ -1,6 +1,6 @@
 -- Each clause is what the answer says.
-use Rattle.std.proofs.Common.{map, Global}
-use Rattle.tz_cli.proofs.Clauses.{usage_only, settled_stop, settled_job, unread_only, unwritten_only, refused_only, trace_written, nothing_told, no_stop, quiet_else, memory_told, front_written, room_suffices, sound_reads, isolated_trace, one_status}
+use Rattle.std.proofs.Common.{refl}
+use Rattle.tz_cli.proofs.Clauses.{usage_only, settled_stop, settled_task, unread_only, unwritten_only, cut_only, refused_only, memory_told, one_status, task_written, nothing_told, no_stop, quiet_else, front_written, room_suffices, sound_reads, trace_written, isolated_trace}
 use Rattle.tz_cli.proofs.program.top.Goals as goal
 
 pub returns-clause-usage : goal.returns-clause-usage
@@ -10,10 +10,13 @@ pub returns-clause-stops : goal.returns-clause-stops
 returns-clause-stops g c = settled_stop _ _ c.answer.ensures
 
 pub returns-clause-unread : goal.returns-clause-unread
-returns-clause-unread g c = unread_only _ _ c.answer.ensures
+returns-clause-unread g c = unread_only _ _ _ refl c.answer.ensures
 
 pub returns-clause-unwritten : goal.returns-clause-unwritten
 returns-clause-unwritten g c = unwritten_only _ _ c.answer.ensures
+
+pub returns-clause-cut : goal.returns-clause-cut
+returns-clause-cut g c = cut_only _ _ _ refl c.answer.ensures
 
 pub returns-clause-refused : goal.returns-clause-refused
 returns-clause-refused g c = refused_only _ _ c.answer.ensures
@@ -24,8 +27,8 @@ returns-clause-memory g c = memory_told _ _ c.answer.ensures
 pub returns-clause-one_of : goal.returns-clause-one_of
 returns-clause-one_of g c = one_status _ _ c.answer.ensures
 
-pub returns-clause-trace : goal.returns-clause-trace
-returns-clause-trace g c = trace_written _ _ c.answer.ensures
+pub returns-clause-done : goal.returns-clause-done
+returns-clause-done g c = task_written _ _ c.answer.ensures
 
 pub returns-clause-accepted : goal.returns-clause-accepted
 returns-clause-accepted g c = no_stop _ _ c.answer.ensures
@@ -40,7 +43,7 @@ pub returns-clause-front : goal.returns-clause-front
 returns-clause-front g c = front_written _ _ c.answer.ensures
 
 pub returns-clause-complete : goal.returns-clause-complete
-returns-clause-complete g c = settled_job _ _ c.answer.ensures
+returns-clause-complete g c = settled_task _ _ c.answer.ensures
 
 pub returns-clause-sound : goal.returns-clause-sound
 returns-clause-sound g c = sound_reads _ _ c.answer.ensures
@@ -48,5 +51,8 @@ returns-clause-sound g c = sound_reads _ _ c.answer.ensures
 pub returns-clause-room : goal.returns-clause-room
 returns-clause-room g c = room_suffices _ _ c.answer.ensures
 
+pub returns-clause-trace : goal.returns-clause-trace
+returns-clause-trace g c = trace_written _ _ c.answer.ensures
+
 pub returns-clause-isolation : goal.returns-clause-isolation
-returns-clause-isolation g c = λ done job told view other image accepted agree. isolated_trace _ _ c.answer.ensures done job told view image agree
+returns-clause-isolation g c = λ done r run job told view other image accepted agree. isolated_trace _ _ c.answer.ensures done r run job told view image agree

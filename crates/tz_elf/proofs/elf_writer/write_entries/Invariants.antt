@@ -1,5 +1,5 @@
 use Rattle.std.proofs.Common.{◌≡◌, ◌+◌, ◌*◌, ◌≤◌, ◌++◌, drop, length}
-use Rattle.tz_sem.specs.ElfImage.{entries_bytes}
+use Rattle.tz_elf.specs.ElfImage.{entries_bytes}
 use Rattle.tz_elf.proofs.Counting.{lengths}
 use Rattle.tz_elf.proofs.elf_writer.write_entries.Given as goal
 

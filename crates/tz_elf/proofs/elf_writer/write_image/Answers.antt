@@ -2,8 +2,8 @@ use Rattle.std.proofs.Common.{◌∙◌, ap, arith, length, List, ℕ, Result, O
 use Rattle.std.proofs.lemmas.Bool.{leb-true}
 use Rattle.tz_model.specs.Board.{most_bytes}
 use Rattle.tz_model.specs.Image.{ImageValue, SegmentValue}
-use Rattle.tz_sem.specs.ElfImage.{elf_bytes}
-use Rattle.tz_sem.specs.Images.{Refusal, pairs_in, pairs_of}
+use Rattle.tz_elf.specs.ElfImage.{elf_bytes}
+use Rattle.tz_elf.specs.Images.{Refusal, pairs_in, pairs_of}
 use Rattle.tz_elf.proofs.ReadBackElf.{pairs_of-elf_bytes}
 use Rattle.tz_elf.proofs.Written.{written-all, written-more}
 use Rattle.tz_elf.proofs.WrittenElf.{all_bytes-item, all_bytes-none}

@@ -1,5 +1,5 @@
 use Rattle.std.proofs.Common.{◌≡◌, ◌++◌, drop}
-use Rattle.tz_sem.specs.ElfImage.{all_bytes, elf_bytes}
+use Rattle.tz_elf.specs.ElfImage.{all_bytes, elf_bytes}
 use Rattle.tz_elf.proofs.elf_writer.write_image.Given as goal
 
 abbrev pub invariant-loop-segment : goal.invariant-loop-segment

@@ -1,5 +1,5 @@
 use Rattle.std.proofs.Common.{◌≡◌, drop}
-use Rattle.tz_sem.specs.Placement.{in_some}
+use Rattle.tz_elf.specs.Placement.{in_some}
 use Rattle.tz_elf.proofs.placement.end_at.Given as goal
 
 abbrev pub invariant-loop-region : goal.invariant-loop-region

@@ -1,5 +1,5 @@
 use Rattle.std.proofs.Common.{◌≡◌, drop}
-use Rattle.tz_sem.specs.Placement.{first_sharing}
+use Rattle.tz_elf.specs.Placement.{first_sharing}
 use Rattle.tz_elf.proofs.placement.first_sharing.Given as goal
 
 abbrev pub invariant-loop-place : goal.invariant-loop-place

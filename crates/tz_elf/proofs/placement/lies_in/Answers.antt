@@ -1,5 +1,5 @@
 use Rattle.std.proofs.Common.{◌≡◌, ◌∙◌, ◌<◌, ◌+◌, ◌-◌, ap, arith}
-use Rattle.tz_sem.specs.Placement.{lies_in}
+use Rattle.tz_elf.specs.Placement.{lies_in}
 use Rattle.tz_elf.proofs.Regions.{lies_in-none, lies_in-outside, lies_in-skip}
 use Rattle.tz_elf.proofs.placement.lies_in.Goals as goal
 

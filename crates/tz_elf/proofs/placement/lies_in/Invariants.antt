@@ -1,5 +1,5 @@
 use Rattle.std.proofs.Common.{◌≡◌, ◌≤◌, ◌-◌}
-use Rattle.tz_sem.specs.Placement.{lies_in}
+use Rattle.tz_elf.specs.Placement.{lies_in}
 use Rattle.tz_elf.proofs.placement.lies_in.Given as goal
 
 abbrev pub invariant-loop-at : goal.invariant-loop-at

@@ -1,5 +1,5 @@
 use Rattle.std.proofs.Common.{◌∙◌, ap}
-use Rattle.tz_sem.specs.PlainImage.{digits_of}
+use Rattle.tz_elf.specs.PlainImage.{digits_of}
 use Rattle.tz_elf.proofs.Written.{digits_of-encode_lower, line-written}
 use Rattle.tz_elf.proofs.plain_writer.write_line.Goals as goal
 

@@ -1,9 +1,9 @@
 use Rattle.std.proofs.Common.{◌∙◌, ap, List, ℕ, Result, Ok}
 use Rattle.std.proofs.lemmas.List.{take_all}
-use Rattle.tz_sem.specs.Images.{Refusal, pairs_in, pairs_of}
+use Rattle.tz_elf.specs.Images.{Refusal, pairs_in, pairs_of}
 use Rattle.tz_elf.proofs.ReadBack.{pairs_of-plain_text}
 use Rattle.tz_model.specs.Image.{ImageValue, SegmentValue}
-use Rattle.tz_sem.specs.PlainImage.{plain_text}
+use Rattle.tz_elf.specs.PlainImage.{plain_text}
 use Rattle.tz_elf.proofs.Written.{HoldBytes, HoldBytes-more, addressed-item, plain_text-item, plain_text-none, written-all, written-more}
 use Rattle.tz_elf.proofs.plain_writer.write_plain.Goals as goal
 

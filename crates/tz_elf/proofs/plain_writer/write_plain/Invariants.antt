@@ -1,5 +1,5 @@
 use Rattle.std.proofs.Common.{◌≡◌, ◌++◌, drop, take}
-use Rattle.tz_sem.specs.PlainImage.{plain_text}
+use Rattle.tz_elf.specs.PlainImage.{plain_text}
 use Rattle.tz_elf.proofs.Written.{HoldBytes}
 use Rattle.tz_elf.proofs.plain_writer.write_plain.Given as goal
 

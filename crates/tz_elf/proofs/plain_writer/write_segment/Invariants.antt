@@ -1,5 +1,5 @@
 use Rattle.std.proofs.Common.{length, ◌-◌, ◌≡◌, ◌+◌, ◌/◌, ◌≤◌, ◌++◌, drop}
-use Rattle.tz_sem.specs.PlainImage.{lines_text, segment_text}
+use Rattle.tz_elf.specs.PlainImage.{lines_text, segment_text}
 use Rattle.tz_elf.proofs.plain_writer.write_segment.Given as goal
 
 abbrev pub invariant-loop-at : goal.invariant-loop-at

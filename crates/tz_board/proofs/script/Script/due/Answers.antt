@@ -1,6 +1,6 @@
 use Rattle.std.proofs.Common.{◌∙◌, ap, arith, length, sym}
 use Rattle.std.proofs.lemmas.Bool.{leb-true}
-use Rattle.tz_sem.specs.Scripts.{due_at}
+use Rattle.tz_board.specs.Scripts.{due_at}
 use Rattle.tz_board.specs.Script.{all_timed}
 use Rattle.tz_board.specs.declared.script.Moment.{Moment}
 use Rattle.tz_board.proofs.Moments.{due_at-found, due_at-none, moments_few}

@@ -1,5 +1,5 @@
 use Rattle.std.proofs.Common.{◌∙◌, ap, sym}
-use Rattle.tz_sem.specs.Scripts.{last_step}
+use Rattle.tz_board.specs.Scripts.{last_step}
 use Rattle.tz_board.proofs.Opening.{last_moment, no_moment}
 use Rattle.tz_board.proofs.script.Script.last_step.Goals as goal
 

@@ -1,6 +1,6 @@
 use Rattle.std.proofs.Common.{◌∙◌, ◌<◌, ◌≤◌, ◌++◌, ◌∷◌, ◌+◌, ℕ, [], List, ap, length, refl, sym}
 use Rattle.std.proofs.lemmas.List.{length_push}
-use Rattle.tz_sem.specs.Scripts.{Timed, last_step, most_events}
+use Rattle.tz_board.specs.Scripts.{Timed, last_step, most_events}
 use Rattle.tz_board.specs.Script.{all_timed}
 use Rattle.tz_board.specs.declared.script.Moment.{Moment}
 use Rattle.tz_board.proofs.Opening.{all_timed-push, kept_push}

@@ -1,6 +1,0 @@
-use Rattle.std.proofs.Common.{arith}
-use Rattle.tz_cli.proofs.Counts.{is_count-by_index}
-use Rattle.tz_cli.proofs.words.is_count.Goals as goal
-
-pub returns : goal.returns
-returns c = is_count-by_index c.args.word.now c.are_digits.result (omega arith) (omega arith) c.are_digits.ensures

@@ -1,0 +1,6 @@
+pub mod Parts
+pub mod Leaf
+pub mod Found
+pub mod Counts
+pub mod Run
+pub mod Commands
