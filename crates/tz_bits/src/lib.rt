@@ -10,8 +10,6 @@ mod constants;
 mod fields;
 mod shifts;
 mod sums;
-#[cfg(test)]
-mod tests;
 
 pub use constants::expand_imm_c;
 pub use fields::{bit_field, sign_extend};

@@ -1,4 +1,3 @@
 pub mod Reached
 pub mod Exits
 pub mod Clauses
-pub mod Reading

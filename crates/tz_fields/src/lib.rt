@@ -15,8 +15,6 @@ mod forms;
 mod kinds;
 mod names;
 mod numbers;
-#[cfg(test)]
-mod tests;
 
 use crate::forms::{form_number, form_words};
 use crate::numbers::numbers;

@@ -12,8 +12,6 @@ mod outside;
 mod report;
 mod shelf_double;
 mod sink_double;
-#[cfg(test)]
-mod tests;
 
 pub use board::{Board, Profile, Region, RegionKind, RegionSide, SauRegion};
 pub use fetch::{FetchAnswer, Fetched};

@@ -6,8 +6,6 @@
 
 mod instructions;
 mod lines;
-#[cfg(test)]
-mod tests;
 
 pub use instructions::Line;
 pub use lines::{line, push_line};

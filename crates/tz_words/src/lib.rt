@@ -11,8 +11,6 @@ ghost use Rattle.tz_words.specs.Commands.{command_in, command_of};
 mod counts;
 mod leaf;
 mod run;
-#[cfg(test)]
-mod tests;
 
 pub use run::RunWords;
 use run::words_behind_run;

@@ -1,9 +1,9 @@
 //! Lines of the worked examples, and one of each kind and shape.
 
-use crate::{Line, View, line};
 use arrayvec::ArrayVec;
 use std::test::Fail;
 use tz_model::{Change, Code, Report, Side, Size, StepKind, Store};
+use tz_text::{Line, View, line};
 
 const SECURE: Side = Side::Secure;
 

@@ -1,18 +1,10 @@
 //! Lists of words that are accepted, with what they say, and lists that are refused.
 
-use crate::{Command, command_words};
+use crate::words_of;
 use std::alloc::Global;
 use std::test::Fail;
 use tz_model::View;
-
-/// The words of one line, of which single spaces are between words.
-fn words_of(alloc: Global, line: &str) -> Result<Vec<String>, Fail> {
-    let mut words = Vec::new(alloc);
-    for word in line.split(' ') {
-        words.push(String::from_str(alloc, word)?)?;
-    }
-    Ok(words)
-}
+use tz_words::{Command, command_words};
 
 /// What `run` is told, as one line: the names between `|`, the steps and the view.
 fn told(alloc: Global, line: &str) -> Result<String, Fail> {

@@ -1,9 +1,10 @@
 //! The top call over shelves and sinks in memory: statuses, what is written, and the lines on standard
 //! error.
 
-use crate::program::top;
+use crate::words_of;
 use std::alloc::{AllocError, Global};
 use std::test::Fail;
+use tz_cli::top;
 use tz_model::{FailingShelf, FailingSink, File, MemoryShelf, MemorySink};
 
 const SECURE: &str = "10000000 0010003041000010\n10000040 0048044740002000\n";
@@ -12,15 +13,6 @@ const NONSECURE: &str = "00200040 0520fee7\n";
 
 const TRACE: &str =
     "0 S\n1 S\n2 N 00200040 2005 movs r0, #5 r0=00000005\n3 N 00200042 e7fe b 0x00200042\n";
-
-/// The words of one line, of which single spaces are between words.
-fn words_of(alloc: Global, line: &str) -> Result<Vec<String>, AllocError> {
-    let mut words = Vec::new(alloc);
-    for word in line.split(' ') {
-        words.push(String::from_str(alloc, word)?)?;
-    }
-    Ok(words)
-}
 
 fn file(alloc: Global, name: &str, bytes: &str) -> Result<File, AllocError> {
     Ok(File {

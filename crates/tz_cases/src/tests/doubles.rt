@@ -1,11 +1,11 @@
 //! The doubles of the outside at work, and a board copied.
 
-use crate::{
+use std::alloc::{AllocError, Global};
+use std::test::Fail;
+use tz_model::{
     Board, FailingShelf, FailingSink, File, MemoryShelf, MemorySink, Profile, Region, RegionKind,
     RegionSide, SauRegion, Shelf, ShelfError, Sink,
 };
-use std::alloc::{AllocError, Global};
-use std::test::Fail;
 
 /// One file, `a`, of the bytes `hello`.
 fn files(alloc: Global) -> Result<Vec<File>, AllocError> {

@@ -1,6 +1,6 @@
 //! Worked values: sums at the edges of words, and constants as GNU binutils 2.40 encodes them.
 
-use crate::{add_with_carry, bit_field, expand_imm_c, shift_c, sign_extend};
+use tz_bits::{add_with_carry, bit_field, expand_imm_c, shift_c, sign_extend};
 use tz_table::Shift;
 
 #[test]

@@ -1,12 +1,12 @@
 //! The worked examples: a Secure image that calls into Non-secure code, and Non-secure code that calls
 //! back through a gateway.
 
-use crate::run;
 use std::alloc::{AllocError, Global};
 use std::test::Fail;
 use tz_board::{Script, demo_board};
 use tz_core::Machine;
 use tz_model::{FailingSink, Image, MemorySink, Segment, SinkError, View};
+use tz_run::run;
 
 /// Loads the Non-secure start from a literal and goes there; at the gateway, sets R0 and returns.
 fn secure_image(alloc: Global) -> Result<Image, AllocError> {

@@ -1,24 +1,17 @@
-//! tzrun: runs a Secure and a Non-secure image on a board, and writes the trace of their steps.
+//! The program tzrun: `top` of `tz_cli` over the system.
 //!
-//! `top` is the program; here it is given the command line's words, the system's files and the standard
-//! streams. Standard output is kept in a buffer, which is passed on before the program ends.
+//! It is given the command line's words, the system's files and the standard streams. Standard output is
+//! kept in a buffer, which is passed on before the program ends.
 #![tactic(auto)]
 
 mod edge;
-mod files;
-mod lines;
-mod program;
-mod run;
-mod stops;
-#[cfg(test)]
-mod tests;
 
 use edge::{FileShelf, OutSink};
-use program::top;
 use std::alloc::{AllocError, Global};
 use std::env::{self, Env};
 use std::io::ErrorKind;
 use std::process::ExitCode;
+use tz_cli::top;
 use tz_model::Sink;
 
 /// How many bytes of standard output are kept before they go out.

@@ -1,0 +1,12 @@
+//! tzrun: runs a Secure and a Non-secure image on a board, and writes the trace of their steps.
+//!
+//! `top` does all that the program does, over any shelf of files and any two sinks.
+#![tactic(auto)]
+
+mod files;
+mod lines;
+mod program;
+mod run;
+mod stops;
+
+pub use program::top;
