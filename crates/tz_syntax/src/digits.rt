@@ -19,8 +19,9 @@ fn hex_digit(digit: u8) -> char
     code as char
 }
 
+/// Two digits.
 #[tactic(auto, unfolding(crate::specs::Digits::hex_byte))]
-fn push_hex_byte<const N: usize>(text: &mut ArrayString<N>, byte: u8)
+pub fn push_hex_byte<const N: usize>(text: &mut ArrayString<N>, byte: u8)
     requires { array_string_len text.old + 2 ≤ N }
     ensures bytes { text.new.bytes ≡ text.old.bytes ++ hex_byte byte }
     ensures len { array_string_len text.new ≡ array_string_len text.old + 2 }

@@ -13,6 +13,6 @@ mod row;
 mod rows;
 mod search;
 
-pub use digits::{push_decimal, push_hex_half, push_hex_word};
+pub use digits::{push_decimal, push_hex_byte, push_hex_half, push_hex_word};
 pub use instructions::{instruction_text, push_instruction};
 pub use names::register_name;

@@ -1,0 +1,4 @@
+pub mod Listing
+pub mod Maximal
+pub mod Sorting
+pub mod Sending

@@ -1,0 +1,5 @@
+pub mod Fronts
+pub mod Maximal
+pub mod Rests
+pub mod Runs
+pub mod Text
