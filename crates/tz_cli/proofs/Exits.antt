@@ -5,20 +5,22 @@ use Rattle.std.proofs.lemmas.Bool.Decides.{nat_tests}
 use Rattle.tz_model.specs.declared.outside.SinkError.{SinkError}
 use Rattle.tz_model.specs.declared.outside.SinkError.TheVariants.{Failed}
 use Rattle.tz_model.specs.Outside.{Held, Rose, Gains, Put}
-use Rattle.tz_words.specs.Run.{RunWords, run_names}
-use Rattle.tz_words.specs.Commands.{Command, Run, command_of, longest, names_of}
+use Rattle.tz_model.specs.Image.{ImageValue}
+use Rattle.tz_words.specs.Run.{RunWords}
+use Rattle.tz_words.specs.Dis.{DisWords}
+use Rattle.tz_words.specs.Commands.{Command, Run, Dis, command_of, longest, names_of}
 use Rattle.tz_words.proofs.FileNames.{names_of-longest}
 use Rattle.tz_cli.specs.declared.stops.LoadError.{LoadError}
 use Rattle.tz_cli.specs.declared.stops.LoadError.TheVariants.{Unread, Long, Board, Image, Script, Memory}
 use Rattle.tz_cli.specs.declared.stops.File.{File}
 use Rattle.tz_cli.specs.declared.stops.File.TheVariants as files
-use Rattle.tz_cli.specs.Told.{Stop, BadWords, TooManySteps, TooLong, BadBoard, BadImage, BadScript, Told, Unknown, Stops, Gives, told_then, Start, Job, run_task, told, IsDone, start_told, job_told, trace_of, step_limit}
+use Rattle.tz_cli.specs.Told.{Stop, BadWords, TooManySteps, TooLong, BadBoard, BadImage, BadScript, Told, Unknown, Stops, Gives, told_then, Start, Job, Task, run_task, dis_task, told, IsDone, start_told, job_told, listed_told, step_limit}
 use Rattle.tz_cli.specs.Told as stops
 use Rattle.tz_cli.specs.Reads.{Form, AsImage, Reading, reads_of, IsOneOf}
 use Rattle.tz_cli.specs.Lines.{stop_line, status_of}
-use Rattle.tz_cli.specs.Answer.{Allows, AllowsStop, Shelved, IsSettled, IsCaused, IsLine, Call, told_of, GainsFront, Exceeds, Answer, Done, Broken, Stopped, Wanting, Silent}
-use Rattle.tz_cli.specs.Faults.{AllowsRefusal, IsFault, IsReached, form_of, name_in, image_refusal, stop_of, stop_with, line_with, status_with}
-use Rattle.tz_cli.proofs.Reached.{is_read}
+use Rattle.tz_cli.specs.Answer.{Allows, AllowsStop, Shelved, IsSettled, IsCaused, IsLine, Call, told_of, GainsFront, Exceeds, IsTold, Answer, Done, Broken, Stopped, Wanting, Silent}
+use Rattle.tz_cli.specs.Faults.{AllowsRefusal, IsFault, IsReached, IsListed, Names, run_files, dis_files, list_of, form_of, name_in, image_refusal, stop_of, stop_with, line_with, status_with}
+use Rattle.tz_cli.proofs.Reached.{is_read, is_listed}
 use Rattle.tz_board.specs.BoardErrors.{refusal_of}
 use Rattle.tz_board.specs.ScriptErrors.{script_refusal_of}
 
@@ -34,8 +36,7 @@ exceeds_more (Some room) n m l h = λ fits. h (omega arith)
 
 -- the line is written with its status, or it can't be
 abbrev pub IsRefused : Call → ℕ → List ℕ → ℕ → Type 0
-IsRefused c result line status =
-    ((result ≡ status) × Gains c.err_old c.err_new line) ⊎ ((result ≡ 4) × Rose c.err_before c.err_now × Exceeds c.err_space (length line) × GainsFront c.err_old c.err_new line)
+IsRefused c result line status = IsTold result line status c.err_old c.err_new c.err_space c.err_before c.err_now
 
 silent : (c : Call) (result : ℕ) (line : List ℕ) → IsLine c.command c.shelf line → Gains c.out_old c.out_new [] → length line ≤ c.room
     → (result ≡ 4) × Rose c.err_before c.err_now × Exceeds c.err_space (length line) × GainsFront c.err_old c.err_new line → Answer c result
@@ -101,7 +102,7 @@ run_of_stop held r stop l h =
     then_stop (job_told held r) _ stop
     (within_cond (λ (t : Told Job). AllowsStop t stop) (nat_lt step_limit r.steps) _ _ (fits step_limit r.steps l) (then_stop (start_told held r) _ stop h))
 
-run_of_start : (held : List ℕ → Held) (r : RunWords) (start : Start) → r.steps ≤ step_limit → Allows (start_told held r) start
+pub run_of_start : (held : List ℕ → Held) (r : RunWords) (start : Start) → r.steps ≤ step_limit → Allows (start_told held r) start
     → Allows (told held (Some (Run r))) (run_task (record { words = r; start = start }))
 run_of_start held r start l h =
     then_gives run_task (job_told held r) (record { words = r; start = start })
@@ -118,73 +119,68 @@ pub answer_steps : (c : Call) (result : ℕ) (r : RunWords) → c.command ≡ So
 answer_steps c result r e l quiet short h =
     answer_stop c result TooManySteps (subst (λ (o : Option Command). IsSettled o c.shelf TooManySteps) (sym e) (steps_settled c.shelf r l)) quiet (omega arith) h
 
--- a file of a run is read within the limit of steps
-run_reads_it : (s : Shelved) (r : RunWords) (file : File) (form : Form) → r.steps ≤ step_limit → IsReached s.held r file → form_of file ≡ form
-    → IsOneOf (reads_of s.held (Some (Run r))) (record { name = name_in r file; form = form })
-run_reads_it s r file form l reached e =
-    subst (λ (x : Form). IsOneOf (reads_of s.held (Some (Run r))) (record { name = name_in r file; form = x })) e
-    (within_cond (λ (readings : List Reading). IsOneOf readings (record { name = name_in r file; form = form_of file })) (nat_lt step_limit r.steps) [] _ (fits step_limit r.steps l) (is_read s.held r file reached))
+-- ---- a fault of a command's files
 
--- ---- a fault of the files of a run
+-- how what is settled of a command's files settles the command: what is read of them is read by it, and what
+-- stops them stops it
+pub record Loads {A : Type 0} (c : Call) (n : Names) (IsRead : File → Type 0) (t : Told A) : Type 0 where
+  pub command : Command
+  pub is : c.command ≡ Some command
+  pub read : (file : File) → IsRead file → IsOneOf (reads_of c.shelf.held (Some command)) (record { name = name_in n file; form = form_of file })
+  pub stops : (stop : Stop) → AllowsStop t stop → AllowsStop (told c.shelf.held (Some command)) stop
 
--- the call of a run, with room for its longest name
-abbrev pub IsRun : Call → RunWords → Type 0
-IsRun c r = (c.command ≡ Some (Run r)) × (c.room ≡ 64 + longest (run_names r))
+caused : (c : Call) (command : Command) (stop : Stop) → c.command ≡ Some command → IsCaused (Some command) c.shelf stop → IsCaused c.command c.shelf stop
+caused c command stop e h = subst (λ (o : Option Command). IsCaused o c.shelf stop) (sym e) h
 
-caused : (c : Call) (r : RunWords) (stop : Stop) → c.command ≡ Some (Run r) → IsCaused (Some (Run r)) c.shelf stop → IsCaused c.command c.shelf stop
-caused c r stop e h = subst (λ (o : Option Command). IsCaused o c.shelf stop) (sym e) h
+module _ {A : Type 0} (c : Call) (n : Names) (IsRead : File → Type 0) (t : Told A) (loads : Loads c n IsRead t) where
+  reads_it : (file : File) (form : Form) → IsRead file → form_of file ≡ form → IsOneOf (reads_of c.shelf.held (Some loads.command)) (record { name = name_in n file; form = form })
+  reads_it file form read e =
+      subst (λ (x : Form). IsOneOf (reads_of c.shelf.held (Some loads.command)) (record { name = name_in n file; form = x })) e (loads.read file read)
 
-answer_refusal : {E : Type 0} (c : Call) (result : ℕ) (r : RunWords) (stop : E → Stop) (o : Option E) → c.command ≡ Some (Run r) → 64 ≤ c.room
-    → ((x : E) → AllowsStop (start_told c.shelf.held r) (stop x) → IsCaused (Some (Run r)) c.shelf (stop x)) → AllowsRefusal (start_told c.shelf.held r) stop o
-    → Gains c.out_old c.out_new [] → length (line_with (stop_with stop o)) ≤ c.room → IsRefused c result (line_with (stop_with stop o)) (status_with (stop_with stop o)) → Answer c result
-answer_refusal c result r stop None e room is told quiet short h = answer_memory c result quiet room h
-answer_refusal c result r stop (Some refusal) e room is told quiet short h = answer_stop c result (stop refusal) (caused c r (stop refusal) e (is refusal told)) quiet short h
+  answer_refusal : {E : Type 0} (result : ℕ) (stop : E → Stop) (o : Option E) → 64 ≤ c.room
+      → ((x : E) → AllowsStop t (stop x) → IsCaused (Some loads.command) c.shelf (stop x)) → AllowsRefusal t stop o
+      → Gains c.out_old c.out_new [] → length (line_with (stop_with stop o)) ≤ c.room → IsRefused c result (line_with (stop_with stop o)) (status_with (stop_with stop o)) → Answer c result
+  answer_refusal result stop None room is told quiet short h = answer_memory c result quiet room h
+  answer_refusal result stop (Some refusal) room is told quiet short h =
+      answer_stop c result (stop refusal) (caused c loads.command (stop refusal) loads.is (is refusal told)) quiet short h
 
-answer_fault : (c : Call) (result : ℕ) (r : RunWords) (fault : LoadError) → c.command ≡ Some (Run r) → 64 ≤ c.room → r.steps ≤ step_limit → IsFault c.shelf r (start_told c.shelf.held r) fault
-    → Gains c.out_old c.out_new [] → length (line_with (stop_of r fault)) ≤ c.room → IsRefused c result (line_with (stop_of r fault)) (status_with (stop_of r fault)) → Answer c result
-answer_fault c result r (Unread f) e room l told quiet short h =
-    answer_stop c result (stops.Unread (name_in r f)) (caused c r (stops.Unread (name_in r f)) e (record { form = form_of f; read = run_reads_it c.shelf r f (form_of f) l told.0 refl; rose = told.1; absent = told.2 })) quiet short h
-answer_fault c result r (Long f) e room l told quiet short h =
-    answer_stop c result (TooLong (name_in r f)) (caused c r (TooLong (name_in r f)) e
-    (run_of_stop c.shelf.held r (TooLong (name_in r f)) l told.1, (form_of f, run_reads_it c.shelf r f (form_of f) l told.0 refl))) quiet short h
-answer_fault c result r (Board error) e room l told quiet short h =
-    answer_refusal c result r (BadBoard r.board) (refusal_of error) e room
-    (λ x stop. (run_of_stop c.shelf.held r (BadBoard r.board x) l stop, run_reads_it c.shelf r files.Board (form_of files.Board) l told.0 refl)) told.1 quiet short h
-answer_fault c result r (Image f error) e room l told quiet short h =
-    answer_refusal c result r (BadImage (name_in r f)) (image_refusal error) e room
-    (λ x stop. (run_of_stop c.shelf.held r (BadImage (name_in r f) x) l stop, run_reads_it c.shelf r f AsImage l told.0 told.1)) told.2 quiet short h
-answer_fault c result r (Script error) e room l told quiet short h =
-    answer_refusal c result r (BadScript r.script) (script_refusal_of error) e room
-    (λ x stop. (run_of_stop c.shelf.held r (BadScript r.script x) l stop, run_reads_it c.shelf r files.Script (form_of files.Script) l told.0 refl)) told.1 quiet short h
-answer_fault c result r Memory e room l told quiet short h = answer_memory c result quiet room h
+  answer_fault : (result : ℕ) (fault : LoadError) → 64 ≤ c.room → IsFault c.shelf n IsRead t fault
+      → Gains c.out_old c.out_new [] → length (line_with (stop_of n fault)) ≤ c.room → IsRefused c result (line_with (stop_of n fault)) (status_with (stop_of n fault)) → Answer c result
+  answer_fault result (Unread f) room told quiet short h =
+      answer_stop c result (stops.Unread (name_in n f))
+      (caused c loads.command (stops.Unread (name_in n f)) loads.is (record { form = form_of f; read = reads_it f (form_of f) told.0 refl; rose = told.1; absent = told.2 })) quiet short h
+  answer_fault result (Long f) room told quiet short h =
+      answer_stop c result (TooLong (name_in n f))
+      (caused c loads.command (TooLong (name_in n f)) loads.is (loads.stops (TooLong (name_in n f)) told.1, (form_of f, reads_it f (form_of f) told.0 refl))) quiet short h
+  answer_fault result (Board error) room told quiet short h =
+      answer_refusal result (BadBoard n.board) (refusal_of error) room
+      (λ x stop. (loads.stops (BadBoard n.board x) stop, reads_it files.Board (form_of files.Board) told.0 refl)) told.1 quiet short h
+  answer_fault result (Image f error) room told quiet short h =
+      answer_refusal result (BadImage (name_in n f)) (image_refusal error) room
+      (λ x stop. (loads.stops (BadImage (name_in n f) x) stop, reads_it f AsImage told.0 told.1)) told.2 quiet short h
+  answer_fault result (Script error) room told quiet short h =
+      answer_refusal result (BadScript n.script) (script_refusal_of error) room
+      (λ x stop. (loads.stops (BadScript n.script x) stop, reads_it files.Script (form_of files.Script) told.0 refl)) told.1 quiet short h
+  answer_fault result Memory room told quiet short h = answer_memory c result quiet room h
 
--- the same for a line and a status that were built
-pub answer_built : (c : Call) (result : ℕ) (r : RunWords) (fault : LoadError) (line : List ℕ) (status : ℕ) → IsRun c r → r.steps ≤ step_limit
-    → IsFault c.shelf r (start_told c.shelf.held r) fault
-    → Gains c.out_old c.out_new [] → line ≡ line_with (stop_of r fault) → status ≡ status_with (stop_of r fault) → length line ≤ 64 + longest (run_names r)
-    → IsRefused c result line status → Answer c result
-answer_built c result r fault line status is l told quiet line_is status_is short h =
-    let len : length line ≡ length (line_with (stop_of r fault)) = ap length line_is in
-    let room : c.room ≡ 64 + longest (run_names r) = is.1 in
-    answer_fault c result r fault is.0 (omega arith) l told quiet (omega arith)
-    (subst (λ (x : List ℕ). IsRefused c result x (status_with (stop_of r fault))) line_is (subst (λ (n : ℕ). IsRefused c result line n) status_is h))
+  -- its line was told, or that of want of memory
+  abbrev IsFaultTold : ℕ → LoadError → Names → Type 0
+  IsFaultTold result fault m =
+      ((length (line_with (stop_of m fault)) ≤ 64 + longest (list_of m)) × IsRefused c result (line_with (stop_of m fault)) (status_with (stop_of m fault)))
+      ⊎ IsRefused c result (codes "no memory\n") 7
 
--- ---- the run
+  answer_either : (result : ℕ) (fault : LoadError) → c.room ≡ 64 + longest (list_of n) → IsFault c.shelf n IsRead t fault → Gains c.out_old c.out_new [] → IsFaultTold result fault n → Answer c result
+  answer_either result fault room told quiet (inl h) = let short = h.0 in answer_fault result fault (omega arith) told quiet (omega arith) h.1
+  answer_either result fault room told quiet (inr h) = answer_memory c result quiet (omega arith) h
 
-run_allowed : (c : Call) (r : RunWords) (start : Start) → c.command ≡ Some (Run r) → r.steps ≤ step_limit → Allows (start_told c.shelf.held r) start
-    → Allows (told_of c) (run_task (record { words = r; start = start }))
-run_allowed c r start e l allowed =
-    subst (λ (o : Option Command). Allows (told c.shelf.held o) (run_task (record { words = r; start = start }))) (sym e) (run_of_start c.shelf.held r start l allowed)
+  -- the same by names that are those of the command
+  pub answer_told : (result : ℕ) (fault : LoadError) (m : Names) → m ≡ n → c.room ≡ 64 + longest (list_of n) → IsFault c.shelf n IsRead t fault → Gains c.out_old c.out_new []
+      → ((length (line_with (stop_of m fault)) ≤ 64 + longest (list_of m)) × IsRefused c result (line_with (stop_of m fault)) (status_with (stop_of m fault)))
+      ⊎ IsRefused c result (codes "no memory\n") 7
+      → Answer c result
+  answer_told result fault m e room told quiet h = answer_either result fault room told quiet (subst (IsFaultTold result fault) e h)
 
-run_is_done : (o : Option Command) (r : RunWords) → o ≡ Some (Run r) → IsDone o 0
-run_is_done o r e = let is : IsDone (Some (Run r)) 0 = refl in subst (λ (x : Option Command). IsDone x 0) (sym e) is
-
-pub answer_done : (c : Call) (r : RunWords) (start : Start) (room : Option ℕ) → c.command ≡ Some (Run r) → r.steps ≤ step_limit → Allows (start_told c.shelf.held r) start
-    → Put c.out_old c.out_new c.out_space room (trace_of (record { words = r; start = start })) (Ok tt) → c.err_new ≡ c.err_old → Answer c 0
-answer_done c r start room e l allowed put same =
-    Done (run_task (record { words = r; start = start })) refl (run_is_done c.command r e) (run_allowed c r start e l allowed)
-    (subst (λ (x : List ℕ). Gains c.out_old c.out_new x) put.whole put.written)
-    (subst (λ (x : Option (List ℕ)). Gains c.err_old x []) (sym same) (gains_nothing c.err_old))
+-- ---- tasks
 
 -- a sink has one error
 pub failed_alone : (error : SinkError) → ◌≡◌ {A = Result Unit SinkError} (Err error) (Err Failed)
@@ -194,10 +190,43 @@ unfit : (space : Option ℕ) (n : ℕ) (error : SinkError) → IfSome space (λ 
 unfit None n error h = tt
 unfit (Some room) n error h = λ short. let ok = h short in cc
 
-pub answer_broken : (c : Call) (r : RunWords) (start : Start) (room : Option ℕ) (error : SinkError) → c.command ≡ Some (Run r) → r.steps ≤ step_limit → Allows (start_told c.shelf.held r) start
-    → Put c.out_old c.out_new c.out_space room (trace_of (record { words = r; start = start })) (Err error) → Rose c.out_before c.out_now → c.err_new ≡ c.err_old → Answer c 4
-answer_broken c r start room error e l allowed put rose same =
-    Broken (run_task (record { words = r; start = start })) refl (run_allowed c r start e l allowed)
-    (record { gained = put.gained; rest = put.front.0; front = put.front.1; gains = put.written }) rose
-    (unfit c.out_space (length (trace_of (record { words = r; start = start }))) error put.fits)
+-- a task that is put whole is done, and one that isn't is broken
+pub answer_put : (c : Call) (task : Task) (room : Option ℕ) → IsDone c.command task.status → Allows (told_of c) task
+    → Put c.out_old c.out_new c.out_space room task.text (Ok tt) → c.err_new ≡ c.err_old → Answer c task.status
+answer_put c task room done allowed put same =
+    Done task refl done allowed
+    (subst (λ (x : List ℕ). Gains c.out_old c.out_new x) put.whole put.written)
     (subst (λ (x : Option (List ℕ)). Gains c.err_old x []) (sym same) (gains_nothing c.err_old))
+
+pub answer_cut : (c : Call) (task : Task) (room : Option ℕ) (error : SinkError) → Allows (told_of c) task
+    → Put c.out_old c.out_new c.out_space room task.text (Err error) → Rose c.out_before c.out_now → c.err_new ≡ c.err_old → Answer c 4
+answer_cut c task room error allowed put rose same =
+    Broken task refl allowed
+    (record { gained = put.gained; rest = put.front.0; front = put.front.1; gains = put.written }) rose
+    (unfit c.out_space (length task.text) error put.fits)
+    (subst (λ (x : Option (List ℕ)). Gains c.err_old x []) (sym same) (gains_nothing c.err_old))
+
+-- ---- the run
+
+-- how the files of a run settle it, within the limit of steps
+pub run_loads : (c : Call) (r : RunWords) → c.command ≡ Some (Run r) → r.steps ≤ step_limit → Loads c (run_files r) (IsReached c.shelf.held r) (start_told c.shelf.held r)
+run_loads c r e l = record {
+  command = Run r;
+  is = e;
+  read = λ file reached. within_cond (λ (readings : List Reading). IsOneOf readings (record { name = name_in (run_files r) file; form = form_of file })) (nat_lt step_limit r.steps) [] _ (fits step_limit r.steps l)
+      (is_read c.shelf.held r file reached);
+  stops = λ stop h. run_of_stop c.shelf.held r stop l h;
+}
+
+-- ---- the disassembly
+
+pub dis_loads : (c : Call) (d : DisWords) → c.command ≡ Some (Dis d) → Loads c (dis_files d) (IsListed c.shelf.held d) (listed_told c.shelf.held d)
+dis_loads c d e = record {
+  command = Dis d;
+  is = e;
+  read = λ file reached. is_listed c.shelf.held d file reached;
+  stops = λ stop h. then_stop (listed_told c.shelf.held d) _ stop h;
+}
+
+pub dis_of_image : (held : List ℕ → Held) (d : DisWords) (image : ImageValue) → Allows (listed_told held d) image → Allows (told held (Some (Dis d))) (dis_task image)
+dis_of_image held d image allowed = then_gives dis_task (listed_told held d) image allowed

@@ -7,12 +7,13 @@ use Rattle.tz_table.specs.declared.units.Side.TheVariants as sides
 use Rattle.tz_model.specs.Board.{BoardValue}
 use Rattle.tz_model.specs.Outside.{Held, Absent}
 use Rattle.tz_words.specs.Run.{RunWords}
-use Rattle.tz_words.specs.Commands.{Command, Run}
+use Rattle.tz_words.specs.Dis.{DisWords}
+use Rattle.tz_words.specs.Commands.{Command, Run, Dis}
 use Rattle.tz_cli.specs.declared.stops.File.{File}
-use Rattle.tz_cli.specs.declared.stops.File.TheVariants.{Board, Secure, Nonsecure, Script}
-use Rattle.tz_cli.specs.Told.{Stop, TooManySteps, Unread, Told, Unknown, Stops, Gives, told_then, Job, told, is_demo, is_none_script, board_told, board_file, image_told, script_told, script_file, secure_told, nonsecure_told, start_told, job_told, step_limit}
-use Rattle.tz_cli.specs.Reads.{Form, AsBoard, AsImage, AsScript, Reading, goes_on, read_where, run_reads, reads_of, IsOneOf}
-use Rattle.tz_cli.specs.Faults.{IsReached, form_of, name_in}
+use Rattle.tz_cli.specs.declared.stops.File.TheVariants.{Board, First, Second, Script}
+use Rattle.tz_cli.specs.Told.{Stop, TooManySteps, Unread, Told, Unknown, Stops, Gives, told_then, Job, told, is_demo, is_none_script, board_told, board_file, image_told, script_told, script_file, secure_told, nonsecure_told, start_told, job_told, listed_told, step_limit}
+use Rattle.tz_cli.specs.Reads.{Form, AsBoard, AsImage, AsScript, Reading, goes_on, read_where, run_reads, dis_reads, reads_of, IsOneOf}
+use Rattle.tz_cli.specs.Faults.{IsReached, IsListed, run_files, dis_files, form_of, name_in}
 
 here : (b : Bool) (name : List ℕ) (form : Form) (readings : List Reading) → b ≡ true → IsOneOf (read_where b name form readings) (record { name = name; form = form })
 here false name form readings e = absurd (cc)
@@ -36,11 +37,11 @@ both true false e f = absurd (cc)
 both false b e f = absurd (cc)
 
 -- what is reached is read
-pub is_read : (held : List ℕ → Held) (r : RunWords) (file : File) → IsReached held r file → IsOneOf (run_reads held r) (record { name = name_in r file; form = form_of file })
+pub is_read : (held : List ℕ → Held) (r : RunWords) (file : File) → IsReached held r file → IsOneOf (run_reads held r) (record { name = name_in (run_files r) file; form = form_of file })
 is_read held r Board h = here (not (is_demo r.board)) r.board AsBoard _ (not_false (is_demo r.board) h)
-is_read held r Secure h =
+is_read held r First h =
     later (not (is_demo r.board)) r.board AsBoard _ _ (here (goes_on (board_told held r.board)) r.secure AsImage _ h)
-is_read held r Nonsecure h =
+is_read held r Second h =
     later (not (is_demo r.board)) r.board AsBoard _ _ (later (goes_on (board_told held r.board)) r.secure AsImage _ _ (here (goes_on (secure_told held r)) r.nonsecure AsImage _ h))
 is_read held r Script h =
     later (not (is_demo r.board)) r.board AsBoard _ _ (later (goes_on (board_told held r.board)) r.secure AsImage _ _
@@ -60,7 +61,7 @@ split true name form readings reading (inr h) = inr h
 pub record ReachesName (held : List ℕ → Held) (r : RunWords) (name : List ℕ) : Type 0 where
   pub file : File
   pub reached : IsReached held r file
-  pub named : name_in r file ≡ name
+  pub named : name_in (run_files r) file ≡ name
 
 reached_script : (held : List ℕ → Held) (r : RunWords) (reading : Reading)
     → ((not (is_none_script r.script) && goes_on (nonsecure_told held r)) ≡ true) × (r.script ≡ reading.name) ⊎ IsOneOf [] reading → ReachesName held r reading.name
@@ -72,14 +73,14 @@ reached_script held r reading (inr h) = absurd h
 reached_nonsecure : (held : List ℕ → Held) (r : RunWords) (reading : Reading)
     → ((goes_on (secure_told held r) ≡ true) × (r.nonsecure ≡ reading.name))
     ⊎ IsOneOf (read_where (not (is_none_script r.script) && goes_on (nonsecure_told held r)) r.script AsScript []) reading → ReachesName held r reading.name
-reached_nonsecure held r reading (inl h) = record { file = Nonsecure; reached = h.0; named = h.1 }
+reached_nonsecure held r reading (inl h) = record { file = Second; reached = h.0; named = h.1 }
 reached_nonsecure held r reading (inr h) = reached_script held r reading (split (not (is_none_script r.script) && goes_on (nonsecure_told held r)) r.script AsScript [] reading h)
 
 reached_secure : (held : List ℕ → Held) (r : RunWords) (reading : Reading)
     → ((goes_on (board_told held r.board) ≡ true) × (r.secure ≡ reading.name))
     ⊎ IsOneOf (read_where (goes_on (secure_told held r)) r.nonsecure AsImage (read_where (not (is_none_script r.script) && goes_on (nonsecure_told held r)) r.script AsScript [])) reading
     → ReachesName held r reading.name
-reached_secure held r reading (inl h) = record { file = Secure; reached = h.0; named = h.1 }
+reached_secure held r reading (inl h) = record { file = First; reached = h.0; named = h.1 }
 reached_secure held r reading (inr h) = reached_nonsecure held r reading (split (goes_on (secure_told held r)) r.nonsecure AsImage _ reading h)
 
 reached_board : (held : List ℕ → Held) (r : RunWords) (reading : Reading)
@@ -138,13 +139,13 @@ never_secure : (held : List ℕ → Held) (r : RunWords) → NeverGives (secure_
 never_secure held r h = never_nonsecure held r (never_then (secure_told held r) _ h)
 
 -- an absent file that is read settles no start
-absent_start : (held : List ℕ → Held) (r : RunWords) (file : File) → held (name_in r file) ≡ Absent → IsReached held r file → NeverGives (start_told held r)
+absent_start : (held : List ℕ → Held) (r : RunWords) (file : File) → held (name_in (run_files r) file) ≡ Absent → IsReached held r file → NeverGives (start_told held r)
 absent_start held r Board e reached =
     never_secure held r (never_then (board_told held r.board) _ (never_stops (board_told held r.board) (Unread r.board) (absent_board held r.board e reached)))
-absent_start held r Secure e reached =
+absent_start held r First e reached =
     never_secure held r (never_after (board_told held r.board) _ (λ b.
     never_then (image_told held b sides.Secure r.secure) _ (never_stops (image_told held b sides.Secure r.secure) (Unread r.secure) (absent_image held b sides.Secure r.secure e))))
-absent_start held r Nonsecure e reached =
+absent_start held r Second e reached =
     never_nonsecure held r (never_after (secure_told held r) _ (λ p.
     never_then (image_told held p.board sides.NonSecure r.nonsecure) _
     (never_stops (image_told held p.board sides.NonSecure r.nonsecure) (Unread r.nonsecure) (absent_image held p.board sides.NonSecure r.nonsecure e))))
@@ -160,11 +161,34 @@ absent_run : (held : List ℕ → Held) (r : RunWords) (name : List ℕ) (form :
 absent_run held r name form true e h = absurd h
 absent_run held r name form false e h =
     let reached = is_reached held r (record { name = name; form = form }) h in
-    let absent : held (name_in r reached.file) ≡ Absent = ap held reached.named ∙ e in
+    let absent : held (name_in (run_files r) reached.file) ≡ Absent = ap held reached.named ∙ e in
     never_then (start_told held r) _ (absent_start held r reached.file absent reached.reached)
+
+-- ---- the files of a disassembly
+
+pub is_listed : (held : List ℕ → Held) (d : DisWords) (file : File) → IsListed held d file → IsOneOf (dis_reads held d) (record { name = name_in (dis_files d) file; form = form_of file })
+is_listed held d Board h = here (not (is_demo d.board)) d.board AsBoard _ (not_false (is_demo d.board) h)
+is_listed held d First h = later (not (is_demo d.board)) d.board AsBoard _ _ (here (goes_on (board_told held d.board)) d.image AsImage [] h)
+is_listed held d Second h = absurd h
+is_listed held d Script h = absurd h
+
+absent_image_of : (held : List ℕ → Held) (d : DisWords) (reading : Reading) → held reading.name ≡ Absent
+    → ((goes_on (board_told held d.board) ≡ true) × (d.image ≡ reading.name)) ⊎ IsOneOf [] reading → NeverGives (listed_told held d)
+absent_image_of held d reading e (inl h) =
+    never_after (board_told held d.board) _ (λ b.
+    never_stops (image_told held b d.side d.image) (Unread d.image) (absent_image held b d.side d.image (ap held h.1 ∙ e)))
+absent_image_of held d reading e (inr h) = absurd h
+
+absent_listed : (held : List ℕ → Held) (d : DisWords) (reading : Reading) → held reading.name ≡ Absent
+    → ((not (is_demo d.board) ≡ true) × (d.board ≡ reading.name)) ⊎ IsOneOf (read_where (goes_on (board_told held d.board)) d.image AsImage []) reading → NeverGives (listed_told held d)
+absent_listed held d reading e (inl h) =
+    never_then (board_told held d.board) _ (never_stops (board_told held d.board) (Unread d.board) (absent_board held d.board (ap held h.1 ∙ e) (false_not (is_demo d.board) h.0)))
+absent_listed held d reading e (inr h) = absent_image_of held d reading e (split (goes_on (board_told held d.board)) d.image AsImage [] reading h)
 
 -- an absent file that is read settles no task
 pub absent_task : (held : List ℕ → Held) (o : Option Command) (name : List ℕ) (form : Form) → held name ≡ Absent → IsOneOf (reads_of held o) (record { name = name; form = form })
     → NeverGives (told held o)
 absent_task held None name form e h = absurd h
 absent_task held (Some (Run r)) name form e h = never_then (job_told held r) _ (absent_run held r name form (nat_lt step_limit r.steps) e h)
+absent_task held (Some (Dis d)) name form e h =
+    never_then (listed_told held d) _ (absent_listed held d (record { name = name; form = form }) e (split (not (is_demo d.board)) d.board AsBoard _ (record { name = name; form = form }) h))

@@ -97,6 +97,11 @@ pub record GainsFront (old new : Option (List ℕ)) (text : List ℕ) : Type 0 w
 abbrev pub Exceeds : Option ℕ → ℕ → Type 0
 Exceeds space n = IfSome space (λ room. n ≤ room → ⊥)
 
+-- a line is written, and the answer is its status; or it can't be written
+abbrev pub IsTold : (result : ℕ) (line : List ℕ) (status : ℕ) (old new : Option (List ℕ)) (space : Option ℕ) (before now : ℕ) → Type 0
+IsTold result line status old new space before now =
+    ((result ≡ status) × Gains old new line) ⊎ ((result ≡ 4) × Rose before now × Exceeds space (length line) × GainsFront old new line)
+
 -- an answer, with what it says of the outside
 pub data Answer (c : Call) (result : ℕ) : Type 0 where
   -- the text is written whole

@@ -1,5 +1,5 @@
 -- What a fault of the files says of the outside and of what is settled.
-use Rattle.std.specs.Prelude.{◌≡◌, ℕ, true, false, List, [], Option, Some, None, IsTrue, codes}
+use Rattle.std.specs.Prelude.{◌≡◌, ℕ, true, false, List, [], ◌∷◌, Option, Some, None, IsTrue, codes}
 use Rattle.tz_model.specs.declared.outside.ShelfError.{ShelfError}
 use Rattle.tz_model.specs.declared.outside.ShelfError.TheVariants as shelf_errors
 use Rattle.tz_model.specs.Outside.{Held, Absent, Rose}
@@ -14,7 +14,9 @@ use Rattle.tz_cli.specs.declared.stops.File.TheVariants as files
 use Rattle.tz_cli.specs.declared.stops.LoadError.{LoadError}
 use Rattle.tz_cli.specs.declared.stops.LoadError.TheVariants.{Unread, Long, Board, Image, Script, Memory}
 use Rattle.tz_cli.specs.declared.files.Files.{Files}
+use Rattle.tz_cli.specs.declared.stops.FileNames.{FileNames}
 use Rattle.tz_words.specs.Run.{RunWords}
+use Rattle.tz_words.specs.Dis.{DisWords}
 use Rattle.tz_cli.specs.Lines.{stop_line, status_of}
 use Rattle.tz_cli.specs.Told as stops
 use Rattle.tz_cli.specs.Told.{Stop, Told, Start, TooLong, BadBoard, BadImage, BadScript, is_demo, is_none_script, board_told, secure_told, nonsecure_told}
@@ -45,56 +47,84 @@ unread_in file shelf_errors.Failed = Unread file
 unread_in file shelf_errors.Long = Long file
 unread_in file shelf_errors.Memory = Memory
 
--- the name of a file in the words, and what it is read as
-abbrev pub name_in : RunWords → File → List ℕ
-name_in r files.Board = r.board
-name_in r files.Secure = r.secure
-name_in r files.Nonsecure = r.nonsecure
-name_in r files.Script = r.script
+-- the names of a command's files: a board, images, a script. Of files that it doesn't have they are empty
+pub record Names : Type 0 where
+  pub board : List ℕ
+  pub first : List ℕ
+  pub second : List ℕ
+  pub script : List ℕ
+
+-- what the program has, as such names
+abbrev pub names_read : FileNames → Names
+names_read n = record { board = n.board.now; first = n.first.now; second = n.second.now; script = n.script.now }
+
+abbrev pub run_files : RunWords → Names
+run_files r = record { board = r.board; first = r.secure; second = r.nonsecure; script = r.script }
+
+abbrev pub dis_files : DisWords → Names
+dis_files d = record { board = d.board; first = d.image; second = []; script = [] }
+
+-- the same as a list
+abbrev pub list_of : Names → List (List ℕ)
+list_of n = n.board ∷ n.first ∷ n.second ∷ n.script ∷ []
+
+-- the name of a file, and what it is read as
+abbrev pub name_in : Names → File → List ℕ
+name_in n files.Board = n.board
+name_in n files.First = n.first
+name_in n files.Second = n.second
+name_in n files.Script = n.script
 
 abbrev pub form_of : File → Form
 form_of files.Board = AsBoard
-form_of files.Secure = AsImage
-form_of files.Nonsecure = AsImage
+form_of files.First = AsImage
+form_of files.Second = AsImage
 form_of files.Script = AsScript
 
--- a file is read: it is one, and no file before it stops the command
+-- a file of a run is read: it is one, and no file before it stops the command
 abbrev pub IsReached : (List ℕ → Held) → RunWords → File → Type 0
 IsReached held r files.Board = is_demo r.board ≡ false
-IsReached held r files.Secure = goes_on (board_told held r.board) ≡ true
-IsReached held r files.Nonsecure = goes_on (secure_told held r) ≡ true
+IsReached held r files.First = goes_on (board_told held r.board) ≡ true
+IsReached held r files.Second = goes_on (secure_told held r) ≡ true
 IsReached held r files.Script = (is_none_script r.script ≡ false) × (goes_on (nonsecure_told held r) ≡ true)
 
--- a fault of one file
-abbrev pub IsStageFault : {A : Type 0} → Shelved → RunWords → File → Told A → LoadError → Type 0
-IsStageFault s r file told (Unread f) = (f ≡ file) × Rose s.before s.now × (IsTrue s.sound → s.held (name_in r file) ≡ Absent)
-IsStageFault s r file told (Long f) = (f ≡ file) × AllowsStop told (TooLong (name_in r file))
-IsStageFault s r file told (Board e) = (file ≡ files.Board) × AllowsRefusal told (BadBoard r.board) (refusal_of e)
-IsStageFault s r file told (Image f e) = (f ≡ file) × (form_of file ≡ AsImage) × AllowsRefusal told (BadImage (name_in r file)) (image_refusal e)
-IsStageFault s r file told (Script e) = (file ≡ files.Script) × AllowsRefusal told (BadScript r.script) (script_refusal_of e)
-IsStageFault s r file told Memory = Unit {0}
+-- the same of a file of a disassembly
+abbrev pub IsListed : (List ℕ → Held) → DisWords → File → Type 0
+IsListed held d files.Board = is_demo d.board ≡ false
+IsListed held d files.First = goes_on (board_told held d.board) ≡ true
+IsListed held d files.Second = ⊥
+IsListed held d files.Script = ⊥
 
--- a fault of the files of a run: of one that is read
-abbrev pub IsFault : {A : Type 0} → Shelved → RunWords → Told A → LoadError → Type 0
-IsFault s r told (Unread f) = IsReached s.held r f × Rose s.before s.now × (IsTrue s.sound → s.held (name_in r f) ≡ Absent)
-IsFault s r told (Long f) = IsReached s.held r f × AllowsStop told (TooLong (name_in r f))
-IsFault s r told (Board e) = IsReached s.held r files.Board × AllowsRefusal told (BadBoard r.board) (refusal_of e)
-IsFault s r told (Image f e) = IsReached s.held r f × (form_of f ≡ AsImage) × AllowsRefusal told (BadImage (name_in r f)) (image_refusal e)
-IsFault s r told (Script e) = IsReached s.held r files.Script × AllowsRefusal told (BadScript r.script) (script_refusal_of e)
-IsFault s r told Memory = Unit {0}
+-- a fault of one file
+abbrev pub IsStageFault : {A : Type 0} → Shelved → Names → File → Told A → LoadError → Type 0
+IsStageFault s n file told (Unread f) = (f ≡ file) × Rose s.before s.now × (IsTrue s.sound → s.held (name_in n file) ≡ Absent)
+IsStageFault s n file told (Long f) = (f ≡ file) × AllowsStop told (TooLong (name_in n file))
+IsStageFault s n file told (Board e) = (file ≡ files.Board) × AllowsRefusal told (BadBoard n.board) (refusal_of e)
+IsStageFault s n file told (Image f e) = (f ≡ file) × (form_of file ≡ AsImage) × AllowsRefusal told (BadImage (name_in n file)) (image_refusal e)
+IsStageFault s n file told (Script e) = (file ≡ files.Script) × AllowsRefusal told (BadScript n.script) (script_refusal_of e)
+IsStageFault s n file told Memory = Unit {0}
+
+-- a fault of a command's files: of one that is read
+abbrev pub IsFault : {A : Type 0} → Shelved → Names → (File → Type 0) → Told A → LoadError → Type 0
+IsFault s n IsRead told (Unread f) = IsRead f × Rose s.before s.now × (IsTrue s.sound → s.held (name_in n f) ≡ Absent)
+IsFault s n IsRead told (Long f) = IsRead f × AllowsStop told (TooLong (name_in n f))
+IsFault s n IsRead told (Board e) = IsRead files.Board × AllowsRefusal told (BadBoard n.board) (refusal_of e)
+IsFault s n IsRead told (Image f e) = IsRead f × (form_of f ≡ AsImage) × AllowsRefusal told (BadImage (name_in n f)) (image_refusal e)
+IsFault s n IsRead told (Script e) = IsRead files.Script × AllowsRefusal told (BadScript n.script) (script_refusal_of e)
+IsFault s n IsRead told Memory = Unit {0}
 
 -- the stop that a fault tells; want of memory tells none
 abbrev pub stop_with : {E : Type 0} → (E → Stop) → Option E → Option Stop
 stop_with stop None = None
 stop_with stop (Some refusal) = Some (stop refusal)
 
-abbrev pub stop_of : RunWords → LoadError → Option Stop
-stop_of r (Unread f) = Some (stops.Unread (name_in r f))
-stop_of r (Long f) = Some (TooLong (name_in r f))
-stop_of r (Board e) = stop_with (BadBoard r.board) (refusal_of e)
-stop_of r (Image f e) = stop_with (BadImage (name_in r f)) (image_refusal e)
-stop_of r (Script e) = stop_with (BadScript r.script) (script_refusal_of e)
-stop_of r Memory = None
+abbrev pub stop_of : Names → LoadError → Option Stop
+stop_of n (Unread f) = Some (stops.Unread (name_in n f))
+stop_of n (Long f) = Some (TooLong (name_in n f))
+stop_of n (Board e) = stop_with (BadBoard n.board) (refusal_of e)
+stop_of n (Image f e) = stop_with (BadImage (name_in n f)) (image_refusal e)
+stop_of n (Script e) = stop_with (BadScript n.script) (script_refusal_of e)
+stop_of n Memory = None
 
 -- the code of a refusal; want of memory has none
 abbrev pub code_with : {E : Type 0} → (E → List ℕ) → Option E → List ℕ

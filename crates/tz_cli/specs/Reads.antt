@@ -2,7 +2,8 @@
 use Rattle.std.specs.Prelude.{◌≡◌, ◌⊎◌, ℕ, nat_lt, ◌&&◌, Bool, true, false, not, if◌then◌else◌, List, [], ◌∷◌, Option, Some, None}
 use Rattle.tz_model.specs.Outside.{Held}
 use Rattle.tz_words.specs.Run.{RunWords}
-use Rattle.tz_words.specs.Commands.{Command, Run}
+use Rattle.tz_words.specs.Dis.{DisWords}
+use Rattle.tz_words.specs.Commands.{Command, Run, Dis}
 use Rattle.tz_cli.specs.Told.{Stop, BadWords, TooManySteps, Unread, TooLong, BadBoard, BadImage, BadScript, Told, Unknown, Stops, Gives, is_demo, is_none_script, board_told, secure_told, nonsecure_told, step_limit}
 
 -- nothing that is settled stops the command
@@ -35,10 +36,17 @@ run_reads held r =
     (read_where (goes_on (secure_told held r)) r.nonsecure AsImage
     (read_where (not (is_none_script r.script) && goes_on (nonsecure_told held r)) r.script AsScript [])))
 
+-- the files of a disassembly
+abbrev pub dis_reads : (List ℕ → Held) → DisWords → List Reading
+dis_reads held d =
+    read_where (not (is_demo d.board)) d.board AsBoard
+    (read_where (goes_on (board_told held d.board)) d.image AsImage [])
+
 -- the files of a command: none where its words are refused, or a number is past its limit
 abbrev pub reads_of : (List ℕ → Held) → Option Command → List Reading
 reads_of held None = []
 reads_of held (Some (Run r)) = if nat_lt step_limit r.steps then [] else run_reads held r
+reads_of held (Some (Dis d)) = dis_reads held d
 
 -- one of the files
 abbrev pub IsOneOf : List Reading → Reading → Type 0

@@ -14,8 +14,10 @@ use Rattle.tz_board.specs.Scripts.{Timed, ScriptRefusal, script_of}
 use Rattle.tz_twin.specs.Trace.{text_from}
 use Rattle.tz_run.specs.Events.{events_of}
 use Rattle.tz_board.specs.Boards.{BoardRefusal, board_of}
+use Rattle.tz_dis.specs.Text.{dis_text}
 use Rattle.tz_words.specs.Run.{RunWords}
-use Rattle.tz_words.specs.Commands.{Command, Run}
+use Rattle.tz_words.specs.Dis.{DisWords}
+use Rattle.tz_words.specs.Commands.{Command, Run, Dis}
 
 -- why a command stops before it begins
 pub data Stop : Type 0 where
@@ -128,6 +130,10 @@ state_of start = boot start.board start.secure start.nonsecure
 abbrev pub trace_of : Job → List ℕ
 trace_of job = text_from job.words.view (events_of job.start.script) 0 (state_of job.start) job.words.steps
 
+-- the image of a disassembly: its board is read first
+abbrev pub listed_told : (List ℕ → Held) → DisWords → Told ImageValue
+listed_told held d = told_then (board_told held d.board) (λ b. image_told held b d.side d.image)
+
 -- ---- commands
 
 -- what a command does: the text on standard output, and the status once all of it is written
@@ -139,12 +145,18 @@ pub record Task : Type 0 where
 abbrev pub run_task : Job → Task
 run_task job = record { text = trace_of job; status = 0 }
 
+-- a disassembly writes the lines of its image
+abbrev pub dis_task : ImageValue → Task
+dis_task image = record { text = dis_text image; status = 0 }
+
 -- what is settled of a command, or of words that are refused
 abbrev pub told : (List ℕ → Held) → Option Command → Told Task
 told held None = Stops BadWords
 told held (Some (Run r)) = told_then (job_told held r) (λ job. Gives (run_task job))
+told held (Some (Dis d)) = told_then (listed_told held d) (λ image. Gives (dis_task image))
 
 -- the statuses of a command whose work is done
 abbrev pub IsDone : Option Command → ℕ → Type 0
 IsDone None status = ⊥
 IsDone (Some (Run r)) status = status ≡ 0
+IsDone (Some (Dis d)) status = status ≡ 0

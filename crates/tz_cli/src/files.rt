@@ -1,4 +1,4 @@
-//! The files of a run: each is read, then its length, then its form, in the order of the words.
+//! The files of a command: each is read, then its length, then its form, in the order of the words.
 
 ghost use Rattle.std.specs.Prelude.{◌≡◌, ◌≢◌, ◌≤◌, ◌<◌, ◌^◌, ℕ, List, length, IfOk, IfErr, IsErrOf, IsTrue, false};
 ghost use Rattle.std.specs.Str.{bytes_eq};
@@ -6,17 +6,18 @@ ghost use Rattle.tz_model.specs.Outside.{Held, Absent, Rose};
 ghost use Rattle.tz_cli.specs.declared.stops.File.TheVariants as files;
 ghost use Rattle.tz_cli.specs.declared.stops.LoadError.TheVariants as faults;
 ghost use Rattle.tz_words.specs.Run.{run_in};
-ghost use Rattle.tz_cli.specs.Told.{file_with, board_told, image_told, script_told, start_told, is_demo, is_none_script, TooLong};
+ghost use Rattle.tz_words.specs.Dis.{dis_in};
+ghost use Rattle.tz_cli.specs.Told.{file_with, board_told, image_told, script_told, start_told, listed_told, is_demo, is_none_script, TooLong};
 ghost use Rattle.tz_cli.specs.Reads.{AsImage};
 ghost use Rattle.tz_cli.specs.Answer.{Allows, AllowsStop};
-ghost use Rattle.tz_cli.specs.Faults.{form_of, name_in, unread_in, IsStageFault, IsFault, start_in};
+ghost use Rattle.tz_cli.specs.Faults.{form_of, name_in, names_read, run_files, dis_files, unread_in, IsReached, IsListed, IsStageFault, IsFault, start_in};
 
-use crate::stops::{File, LoadError};
+use crate::stops::{File, FileNames, LoadError};
 use std::alloc::{AllocError, Global};
 use tz_board::{Script, demo_board, read_board, read_script};
 use tz_elf::read_image;
 use tz_model::{Board, Image, Shelf, ShelfError, Side};
-use tz_words::RunWords;
+use tz_words::{DisWords, RunWords};
 
 /// What the files of a run give.
 #[derive(Drop)]
@@ -36,15 +37,39 @@ const IMAGE_LIMIT: usize = 8_388_608;
 /// The most bytes of a script file.
 const SCRIPT_LIMIT: usize = 1_048_576;
 
-/// The name of a file in the words.
-pub fn name_of<'a>(words: &RunWords<'a>, file: File) -> &'a str
-    ensures { result.now ≡ name_in (run_in words.now) file }
+/// The name of a file.
+pub fn name_of<'a>(names: &FileNames<'a>, file: File) -> &'a str
+    ensures { result.now ≡ name_in (names_read names.now) file }
 {
     match file {
-        File::Board => words.board,
-        File::Secure => words.secure,
-        File::Nonsecure => words.nonsecure,
-        File::Script => words.script,
+        File::Board => names.board,
+        File::First => names.first,
+        File::Second => names.second,
+        File::Script => names.script,
+    }
+}
+
+/// The names of the files of a run.
+pub fn names_of_run<'a>(words: &RunWords<'a>) -> FileNames<'a>
+    ensures { names_read result ≡ run_files (run_in words.now) }
+{
+    FileNames {
+        board: words.board,
+        first: words.secure,
+        second: words.nonsecure,
+        script: words.script,
+    }
+}
+
+/// The names of the files of a disassembly.
+pub fn names_of_dis<'a>(words: &DisWords<'a>) -> FileNames<'a>
+    ensures { names_read result ≡ dis_files (dis_in words.now) }
+{
+    FileNames {
+        board: words.board,
+        first: words.image,
+        second: "",
+        script: "",
     }
 }
 
@@ -88,22 +113,22 @@ fn unread(file: File, error: ShelfError) -> LoadError
 fn load_board<H: Shelf>(
     alloc: Global,
     shelf: &mut H,
-    words: &RunWords<'_>,
+    names: &FileNames<'_>,
 ) -> Result<Board, LoadError>
-    ensures ok { IfOk result (λ b. Allows (board_told (H.held shelf.old) words.now.board.now) b) }
-    ensures err { IfErr result (λ e. IsStageFault (record { held = H.held shelf.old; sound = H.sound shelf.old; before = H.faults shelf.old; now = H.faults shelf.new }) (run_in words.now) files.Board (board_told (H.held shelf.old) words.now.board.now) e) }
-    ensures named { IfErr result (λ e. e ≢ faults.Memory → is_demo words.now.board.now ≡ false) }
+    ensures ok { IfOk result (λ b. Allows (board_told (H.held shelf.old) names.now.board.now) b) }
+    ensures err { IfErr result (λ e. IsStageFault (record { held = H.held shelf.old; sound = H.sound shelf.old; before = H.faults shelf.old; now = H.faults shelf.new }) (names_read names.now) files.Board (board_told (H.held shelf.old) names.now.board.now) e) }
+    ensures named { IfErr result (λ e. e ≢ faults.Memory → is_demo names.now.board.now ≡ false) }
     ensures later { H.faults shelf.old ≤ H.faults shelf.new }
     ensures sound { H.sound shelf.new ≡ H.sound shelf.old }
     ensures held { H.held shelf.new ≡ H.held shelf.old }
 {
-    if words.board == "@demo" {
+    if names.board == "@demo" {
         return match demo_board(alloc) {
             Ok(board) => Ok(board),
             Err(_) => Err(LoadError::Memory),
         };
     }
-    let bytes = match read(alloc, shelf, words.board, BOARD_LIMIT) {
+    let bytes = match read(alloc, shelf, names.board, BOARD_LIMIT) {
         Ok(bytes) => bytes,
         Err(error) => return Err(unread(File::Board, error)),
     };
@@ -118,19 +143,19 @@ fn load_board<H: Shelf>(
 fn load_image<H: Shelf>(
     alloc: Global,
     shelf: &mut H,
-    words: &RunWords<'_>,
+    names: &FileNames<'_>,
     file: File,
     board: &Board,
     side: Side,
 ) -> Result<Image, LoadError>
     requires { form_of file ≡ AsImage }
-    ensures ok { IfOk result (λ i. Allows (image_told (H.held shelf.old) board.now side (name_in (run_in words.now) file)) i) }
-    ensures err { IfErr result (λ e. IsStageFault (record { held = H.held shelf.old; sound = H.sound shelf.old; before = H.faults shelf.old; now = H.faults shelf.new }) (run_in words.now) file (image_told (H.held shelf.old) board.now side (name_in (run_in words.now) file)) e) }
+    ensures ok { IfOk result (λ i. Allows (image_told (H.held shelf.old) board.now side (name_in (names_read names.now) file)) i) }
+    ensures err { IfErr result (λ e. IsStageFault (record { held = H.held shelf.old; sound = H.sound shelf.old; before = H.faults shelf.old; now = H.faults shelf.new }) (names_read names.now) file (image_told (H.held shelf.old) board.now side (name_in (names_read names.now) file)) e) }
     ensures later { H.faults shelf.old ≤ H.faults shelf.new }
     ensures sound { H.sound shelf.new ≡ H.sound shelf.old }
     ensures held { H.held shelf.new ≡ H.held shelf.old }
 {
-    let bytes = match read(alloc, shelf, name_of(words, file), IMAGE_LIMIT) {
+    let bytes = match read(alloc, shelf, name_of(names, file), IMAGE_LIMIT) {
         Ok(bytes) => bytes,
         Err(error) => return Err(unread(file, error)),
     };
@@ -145,21 +170,21 @@ fn load_image<H: Shelf>(
 fn load_script<H: Shelf>(
     alloc: Global,
     shelf: &mut H,
-    words: &RunWords<'_>,
+    names: &FileNames<'_>,
     interrupts: u16,
 ) -> Result<Script, LoadError>
-    ensures ok { IfOk result (λ s. Allows (script_told (H.held shelf.old) interrupts words.now.script.now) s) }
-    ensures err { IfErr result (λ e. IsStageFault (record { held = H.held shelf.old; sound = H.sound shelf.old; before = H.faults shelf.old; now = H.faults shelf.new }) (run_in words.now) files.Script (script_told (H.held shelf.old) interrupts words.now.script.now) e) }
-    ensures named { IfErr result (λ e. e ≢ faults.Memory → is_none_script words.now.script.now ≡ false) }
+    ensures ok { IfOk result (λ s. Allows (script_told (H.held shelf.old) interrupts names.now.script.now) s) }
+    ensures err { IfErr result (λ e. IsStageFault (record { held = H.held shelf.old; sound = H.sound shelf.old; before = H.faults shelf.old; now = H.faults shelf.new }) (names_read names.now) files.Script (script_told (H.held shelf.old) interrupts names.now.script.now) e) }
+    ensures named { IfErr result (λ e. e ≢ faults.Memory → is_none_script names.now.script.now ≡ false) }
     ensures later { H.faults shelf.old ≤ H.faults shelf.new }
 {
-    if words.script == "@none" {
+    if names.script == "@none" {
         return match Script::of(alloc, &[]) {
             Ok(script) => Ok(script),
             Err(_) => Err(LoadError::Memory),
         };
     }
-    let bytes = match read(alloc, shelf, words.script, SCRIPT_LIMIT) {
+    let bytes = match read(alloc, shelf, names.script, SCRIPT_LIMIT) {
         Ok(bytes) => bytes,
         Err(error) => return Err(unread(File::Script, error)),
     };
@@ -176,35 +201,50 @@ pub fn load<H: Shelf>(
     words: &RunWords<'_>,
 ) -> Result<Files, LoadError>
     ensures ok { IfOk result (λ f. Allows (start_told (H.held shelf.old) (run_in words.now)) (start_in f)) }
-    ensures err { IfErr result (λ e. IsFault (record { held = H.held shelf.old; sound = H.sound shelf.old; before = H.faults shelf.old; now = H.faults shelf.new }) (run_in words.now) (start_told (H.held shelf.old) (run_in words.now)) e) }
+    ensures err { IfErr result (λ e. IsFault (record { held = H.held shelf.old; sound = H.sound shelf.old; before = H.faults shelf.old; now = H.faults shelf.new }) (run_files (run_in words.now)) (IsReached (H.held shelf.old) (run_in words.now)) (start_told (H.held shelf.old) (run_in words.now)) e) }
     ensures later { H.faults shelf.old ≤ H.faults shelf.new }
 {
-    let board = match load_board(alloc, shelf, words) {
+    let names = names_of_run(words);
+    let board = match load_board(alloc, shelf, &names) {
         Ok(board) => board,
         Err(fault) => return Err(fault),
     };
-    let secure = match load_image(alloc, shelf, words, File::Secure, &board, Side::Secure) {
+    let secure = match load_image(alloc, shelf, &names, File::First, &board, Side::Secure) {
         Ok(image) => image,
         Err(fault) => return Err(fault),
     };
-    let nonsecure = match load_image(
-        alloc,
-        shelf,
-        words,
-        File::Nonsecure,
-        &board,
-        Side::NonSecure,
-    ) {
+    let nonsecure = match load_image(alloc, shelf, &names, File::Second, &board, Side::NonSecure) {
         Ok(image) => image,
         Err(fault) => return Err(fault),
     };
-    match load_script(alloc, shelf, words, board.interrupts) {
+    match load_script(alloc, shelf, &names, board.interrupts) {
         Ok(script) => Ok(Files {
             board,
             secure,
             nonsecure,
             script,
         }),
+        Err(fault) => Err(fault),
+    }
+}
+
+/// The image of a disassembly, for the board that is read first.
+pub fn load_listed<H: Shelf>(
+    alloc: Global,
+    shelf: &mut H,
+    words: &DisWords<'_>,
+) -> Result<Image, LoadError>
+    ensures ok { IfOk result (λ i. Allows (listed_told (H.held shelf.old) (dis_in words.now)) i) }
+    ensures err { IfErr result (λ e. IsFault (record { held = H.held shelf.old; sound = H.sound shelf.old; before = H.faults shelf.old; now = H.faults shelf.new }) (dis_files (dis_in words.now)) (IsListed (H.held shelf.old) (dis_in words.now)) (listed_told (H.held shelf.old) (dis_in words.now)) e) }
+    ensures later { H.faults shelf.old ≤ H.faults shelf.new }
+{
+    let names = names_of_dis(words);
+    let board = match load_board(alloc, shelf, &names) {
+        Ok(board) => board,
+        Err(fault) => return Err(fault),
+    };
+    match load_image(alloc, shelf, &names, File::First, &board, words.side) {
+        Ok(image) => Ok(image),
         Err(fault) => Err(fault),
     }
 }

@@ -1,8 +1,10 @@
-//! tzrun: runs a Secure and a Non-secure image on a board, and writes the trace of their steps.
+//! tzrun: runs a Secure and a Non-secure image on a board and writes the trace of their steps, or writes an
+//! image as the text of its instructions.
 //!
 //! `top` does all that the program does, over any shelf of files and any two sinks.
 #![tactic(auto)]
 
+mod dis;
 mod files;
 mod lines;
 mod program;

@@ -2,25 +2,22 @@
 //!
 //! A line is built whole and goes out as one put. Its text is exactly the definition's.
 
-ghost use Rattle.std.specs.Prelude.{◌≡◌, ◌⊎◌, ◌≤◌, ◌+◌, ◌++◌, IfOk, OnOk, decimal, length, vec_len};
-ghost use Rattle.tz_model.specs.Outside.{Rose, Gains};
+ghost use Rattle.std.specs.Prelude.{◌≡◌, ◌⊎◌, ◌≤◌, ◌+◌, ◌++◌, IfOk, OnOk, codes, decimal, length, vec_len};
 ghost use Rattle.tz_elf.specs.Images.{Refusal};
 ghost use Rattle.tz_board.specs.BoardErrors.{refusal_of, place_of};
 ghost use Rattle.tz_board.specs.ScriptErrors.{script_refusal_of};
-ghost use Rattle.tz_words.specs.Run.{run_in, run_names};
 ghost use Rattle.tz_words.specs.Commands.{longest};
-ghost use Rattle.tz_cli.specs.Answer.{Exceeds, GainsFront};
+ghost use Rattle.tz_cli.specs.Answer.{IsTold};
 ghost use Rattle.tz_cli.specs.Lines.{board_code, image_code, script_code, place_text, refused_line, unread_line, limit_line};
-ghost use Rattle.tz_cli.specs.Faults.{image_refusal, line_with, status_with, stop_of, code_with};
+ghost use Rattle.tz_cli.specs.Faults.{image_refusal, line_with, list_of, names_read, status_with, stop_of, code_with};
 
 use crate::files::name_of;
-use crate::stops::LoadError;
+use crate::stops::{FileNames, LoadError};
 use itoa::Buffer;
 use std::alloc::{AllocError, Global};
 use tz_board::{BoardError, Place, ScriptError};
 use tz_elf::ElfError;
 use tz_model::Sink;
-use tz_words::RunWords;
 
 /// Appends a text.
 fn push_text(line: &mut Vec<u8>, text: &str) -> Result<(), AllocError>
@@ -199,34 +196,51 @@ fn script_line(alloc: Global, name: &str, error: ScriptError) -> Result<Vec<u8>,
 /// The line of a fault, and its status: 3, 5, 6, or 7 for want of memory.
 pub fn fault_line(
     alloc: Global,
-    words: &RunWords<'_>,
+    names: &FileNames<'_>,
     fault: LoadError,
 ) -> Result<(Vec<u8>, u8), AllocError>
-    ensures line { IfOk result (λ p. p.0.items ≡ line_with (stop_of (run_in words.now) fault)) }
-    ensures len { IfOk result (λ p. vec_len p.0 ≤ 64 + longest (run_names (run_in words.now))) }
-    ensures status { IfOk result (λ p. p.1 ≡ status_with (stop_of (run_in words.now) fault)) }
+    ensures line { IfOk result (λ p. p.0.items ≡ line_with (stop_of (names_read names.now) fault)) }
+    ensures len { IfOk result (λ p. vec_len p.0 ≤ 64 + longest (list_of (names_read names.now))) }
+    ensures status { IfOk result (λ p. p.1 ≡ status_with (stop_of (names_read names.now) fault)) }
 {
     match fault {
-        LoadError::Unread(file) => Ok((unread_line(alloc, name_of(words, file))?, 3)),
-        LoadError::Long(file) => Ok((limit_line(alloc, name_of(words, file))?, 6)),
+        LoadError::Unread(file) => Ok((unread_line(alloc, name_of(names, file))?, 3)),
+        LoadError::Long(file) => Ok((limit_line(alloc, name_of(names, file))?, 6)),
         LoadError::Board(BoardError::Memory) => Err(AllocError),
         LoadError::Image(_, ElfError::Memory) => Err(AllocError),
         LoadError::Script(ScriptError::Memory) => Err(AllocError),
         LoadError::Memory => Err(AllocError),
-        LoadError::Board(error) => Ok((board_line(alloc, words.board, error)?, 5)),
-        LoadError::Script(error) => Ok((script_line(alloc, words.script, error)?, 5)),
-        LoadError::Image(file, error) => Ok((image_line(alloc, name_of(words, file), error)?, 5)),
+        LoadError::Board(error) => Ok((board_line(alloc, names.board, error)?, 5)),
+        LoadError::Script(error) => Ok((script_line(alloc, names.script, error)?, 5)),
+        LoadError::Image(file, error) => Ok((image_line(alloc, name_of(names, file), error)?, 5)),
     }
 }
 
 /// Writes a line on standard error, and answers the status, or 4 where the line can't be written.
 pub fn refuse<E: Sink>(err: &mut E, line: &[u8], status: u8) -> u8
-    ensures { ((result ≡ status) × Gains (E.written err.old) (E.written err.new) line.now)
-        ⊎ ((result ≡ 4) × Rose (E.faults err.old) (E.faults err.new) × Exceeds (E.space err.old) (length line.now)
-        × GainsFront (E.written err.old) (E.written err.new) line.now) }
+    ensures { IsTold result line.now status (E.written err.old) (E.written err.new) (E.space err.old) (E.faults err.old) (E.faults err.new) }
 {
     match err.put(line) {
         Ok(()) => status,
         Err(_) => 4,
+    }
+}
+
+/// Writes the line of a fault on standard error, and answers its status. Where there is no memory for the
+/// line, it is that of want of memory.
+pub fn refuse_fault<E: Sink>(
+    alloc: Global,
+    names: &FileNames<'_>,
+    fault: LoadError,
+    err: &mut E,
+) -> u8
+    ensures { ((length (line_with (stop_of (names_read names.now) fault)) ≤ 64 + longest (list_of (names_read names.now)))
+        × IsTold result (line_with (stop_of (names_read names.now) fault)) (status_with (stop_of (names_read names.now) fault))
+        (E.written err.old) (E.written err.new) (E.space err.old) (E.faults err.old) (E.faults err.new))
+        ⊎ IsTold result (codes "no memory\n") 7 (E.written err.old) (E.written err.new) (E.space err.old) (E.faults err.old) (E.faults err.new) }
+{
+    match fault_line(alloc, names, fault) {
+        Ok((line, status)) => refuse(err, &line, status),
+        Err(_) => refuse(err, b"no memory\n", 7),
     }
 }

@@ -5,8 +5,8 @@ ghost use Rattle.tz_words.specs.Run.{run_in, run_names};
 ghost use Rattle.tz_words.specs.Commands.{Run, longest};
 ghost use Rattle.tz_cli.specs.Answer.{Answer};
 
-use crate::files::load;
-use crate::lines::{fault_line, refuse};
+use crate::files::{load, names_of_run};
+use crate::lines::{refuse, refuse_fault};
 use std::alloc::Global;
 use tz_core::Machine;
 use tz_model::{Shelf, Sink};
@@ -45,12 +45,7 @@ pub fn run_files<H: Shelf, O: Sink, E: Sink>(
     }
     let files = match load(alloc, shelf, words) {
         Ok(files) => files,
-        Err(fault) => {
-            return match fault_line(alloc, words, fault) {
-                Ok((line, status)) => refuse(err, &line, status),
-                Err(_) => refuse(err, b"no memory\n", 7),
-            };
-        }
+        Err(fault) => return refuse_fault(alloc, &names_of_run(words), fault, err),
     };
     let Ok(mut machine) = Machine::new(alloc, &files.board, &files.secure, &files.nonsecure) else {
         return refuse(err, b"no memory\n", 7);

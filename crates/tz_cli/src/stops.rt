@@ -3,12 +3,24 @@
 use tz_board::{BoardError, ScriptError};
 use tz_elf::ElfError;
 
+/// The names of a command's files: a board, one image or two, a script. Of files that it doesn't have they
+/// are empty.
+#[derive(Clone, Copy)]
+pub struct FileNames<'a> {
+    pub board: &'a str,
+    /// The one image, or the Secure one.
+    pub first: &'a str,
+    /// The Non-secure image.
+    pub second: &'a str,
+    pub script: &'a str,
+}
+
 /// A file that the words name.
 #[derive(Clone, Copy)]
 pub enum File {
     Board,
-    Secure,
-    Nonsecure,
+    First,
+    Second,
     Script,
 }
 

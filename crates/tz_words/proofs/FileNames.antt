@@ -5,8 +5,10 @@ use Rattle.std.specs.Str.{bytes_eq}
 use Rattle.tz_model.specs.declared.report.View.{View}
 use Rattle.tz_words.specs.Parts.{Text, Look, EndsOptions, Named, NamedWith, Refused, Positional, look_of, Parts, Next, AnyWord, ItsValue, parts_by, parts_of, with_positional, with_value}
 use Rattle.tz_words.specs.Counts.{count_of}
+use Rattle.tz_table.specs.declared.units.Side.{Side}
 use Rattle.tz_words.specs.Run.{RunWords, run_behind, run_names, run_parts, run_with, view_of}
-use Rattle.tz_words.specs.Commands.{Command, Run, command_behind, command_of, longest, names_of}
+use Rattle.tz_words.specs.Dis.{DisWords, dis_behind, dis_names, dis_parts, dis_with, side_named}
+use Rattle.tz_words.specs.Commands.{Command, Run, Dis, command_behind, command_of, longest, names_of}
 
 -- no positional word is longer than a bound
 abbrev pub Within : ℕ → Option Parts → Type 0
@@ -60,18 +62,42 @@ names_behind : (words : List Text) (o : Option Parts) (r : RunWords) → Within 
 names_behind words None r h e = absurd (cc)
 names_behind words (Some p) r h e = let l = names_in (view_of p.values) p.positionals r e in omega arith
 
-names_run : (words : List Text) (o : Option RunWords) (command : Command) → ((r : RunWords) → o ≡ Some r → longest (run_names r) ≤ longest words)
-    → option_map Run o ≡ Some command → longest (names_of command) ≤ longest words
-names_run words None command h e = absurd (cc)
-names_run words (Some r) command h e =
-    let same : ◌≡◌ {A = Command} (Run r) command = cc in
-    subst (λ (x : Command). longest (names_of x) ≤ longest words) same (h r refl)
+-- so are those of a disassembly
+dis_names_in : (values words : List Text) (d : DisWords) → dis_with values words ≡ Some d → longest (dis_names d) ≤ longest words
+dis_names_in (v ∷ values) words d e = absurd (cc)
+dis_names_in [] [] d e = absurd (cc)
+dis_names_in [] (a ∷ []) d e = absurd (cc)
+dis_names_in [] (a ∷ b ∷ []) d e = absurd (cc)
+dis_names_in [] (a ∷ b ∷ w ∷ x ∷ more) d e = absurd (cc)
+dis_names_in [] (a ∷ b ∷ w ∷ []) d e = go (side_named w) e where
+  go : (o : Option Side) → option_map {T = Side} {U = DisWords} (λ s. record { board = a; image = b; side = s }) o ≡ Some d → longest (dis_names d) ≤ longest (a ∷ b ∷ w ∷ [])
+  go None h = absurd (cc)
+  go (Some s) h =
+      let same : ◌≡◌ {A = DisWords} (record { board = a; image = b; side = s }) d = cc in
+      subst (λ (x : DisWords). longest (dis_names x) ≤ longest (a ∷ b ∷ w ∷ [])) same (omega arith)
+
+dis_names_behind : (words : List Text) (o : Option Parts) (d : DisWords) → Within (longest words) o → option_and_then dis_parts o ≡ Some d → longest (dis_names d) ≤ longest words
+dis_names_behind words None d h e = absurd (cc)
+dis_names_behind words (Some p) d h e = let l = dis_names_in p.values p.positionals d e in omega arith
+
+-- the names of a command that is made of what its words say
+names_made : {A : Type 0} (make : A → Command) (words : List Text) (o : Option A) (command : Command) → ((x : A) → o ≡ Some x → longest (names_of (make x)) ≤ longest words)
+    → option_map make o ≡ Some command → longest (names_of command) ≤ longest words
+names_made make words None command h e = absurd (cc)
+names_made make words (Some x) command h e =
+    let same : ◌≡◌ {A = Command} (make x) command = cc in
+    subst (λ (c : Command). longest (names_of c) ≤ longest words) same (h x refl)
 
 names_command : (name : Text) (words : List Text) (command : Command) → command_behind name words ≡ Some command → longest (names_of command) ≤ longest words
-names_command name words command e = go (bytes_eq name (codes "run")) e where
-  go : (is : Bool) → cond is (option_map Run (run_behind words)) None ≡ Some command → longest (names_of command) ≤ longest words
-  go false h = absurd (cc)
-  go true h = names_run words (run_behind words) command (λ r. names_behind words (parts_of (codes "view") AnyWord words) r (within_parts (codes "view") AnyWord words)) h
+names_command name words command e = is_run (bytes_eq name (codes "run")) e where
+  is_dis : (is : Bool) → cond is (option_map Dis (dis_behind words)) None ≡ Some command → longest (names_of command) ≤ longest words
+  is_dis false h = absurd (cc)
+  is_dis true h = names_made Dis words (dis_behind words) command (λ d. dis_names_behind words (parts_of [] AnyWord words) d (within_parts [] AnyWord words)) h
+
+  is_run : (is : Bool) → cond is (option_map Run (run_behind words)) (cond (bytes_eq name (codes "dis")) (option_map Dis (dis_behind words)) None) ≡ Some command
+      → longest (names_of command) ≤ longest words
+  is_run true h = names_made Run words (run_behind words) command (λ r. names_behind words (parts_of (codes "view") AnyWord words) r (within_parts (codes "view") AnyWord words)) h
+  is_run false h = is_dis (bytes_eq name (codes "dis")) h
 
 -- a command's names are among the words
 pub names_of-longest : (words : List Text) (command : Command) → command_of words ≡ Some command → longest (names_of command) ≤ longest words

@@ -5,4 +5,5 @@ pub mod WordValues
 pub mod WordAnswers
 pub mod Numbers
 pub mod Views
+pub mod Sides
 pub mod FileNames

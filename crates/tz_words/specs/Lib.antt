@@ -3,4 +3,5 @@ pub mod Leaf
 pub mod Found
 pub mod Counts
 pub mod Run
+pub mod Dis
 pub mod Commands

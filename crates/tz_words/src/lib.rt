@@ -9,9 +9,12 @@ ghost use Rattle.std.specs.Prelude.{◌≡◌, IfOk, map, string_bytes, option_m
 ghost use Rattle.tz_words.specs.Commands.{command_in, command_of};
 
 mod counts;
+mod dis;
 mod leaf;
 mod run;
 
+pub use dis::DisWords;
+use dis::words_behind_dis;
 pub use run::RunWords;
 use run::words_behind_run;
 use std::alloc::{AllocError, Global};
@@ -21,6 +24,8 @@ use std::alloc::{AllocError, Global};
 pub enum Command<'a> {
     /// A run of two images on a board.
     Run(RunWords<'a>),
+    /// An image as the text of its instructions.
+    Dis(DisWords<'a>),
 }
 
 /// The command of a command line, which begins with the program's name; `None` where the words are
@@ -35,6 +40,10 @@ pub fn command_words<'a>(
         [_program, command, rest @ ..] => match command.as_str() {
             "run" => match words_behind_run(alloc, rest)? {
                 Some(run) => Ok(Some(Command::Run(run))),
+                None => Ok(None),
+            },
+            "dis" => match words_behind_dis(alloc, rest)? {
+                Some(dis) => Ok(Some(Command::Dis(dis))),
                 None => Ok(None),
             },
             _ => Ok(None),

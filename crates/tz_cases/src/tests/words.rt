@@ -3,10 +3,11 @@
 use crate::words_of;
 use std::alloc::Global;
 use std::test::Fail;
-use tz_model::View;
+use tz_model::{Side, View};
 use tz_words::{Command, command_words};
 
-/// What `run` is told, as one line: the names between `|`, the steps and the view.
+/// What a command is told, as one line: of `run` the names between `|`, the steps and the view; of `dis` its
+/// word, the names and the side.
 fn told(alloc: Global, line: &str) -> Result<String, Fail> {
     let words = words_of(alloc, line)?;
     Ok(match command_words(alloc, &words)? {
@@ -19,6 +20,13 @@ fn told(alloc: Global, line: &str) -> Result<String, Fail> {
                 "{}|{}|{}|{}|{}|{view}",
                 run.board, run.secure, run.nonsecure, run.script, run.steps
             )?
+        }
+        Some(Command::Dis(dis)) => {
+            let side = match dis.side {
+                Side::Secure => "s",
+                Side::NonSecure => "ns",
+            };
+            format!(in alloc; "dis|{}|{}|{side}", dis.board, dis.image)?
         }
         None => String::from_str(alloc, "refused")?,
     })
@@ -59,6 +67,10 @@ fn accepted(rt: HostRuntime) -> Result<(), Fail> {
         ("tzrun run b s n t 00000001", "b|s|n|t|1|ns"),
         ("tzrun run b s n t 10000001", "b|s|n|t|10000001|ns"),
         ("tzrun run b s n t 99999999", "b|s|n|t|99999999|ns"),
+        ("tzrun dis b i s", "dis|b|i|s"),
+        ("tzrun dis @demo i ns", "dis|@demo|i|ns"),
+        ("tzrun dis -- -b --=x s", "dis|-b|--=x|s"),
+        ("tzrun dis - dis -- ns", "dis|-|dis|ns"),
     ];
     for (line, want) in cases {
         let got = told(rt.alloc(), line)?;
@@ -134,6 +146,20 @@ fn refused(rt: HostRuntime) -> Result<(), Fail> {
         "tzrun run b s n t 1_0",
         "tzrun run b s n t ١",
         "tzrun run b s n t -",
+        // `dis` has two names, a side, and no option.
+        "tzrun dis",
+        "tzrun dis b i",
+        "tzrun dis b s",
+        "tzrun dis b i s x",
+        "tzrun dis b i S",
+        "tzrun dis b i x",
+        "tzrun dis b i ",
+        "tzrun dis -b i s",
+        "tzrun dis --view ns b i s",
+        "tzrun dis b i s --view=ns",
+        "tzrun dis --=s b i s",
+        "tzrun dis --= b i s",
+        "tzrun dis b i s --help",
     ];
     for line in lines {
         let got = told(rt.alloc(), line)?;

@@ -1,0 +1,22 @@
+-- Each exit is its answer.
+use Rattle.std.proofs.Common.{refl}
+use Rattle.tz_words.specs.Dis.{dis_in}
+use Rattle.tz_cli.specs.Told.{dis_task}
+use Rattle.tz_cli.specs.Faults.{IsListed, dis_files}
+use Rattle.tz_cli.proofs.Exits.{gains_nothing, answer_told, answer_put, answer_cut, dis_loads, dis_of_image, failed_alone}
+use Rattle.tz_cli.proofs.dis.dis_files.Goals as goal
+
+pub returns-in-Err : goal.returns-in-Err
+returns-in-Err g c =
+    answer_told _ (dis_files (dis_in c.args.words.now)) (IsListed _ (dis_in c.args.words.now)) _ (dis_loads _ (dis_in c.args.words.now) refl) _ c.in-Err.fault _
+    c.names_of_dis.ensures refl c.in-Err.ensures.err (gains_nothing _) c.refuse_fault.ensures
+
+pub returns-in-Ok-disassemble : goal.returns-in-Ok-disassemble
+returns-in-Ok-disassemble g c =
+    answer_put _ (dis_task c.in-Ok.image) (g.O.Sink.space c.disassemble.new.out) refl (dis_of_image _ (dis_in c.args.words.now) c.in-Ok.image c.in-Ok.ensures.ok)
+    c.in-Ok-disassemble.ensures.put refl
+
+pub returns-in-Err-disassemble : goal.returns-in-Err-disassemble
+returns-in-Err-disassemble g c =
+    answer_cut _ (dis_task c.in-Ok.image) (g.O.Sink.space c.disassemble.new.out) c.in-Err-disassemble.field-0 (dis_of_image _ (dis_in c.args.words.now) c.in-Ok.image c.in-Ok.ensures.ok)
+    c.in-Err-disassemble.ensures.put (c.in-Err-disassemble.ensures.cause.failed (failed_alone c.in-Err-disassemble.field-0)) refl
