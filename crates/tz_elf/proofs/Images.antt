@@ -9,7 +9,8 @@ use Rattle.tz_elf.specs.Placement.{image_with, placed_in, regions_for}
 use Rattle.tz_elf.proofs.Accepted.{Accepted, IsImage-accepted, segments_from-accepted}
 use Rattle.tz_elf.proofs.AcceptedLoads.{elf_segments-accepted}
 use Rattle.tz_elf.specs.ElfImage.{elf_segments}
-use Rattle.tz_elf.specs.PlainImage.{image_lines, plain_segments}
+use Rattle.tz_lines.specs.Lines.{lines_of}
+use Rattle.tz_elf.specs.PlainImage.{plain_segments}
 
 pub image_of-segments : (file : List ℕ) (board : BoardValue) (side : Side) (regions usable : List Region) → regions ≡ board.regions → usable ≡ regions_for side regions
     → image_of file board side ≡ image_with (segments_of (placed_in regions usable) file)
@@ -22,7 +23,7 @@ segments_of-accepted all usable file segments e = by_format (slice_index file 0 
   where
     by_format : (t : Bool) → (if t then elf_segments (placed_in all usable) file else plain_segments (placed_in all usable) file) ≡ Ok segments → Accepted all segments
     by_format true h = elf_segments-accepted all usable file segments h
-    by_format false h = segments_from-accepted all usable (image_lines file) 1 [] segments (record { placed = refl; clear = refl }) h
+    by_format false h = segments_from-accepted all usable (lines_of file) 1 [] segments (record { placed = refl; clear = refl }) h
 
 -- segments that a board accepts are those of an image
 pub IsImage-board : (board : BoardValue) (regions : List Region) (segments : List SegmentValue) → IsBoard board → regions ≡ board.regions → Accepted regions segments → IsImage segments

@@ -10,7 +10,8 @@ use Rattle.hex.proofs.HexLemmas.{decode_of-encode_lower, length-encode_with}
 use Rattle.tz_model.specs.Image.{SegmentValue, are_addressed, end_of}
 use Rattle.tz_model.specs.Image.{entries_from}
 use Rattle.tz_elf.specs.Placement.{Segments, no_test}
-use Rattle.tz_elf.specs.PlainImage.{onto_first_line, bytes_of, digits_of, line_text, line_then, image_lines, lines_text, plain_text, segment_of, segment_text, segment_with, segments_from, without_return}
+use Rattle.tz_lines.specs.Lines.{lines_of, onto_first_line}
+use Rattle.tz_elf.specs.PlainImage.{bytes_of, digits_of, line_text, line_then, lines_text, plain_text, segment_of, segment_text, segment_with, segments_from, without_return}
 use Rattle.tz_elf.specs.PlainImage.{plain_segments}
 use Rattle.tz_elf.specs.Images.{pairs_in, pairs_of, pairs_with}
 use Rattle.tz_elf.proofs.Digits.{bytes_of-decode, decoded, segment_of-parts}
@@ -72,13 +73,13 @@ lacks-at c (x ∷ text) (suc i) lack zero_is = lacks-at c text i (and_parts (not
 
 -- ---- one line
 
-image_lines-line : (line rest : List ℕ) → lacks 10 line ≡ true → image_lines (line ++ 10 ∷ rest) ≡ line ∷ image_lines rest
-unfolding image_lines
-image_lines-line [] rest lack = refl
-image_lines-line (x ∷ line) rest lack =
+lines_of-line : (line rest : List ℕ) → lacks 10 line ≡ true → lines_of (line ++ 10 ∷ rest) ≡ line ∷ lines_of rest
+unfolding lines_of
+lines_of-line [] rest lack = refl
+lines_of-line (x ∷ line) rest lack =
     let parts = and_parts (not (x == 10)) (lacks 10 line) lack in
     let other = not-true (x == 10) parts.0 in
-    rw other (ap (onto_first_line x) (image_lines-line line rest parts.1))
+    rw other (ap (onto_first_line x) (lines_of-line line rest parts.1))
 
 without_return-line : (line : List ℕ) → lacks 13 line ≡ true → without_return line ≡ line
 without_return-line line lack =
@@ -128,14 +129,14 @@ line_then-some number before (b ∷ line) s follows some is = rw is refl
 
 -- a line, read
 segments_from-line : (number : ℕ) (before : List SegmentValue) (base : ℕ) (bytes rest : List ℕ) → base < 4294967296 → 1 ≤ length bytes → length bytes ≤ 64 → IsBytes bytes
-    → segments_from no_test number before (image_lines (line_text base bytes ++ 10 ∷ rest))
-    ≡ segments_from no_test (number + 1) (before ++ record { base = base; bytes = bytes } ∷ []) (image_lines rest)
+    → segments_from no_test number before (lines_of (line_text base bytes ++ 10 ∷ rest))
+    ≡ segments_from no_test (number + 1) (before ++ record { base = base; bytes = bytes } ∷ []) (lines_of rest)
 segments_from-line number before base bytes rest fits some few are =
     let line = line_text base bytes in
     let size = length-line_text base bytes in
     segments_from-first no_test number before (line ++ 10 ∷ rest) line rest line
-    (image_lines-line line rest (lacks-line_text 10 base bytes no_feed refl)) (without_return-line line (lacks-line_text 13 base bytes no_return refl))
-    ∙ line_then-some number before line (record { base = base; bytes = bytes }) (λ next. segments_from no_test (number + 1) next (image_lines rest)) (omega (arith, size))
+    (lines_of-line line rest (lacks-line_text 10 base bytes no_feed refl)) (without_return-line line (lacks-line_text 13 base bytes no_return refl))
+    ∙ line_then-some number before line (record { base = base; bytes = bytes }) (λ next. segments_from no_test (number + 1) next (lines_of rest)) (omega (arith, size))
     (segment_of-line_text base bytes fits some few are)
 
 -- ---- the pairs of segments
@@ -164,7 +165,7 @@ pairs_in-push before s = pairs_in-append before (s ∷ []) ∙ ap (λ (rest : Pa
 record Reads (number : ℕ) (before : List SegmentValue) (text rest : List ℕ) (pairs : List (ℕ × ℕ)) : Type 0 where
   next : ℕ
   after : List SegmentValue
-  goes_on : segments_from no_test number before (image_lines (text ++ rest)) ≡ segments_from no_test next after (image_lines rest)
+  goes_on : segments_from no_test number before (lines_of (text ++ rest)) ≡ segments_from no_test next after (lines_of rest)
   more : pairs_in after ≡ pairs_in before ++ pairs
 
 IsBytes-take : (n : ℕ) (bytes : List ℕ) → IsBytes bytes → IsBytes (take n bytes)
@@ -194,7 +195,7 @@ read_lines (suc n) base bytes rest number before least most ends are =
     record {
       next = behind.next;
       after = behind.after;
-      goes_on = ap (λ (text : List ℕ). segments_from no_test number before (image_lines text)) (append_assoc (line_text base (take 64 bytes)) (10 ∷ lines_text n (base + 64) (drop 64 bytes)) rest)
+      goes_on = ap (λ (text : List ℕ). segments_from no_test number before (lines_of text)) (append_assoc (line_text base (take 64 bytes)) (10 ∷ lines_text n (base + 64) (drop 64 bytes)) rest)
           ∙ segments_from-line number before base (take 64 bytes) (lines_text n (base + 64) (drop 64 bytes) ++ rest) (omega (arith, end)) least_one size (IsBytes-take 64 bytes are)
           ∙ behind.goes_on;
       more = behind.more ∙ ap (λ (p : Pairs). p ++ entries_from (base + 64) (drop 64 bytes)) (pairs_in-push before line)
@@ -218,7 +219,7 @@ read_plain_text (s ∷ segments) number before ends are =
     record {
       next = behind.next;
       after = behind.after;
-      goes_on = ap (λ (text : List ℕ). segments_from no_test number before (image_lines text)) (append_assoc (segment_text s) (plain_text segments) []) ∙ first.goes_on ∙ behind.goes_on;
+      goes_on = ap (λ (text : List ℕ). segments_from no_test number before (lines_of text)) (append_assoc (segment_text s) (plain_text segments) []) ∙ first.goes_on ∙ behind.goes_on;
       more = behind.more ∙ ap (λ (p : Pairs). p ++ pairs_in segments) first.more ∙ append_assoc (pairs_in before) (entries_from s.base s.bytes) (pairs_in segments);
     }
 
@@ -237,8 +238,8 @@ lacks-plain_text [] = refl
 lacks-plain_text (s ∷ segments) =
     lacks-append 127 (segment_text s) (plain_text segments) (lacks-lines_text 127 ((length s.bytes + 63) / 64) s.base s.bytes no_magic refl refl) (lacks-plain_text segments)
 
-segments_from-end : (number : ℕ) (before : List SegmentValue) → segments_from no_test number before (image_lines []) ≡ Ok before
-unfolding segments_from image_lines
+segments_from-end : (number : ℕ) (before : List SegmentValue) → segments_from no_test number before (lines_of []) ≡ Ok before
+unfolding segments_from lines_of
 segments_from-end number before = refl
 
 -- the plain image of segments has their addresses and bytes
@@ -249,5 +250,5 @@ pairs_of-plain_text segments ends are =
     let plain = lacks-at 127 (plain_text segments) 0 (lacks-plain_text segments) refl in
     let read = read_plain_text segments 1 [] ends are in
     let all : plain_segments no_test text ≡ Ok read.after =
-    ap (λ (t : List ℕ). segments_from no_test 1 [] (image_lines t)) (sym (append-nil text)) ∙ read.goes_on ∙ segments_from-end read.next read.after in
+    ap (λ (t : List ℕ). segments_from no_test 1 [] (lines_of t)) (sym (append-nil text)) ∙ read.goes_on ∙ segments_from-end read.next read.after in
     rw plain (ap pairs_with all ∙ ap Ok read.more)

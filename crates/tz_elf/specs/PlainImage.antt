@@ -3,17 +3,8 @@ use Rattle.std.specs.Prelude.{ℕ, zero, suc, ◌+◌, ◌-◌, ◌*◌, ◌/◌
 use Rattle.std.specs.Int.{from_be_bytes, to_be_bytes, w32}
 use Rattle.tz_model.specs.Board.{within}
 use Rattle.tz_model.specs.Image.{SegmentValue}
+use Rattle.tz_lines.specs.Lines.{lines_of}
 use Rattle.tz_elf.specs.Placement.{Hex, Segments, Test, first_sharing, unless}
-
--- a byte before the first of these lines
-abbrev pub onto_first_line : ℕ → List (List ℕ) → List (List ℕ)
-onto_first_line b [] = (b ∷ []) ∷ []
-onto_first_line b (line ∷ lines) = (b ∷ line) ∷ lines
-
--- the lines of a text, whose last may lack its line feed (10)
-unfoldable pub image_lines : List ℕ → List (List ℕ)
-image_lines [] = []
-image_lines (b ∷ rest) = if b == 10 then [] ∷ image_lines rest else onto_first_line b (image_lines rest)
 
 -- a line without the carriage return (13) at its end
 abbrev pub without_return : List ℕ → List ℕ
@@ -78,7 +69,7 @@ segments_from test number before (line ∷ lines) =
 
 -- the segments of a plain image
 abbrev pub plain_segments : Test → List ℕ → Segments
-plain_segments test file = segments_from test 1 [] (image_lines file)
+plain_segments test file = segments_from test 1 [] (lines_of file)
 
 -- ---- how an image is written
 

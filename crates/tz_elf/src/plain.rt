@@ -3,9 +3,9 @@
 //! Each line is judged before the next one is looked at, so the refusal is that of the first bad line.
 //! What a line means is told by the definitions; digits are read by the crate hex.
 
-ghost use Rattle.std.specs.Prelude.{◌≡◌, ◌≢◌, ◌+◌, ◌^◌, ◌<◌, ◌≤◌, ℕ, ◌∷◌, length, slice_index, Ok, IfOk, IfErr, OnOk};
+ghost use Rattle.std.specs.Prelude.{◌≡◌, ◌+◌, ◌^◌, ◌<◌, ◌≤◌, ℕ, ◌∷◌, length, slice_index, Ok, IfOk, IfErr, OnOk};
 ghost use Rattle.tz_elf.specs.Placement.{placed_in};
-ghost use Rattle.tz_elf.specs.PlainImage.{image_lines, plain_segments, segment_of, without_return};
+ghost use Rattle.tz_elf.specs.PlainImage.{plain_segments, segment_of, without_return};
 ghost use Rattle.tz_elf.specs.Refusals.{IsImageRefusal};
 ghost use Rattle.tz_elf.specs.Steps.{LineGives, LineIsRefused};
 ghost use Rattle.tz_elf.specs.Taken.{Keeps};
@@ -14,6 +14,7 @@ use crate::error::ElfError;
 use crate::placed::Placed;
 use crate::placement::test_segment;
 use std::alloc::{AllocError, Global};
+use tz_lines::first_line;
 use tz_model::{Region, Segment};
 
 /// The segment that a line tells, or none where the line isn't of the form that tells one.
@@ -36,34 +37,6 @@ fn read_line(alloc: Global, line: &[u8]) -> Result<Option<Segment>, AllocError>
             hex::FromHexError::OutOfMemory => Err(AllocError),
             _ => Ok(None),
         },
-    }
-}
-
-/// The place of the first line feed, or the length.
-fn feed_at(text: &[u8]) -> usize
-    ensures within { result ≤ length text.now }
-    ensures before { (k : ℕ) → k < result → slice_index text.now k ≢ 10 }
-    ensures found { result < length text.now → slice_index text.now result ≡ 10 }
-{
-    for (place, byte) in text.iter().enumerate() {
-        if *byte == b'\n' {
-            return place;
-        }
-    }
-    text.len()
-}
-
-/// The first line, without its line feed, and what follows it.
-fn first_line(text: &[u8]) -> (&[u8], &[u8])
-    requires { 0 < length text.now }
-    ensures lines { image_lines text.now ≡ result.0.now ∷ image_lines result.1.now }
-    ensures shorter { length result.1.now < length text.now }
-{
-    let end = feed_at(text);
-    if end < text.len() {
-        (&text[..end], &text[end + 1..])
-    } else {
-        (text, &[])
     }
 }
 

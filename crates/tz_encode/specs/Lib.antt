@@ -1,2 +1,3 @@
 pub mod Encoded
 pub mod Search
+pub mod Told

@@ -11,4 +11,5 @@ mod search;
 
 pub use encoding::encode;
 pub use error::EncodeError;
+pub use search::find;
 pub use tz_fields::FieldName;

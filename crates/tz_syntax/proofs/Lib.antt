@@ -3,3 +3,4 @@ pub mod Finding
 pub mod Lists
 pub mod NameLemmas
 pub mod Room
+pub mod SpellingLemmas

@@ -7,5 +7,6 @@ pub mod Operands
 pub mod OtherTexts
 pub mod Pieces
 pub mod Rows
+pub mod Spelling
 pub mod Starts
 pub mod Text

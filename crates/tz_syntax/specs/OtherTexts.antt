@@ -65,7 +65,7 @@ system =
     wide hint (is 5 3 ∷ []) (codes "wfi.w") [] ∷  -- wfi.w
     wide hint (is 5 4 ∷ []) (codes "sev.w") [] ∷  -- sev.w
     wide hint [] (codes "hint.w") (num 5 ∷ []) ∷  -- hint.w #o
-    wide (barrier Clrex) [] (codes "clrex") [] ∷  -- clrex
+    wide (barrier Clrex) (is 5 15 ∷ []) (codes "clrex") [] ∷  -- clrex
     wide (barrier Dsb) [] (codes "dsb") (num 5 ∷ []) ∷  -- dsb #option
     wide (barrier Dmb) [] (codes "dmb") (num 5 ∷ []) ∷  -- dmb #option
     wide (barrier Isb) [] (codes "isb") (num 5 ∷ []) ∷  -- isb #option

@@ -12,7 +12,12 @@ mod pieces;
 mod row;
 mod rows;
 mod search;
+mod spelling;
 
 pub use digits::{push_decimal, push_hex_byte, push_hex_half, push_hex_word};
 pub use instructions::{instruction_text, push_instruction};
 pub use names::register_name;
+pub use pieces::number_at;
+pub use row::{Mark, Piece, Row};
+pub use rows::text_rows;
+pub use spelling::{condition_of, register_of, shift_of, special_of, spells};

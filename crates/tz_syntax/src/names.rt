@@ -3,19 +3,19 @@
 ghost use Rattle.std.specs.Prelude.{◌≡◌, ◌≤◌, length, map, slice_get};
 ghost use Rattle.tz_syntax.specs.Names.{or_nothing, register_text, condition_text, shift_name as shift_name_of, special_text};
 
-static REGISTERS: [&str; 16] = [
+pub static REGISTERS: [&str; 16] = [
     "r0", "r1", "r2", "r3", "r4", "r5", "r6", "r7", "r8", "r9", "r10", "r11", "r12", "sp", "lr",
     "pc",
 ];
 
-static CONDITIONS: [&str; 15] = [
+pub static CONDITIONS: [&str; 15] = [
     "eq", "ne", "cs", "cc", "mi", "pl", "vs", "vc", "hi", "ls", "ge", "lt", "gt", "le", "al",
 ];
 
-static SHIFTS: [&str; 4] = ["lsl", "lsr", "asr", "ror"];
+pub static SHIFTS: [&str; 4] = ["lsl", "lsr", "asr", "ror"];
 
 /// The special registers from number 0 on.
-static SPECIALS: [&str; 21] = [
+pub static SPECIALS: [&str; 21] = [
     "apsr",
     "iapsr",
     "eapsr",
@@ -40,7 +40,7 @@ static SPECIALS: [&str; 21] = [
 ];
 
 /// Those of Non-secure state, from number 0x88 on.
-static NONSECURE_SPECIALS: [&str; 17] = [
+pub static NONSECURE_SPECIALS: [&str; 17] = [
     "msp_ns",
     "psp_ns",
     "msplim_ns",

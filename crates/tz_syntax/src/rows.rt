@@ -156,6 +156,13 @@ macro_rules! row {
 
 mod table;
 
+/// All rows, in the order in which the first that fits gives the text of an instruction.
+pub fn text_rows() -> &'static [Row]
+    ensures { map row_view result.now ≡ texts }
+{
+    &ROWS
+}
+
 /// The rows from one of them on.
 fn behind(rows: &'static [Row], start: u16) -> &'static [Row]
     ensures { result.now ≡ drop start rows.now }

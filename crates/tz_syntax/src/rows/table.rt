@@ -369,8 +369,8 @@ pub static ROWS: [Row; 305] = [
     row!(77 Wide [(5 3)] "wfi.w"),
     row!(77 Wide [(5 4)] "sev.w"),
     row!(77 Wide [] "hint.w"; num 5),
-    // Barrier Clrex
-    row!(78 Wide [] "clrex"),
+    // Barrier Clrex, with the one option of its code
+    row!(78 Wide [(5 15)] "clrex"),
     // Barrier Dsb
     row!(79 Wide [] "dsb"; num 5),
     // Barrier Dmb

@@ -1,7 +1,8 @@
 use Rattle.std.proofs.Common.{◌≡◌, ◌∙◌, ◌+◌, arith, length}
 use Rattle.std.proofs.lemmas.Bool.Decides.{nat_tests}
 use Rattle.tz_elf.specs.Placement.{placed_in}
-use Rattle.tz_elf.specs.PlainImage.{image_lines, segments_from}
+use Rattle.tz_lines.specs.Lines.{lines_of}
+use Rattle.tz_elf.specs.PlainImage.{segments_from}
 use Rattle.tz_elf.proofs.Lines.{segments_from-first, segments_from-none}
 use Rattle.tz_elf.proofs.RefusalLemmas.{IsImageRefusal-along}
 use Rattle.tz_elf.proofs.plain.read_plain.Goals as goal
@@ -12,7 +13,7 @@ returns-in-Err-clause-err c =
     let turn = segments_from-first test c.loop-rest.number c.loop-rest.placed.segments.items c.loop-rest.rest.now c.first_line.result.0.now c.first_line.result.1.now
     c.line_without_return-line.result.now c.first_line.ensures.lines c.line_without_return-line.ensures in
     IsImageRefusal-along c.in-Err.error _ _ (c.loop-rest.invariant.segments ∙ turn)
-    (c.in-Err.ensures.err (λ next. segments_from test (c.loop-rest.number + 1) next (image_lines c.first_line.result.1.now)))
+    (c.in-Err.ensures.err (λ next. segments_from test (c.loop-rest.number + 1) next (lines_of c.first_line.result.1.now)))
 
 pub loop-rest-preserved : goal.loop-rest-preserved
 loop-rest-preserved c =
@@ -23,7 +24,7 @@ loop-rest-preserved c =
     let grows = c.in_default.ensures.grows in
     record {
       segments = c.loop-rest.invariant.segments ∙ turn
-          ∙ c.in_default.ensures.ok (λ next. segments_from test (c.loop-rest.number + 1) next (image_lines c.first_line.result.1.now));
+          ∙ c.in_default.ensures.ok (λ next. segments_from test (c.loop-rest.number + 1) next (lines_of c.first_line.result.1.now));
       kept = c.in_default.ensures.kept;
       number = omega arith;
       count = omega arith;

@@ -1,0 +1,61 @@
+//! The lines of a text, one at a time.
+//!
+//! A line ends with a line feed, or with the text. What a line says isn't known here.
+#![tactic(auto)]
+
+ghost use Rattle.std.specs.Prelude.{◌≡◌, ◌≢◌, ◌<◌, ◌≤◌, ℕ, ◌∷◌, length, slice_index};
+ghost use Rattle.tz_lines.specs.Lines.{lines_of};
+
+/// The place of the first line feed, or the length.
+fn feed_at(text: &[u8]) -> usize
+    ensures within { result ≤ length text.now }
+    ensures before { (k : ℕ) → k < result → slice_index text.now k ≢ 10 }
+    ensures found { result < length text.now → slice_index text.now result ≡ 10 }
+{
+    for (place, byte) in text.iter().enumerate() {
+        if *byte == b'\n' {
+            return place;
+        }
+    }
+    text.len()
+}
+
+/// The first line of a text that isn't empty, without its line feed, and what follows that.
+pub fn first_line(text: &[u8]) -> (&[u8], &[u8])
+    requires { 0 < length text.now }
+    ensures lines { lines_of text.now ≡ result.0.now ∷ lines_of result.1.now }
+    ensures shorter { length result.1.now < length text.now }
+{
+    let end = feed_at(text);
+    if end < text.len() {
+        (&text[..end], &text[end + 1..])
+    } else {
+        (text, &[])
+    }
+}
+
+#[cfg(test)]
+mod tests {
+    use super::first_line;
+
+    #[test]
+    fn a_line_with_its_feed(rt: HostRuntime) {
+        let (line, after) = first_line(b"ab\n\nc");
+        assert_eq!(rt; line, b"ab".as_slice());
+        assert_eq!(rt; after, b"\nc".as_slice());
+    }
+
+    #[test]
+    fn an_empty_line(rt: HostRuntime) {
+        let (line, after) = first_line(b"\nc");
+        assert_eq!(rt; line, b"".as_slice());
+        assert_eq!(rt; after, b"c".as_slice());
+    }
+
+    #[test]
+    fn the_last_line_without_a_feed(rt: HostRuntime) {
+        let (line, after) = first_line(b"c\r");
+        assert_eq!(rt; line, b"c\r".as_slice());
+        assert_eq!(rt; after, b"".as_slice());
+    }
+}

@@ -1,0 +1,10 @@
+pub mod Bits
+pub mod Coded
+pub mod Front
+pub mod Index
+pub mod Mnemonics
+pub mod Operands
+pub mod Readings
+pub mod Rows
+pub mod Told
+pub mod Views
