@@ -1,0 +1,9 @@
+pub mod Telling
+pub mod Readings
+pub mod Labels
+pub mod FirstTurns
+pub mod SecondTurns
+pub mod Bytes
+pub mod Segments
+pub mod Passes
+pub mod Told

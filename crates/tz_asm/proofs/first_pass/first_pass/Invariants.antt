@@ -1,0 +1,16 @@
+use Rattle.std.proofs.Common.{◌≡◌, ◌+◌, ◌≤◌, length}
+use Rattle.tz_asm.specs.FirstPass.{first_from, first_pass}
+use Rattle.tz_asm.specs.Layouts.{IsLayout}
+use Rattle.tz_asm.specs.Places.{places_in}
+use Rattle.tz_lines.specs.Lines.{lines_of}
+use Rattle.tz_asm.proofs.first_pass.first_pass.Given as goal
+
+abbrev pub invariant-loop-rest : goal.invariant-loop-rest
+invariant-loop-rest l = record {
+  read : first_pass l.source ≡ first_from l.line (places_in l.places) l.layout (lines_of l.rest);
+  within : IsLayout l.layout;
+  counted : l.line + length l.rest ≤ length l.source + 1;
+}
+
+abbrev pub decreases-loop-rest : goal.decreases-loop-rest
+decreases-loop-rest l = length l.rest

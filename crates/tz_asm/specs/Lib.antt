@@ -1,0 +1,12 @@
+pub mod Refusals
+pub mod Errors
+pub mod Reading
+pub mod Layouts
+pub mod Places
+pub mod FirstPass
+pub mod Values
+pub mod Written
+pub mod Growing
+pub mod SecondPass
+pub mod Assembled
+pub mod Told

@@ -1,0 +1,140 @@
+//! Sources whose images and refusals were told by hand, or by GNU binutils.
+
+use crate::assemble;
+use std::alloc::{AllocError, Global};
+use std::fmt::Write;
+use std::test::Fail;
+
+/// The segments of a source's image, a line each, or the code and the line of its refusal.
+fn told(alloc: Global, source: &[u8]) -> Result<String, AllocError> {
+    if source.len() > 0x100_0000 {
+        return String::from_str(alloc, "too long");
+    }
+    let image = match assemble(alloc, source) {
+        Ok(image) => image,
+        Err(error) => return format!(in alloc; "{error}"),
+    };
+    let mut text = String::new(alloc);
+    for segment in image.segments.iter() {
+        write!(text, "{:08x} ", segment.base)?;
+        for byte in segment.bytes.iter() {
+            write!(text, "{byte:02x}")?;
+        }
+        text.push('\n')?;
+    }
+    Ok(text)
+}
+
+#[test]
+fn values(rt: HostRuntime) -> Result<(), Fail> {
+    let source =
+        b"a: .byte 1\n .byte -128\n .half 0xABCD\n.word a-1 ; less\n.word b+0x10\n.half -32768\nb:";
+    assert_eq!(rt;
+        told(rt.alloc(), source)?.as_str(),
+        "00000000 0180cdabffffffff1e0000000080\n"
+    );
+    Ok(())
+}
+
+#[test]
+fn places(rt: HostRuntime) -> Result<(), Fail> {
+    let source = b".org 0x101\nx: .align 4\n .word x\ny: .org 0x200\n .word y\n";
+    assert_eq!(rt;
+        told(rt.alloc(), source)?.as_str(),
+        "00000101 00000001010000\n00000200 08010000\n"
+    );
+    Ok(())
+}
+
+#[test]
+fn the_last_address(rt: HostRuntime) -> Result<(), Fail> {
+    let source = b".org 0xffffffff\n.byte 1\nend: .align 2\n.org 0xffffffff";
+    assert_eq!(rt; told(rt.alloc(), source)?.as_str(), "A7 4");
+    let source = b".org 0xffffffff\n.byte 1\nend: .align 2\n.byte end-0xffffff01";
+    assert_eq!(rt; told(rt.alloc(), source)?.as_str(), "A8 4");
+    Ok(())
+}
+
+#[test]
+fn refusals(rt: HostRuntime) -> Result<(), Fail> {
+    assert_eq!(rt; told(rt.alloc(), b"\n .word $ 1")?.as_str(), "A1 2");
+    assert_eq!(rt; told(rt.alloc(), b"a: 5")?.as_str(), "A2 1");
+    assert_eq!(rt; told(rt.alloc(), b".align 3")?.as_str(), "A3 1");
+    assert_eq!(rt; told(rt.alloc(), b"Sp: .byte 1")?.as_str(), "A3 1");
+    assert_eq!(rt; told(rt.alloc(), b".byte 256\n.byte k")?.as_str(), "A4 1");
+    assert_eq!(rt; told(rt.alloc(), b".byte k\n.byte 256")?.as_str(), "A5 1");
+    assert_eq!(rt; told(rt.alloc(), b"a:\na: .org -1")?.as_str(), "A6 2");
+    assert_eq!(rt;
+        told(rt.alloc(), b".byte 300\n.org 1\n.org 0")?.as_str(),
+        "A7 3"
+    );
+    assert_eq!(rt;
+        told(rt.alloc(), b".byte 0\n.align 0x800000")?.as_str(),
+        "A8 2"
+    );
+    Ok(())
+}
+
+// The code is that of GNU binutils.
+#[test]
+fn instructions(rt: HostRuntime) -> Result<(), Fail> {
+    let source = b"start: ldr r0, k\n b start\n nop\n NOP\nk: .word 0x12345678\n beq.w start\n";
+    assert_eq!(rt;
+        told(rt.alloc(), source)?.as_str(),
+        "00000000 0148fde700bf00bf785634123ff4f8af\n"
+    );
+    let source = b".org 0x00200040\nmovs r0, #5\n";
+    assert_eq!(rt; told(rt.alloc(), source)?.as_str(), "00200040 0520\n");
+    assert_eq!(rt; told(rt.alloc(), b"\nmovs r0, #256")?.as_str(), "A4 2");
+    assert_eq!(rt; told(rt.alloc(), b"\nmvos r0, #5")?.as_str(), "A2 2");
+    assert_eq!(rt;
+        told(rt.alloc(), b"b nowhere\nmovs r0, #256")?.as_str(),
+        "A5 1"
+    );
+    assert_eq!(rt;
+        told(rt.alloc(), b"movs r0, 5\nb nowhere")?.as_str(),
+        "A3 1"
+    );
+    Ok(())
+}
+
+// There is no code behind the last address, and a target there is out of range.
+#[test]
+fn a_label_behind_the_last_address(rt: HostRuntime) -> Result<(), Fail> {
+    let source = b".org 0xfffffffc\nb end\nnop\nend:";
+    assert_eq!(rt; told(rt.alloc(), source)?.as_str(), "A4 2");
+    let source = b".org 0xfffffffc\nnop\nldr r0, eq\nit eq\n";
+    assert_eq!(rt; told(rt.alloc(), source)?.as_str(), "A8 4");
+    let source = b".org 0xfffffffc\nit eq\nit EQ\neq:";
+    assert_eq!(rt; told(rt.alloc(), source)?.as_str(), "fffffffc 08bf08bf\n");
+    Ok(())
+}
+
+/// So many segments of a byte each, and what is between the last `.org` and its byte.
+fn segments(alloc: Global, count: u32, between: &str) -> Result<String, AllocError> {
+    let mut source = String::new(alloc);
+    for segment in 0..count {
+        if segment > 0 {
+            source.push_str(".byte 1\n")?;
+        }
+        let place = u64::from(segment) * 2;
+        write!(source, ".org {place}\n")?;
+    }
+    source.push_str(between)?;
+    source.push_str(".byte 1\n")?;
+    Ok(source)
+}
+
+#[test]
+fn many_segments(rt: HostRuntime) -> Result<(), Fail> {
+    let source = segments(rt.alloc(), 65_535, "")?;
+    let text = told(rt.alloc(), source.as_bytes())?;
+    assert_eq!(rt; text.len(), 12 * 65_535);
+    let source = segments(rt.alloc(), 65_536, ".org 0x20000\n")?;
+    assert_eq!(rt; told(rt.alloc(), source.as_bytes())?.as_str(), "A8 131072");
+    let source = segments(rt.alloc(), 65_536, "\na: .align 1\n")?;
+    assert_eq!(rt; told(rt.alloc(), source.as_bytes())?.as_str(), "A8 131071");
+    let source = segments(rt.alloc(), 65_536, ".org 0\n")?;
+    assert_eq!(rt; told(rt.alloc(), source.as_bytes())?.as_str(), "A7 131072");
+    Ok(())
+}

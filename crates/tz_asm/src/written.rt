@@ -1,0 +1,174 @@
+//! The bytes of statements.
+
+ghost use Rattle.std.specs.Prelude.{◌≡◌, ◌+◌, ◌≤◌, ◌^◌, ◌++◌, [], Err, IfErr, MatchOption, None, Ok, OnOk, length};
+ghost use Rattle.tz_asm.specs.Errors.{IsRefusal, Tells};
+ghost use Rattle.tz_asm.specs.Layouts.{byte_count, padding};
+ghost use Rattle.tz_asm.specs.Places.{places_in};
+ghost use Rattle.tz_asm.specs.Values.{data_bytes};
+ghost use Rattle.tz_asm.specs.Written.{InstructionWrites, Writes, as_address, code_bytes, label_place, last_word, uncoded, word_of};
+ghost use Rattle.tz_source.specs.Views.{expression_view, statement_view, views};
+ghost use Rattle.tz_tokens.specs.Views.{token_view};
+
+use crate::error::AsmError;
+use crate::layout::{padding, size_bytes};
+use crate::places::{Places, place_of};
+use crate::values::{in_size, push_low_first, value_of};
+use std::alloc::AllocError;
+use tz_source::{Expression, Statement};
+use tz_statement::{Uncoded, code_of};
+use tz_table::{Code, Size, Width};
+use tz_tokens::Token;
+
+/// The bytes of a value.
+#[tactic(auto, unfolding(crate::specs::Values::data_bytes))]
+fn write_data<'s>(
+    places: &Places<'s>,
+    line: u32,
+    size: Size,
+    expression: &Expression<'s>,
+    bytes: &mut Vec<u8>,
+) -> Result<(), AsmError>
+    requires { bytes.old.items ≡ [] }
+    ensures ok { OnOk result (data_bytes line (places_in places.now) size (expression_view expression.now)
+        ≡ Ok bytes.new.items) }
+    ensures err { IfErr result (λ e. IsRefusal e
+        (data_bytes line (places_in places.now) size (expression_view expression.now))) }
+{
+    let Some(value) = value_of(places, expression) else {
+        return Err(AsmError::NoLabel(line));
+    };
+    let Some(number) = in_size(size, value) else {
+        return Err(AsmError::Range(line));
+    };
+    match push_low_first(bytes, size_bytes(size), number) {
+        Ok(()) => Ok(()),
+        Err(_) => Err(AsmError::Memory),
+    }
+}
+
+/// The last token.
+fn last<'s>(tokens: &[Token<'s>]) -> Option<Token<'s>>
+    ensures { MatchOption result (last_word (views tokens.now) ≡ None)
+        (λ t. last_word (views tokens.now) ≡ word_of (token_view t)) }
+{
+    match tokens.split_last() {
+        None => None,
+        Some((token, _)) => Some(*token),
+    }
+}
+
+/// The place of the label that the last operand may be.
+fn label_place<'s>(places: &Places<'s>, operands: &[Token<'s>]) -> Option<u64>
+    ensures { label_place (places_in places.now) (views operands.now) ≡ result }
+{
+    match last(operands) {
+        None => None,
+        Some(Token::Word(word)) => place_of(places, word),
+        Some(Token::Number(_)) => None,
+        Some(Token::Mark(_)) => None,
+    }
+}
+
+/// Appends a code of a width.
+fn push_code(bytes: &mut Vec<u8>, width: Width, code: Code) -> Result<(), AllocError>
+    ensures { OnOk result (bytes.new.items ≡ bytes.old.items ++ code_bytes width code) }
+{
+    push_low_first(bytes, 2, u64::from(code.first))?;
+    match width {
+        Width::Narrow => Ok(()),
+        Width::Wide => push_low_first(bytes, 2, u64::from(code.second.unwrap_or(0))),
+    }
+}
+
+/// Why an instruction has no code, where the label among its operands has a place or none.
+fn error_of(line: u32, label: Option<u64>, cause: Uncoded) -> AsmError
+    ensures { Tells result (λ r. uncoded line label cause ≡ r) }
+{
+    match cause {
+        Uncoded::Range => AsmError::Range(line),
+        Uncoded::NoLabel => match label {
+            None => AsmError::NoLabel(line),
+            Some(_) => AsmError::Range(line),
+        },
+    }
+}
+
+/// A place, where it is an address.
+fn as_address(place: Option<u64>) -> Option<u32>
+    ensures { as_address place ≡ result }
+{
+    match place {
+        Some(place) => {
+            if place < 0x1_0000_0000 {
+                Some(place as u32)
+            } else {
+                None
+            }
+        }
+        None => None,
+    }
+}
+
+/// Writes the code of an instruction at a place, as what is appended to nothing.
+fn write_instruction<'s>(
+    places: &Places<'s>,
+    line: u32,
+    place: u32,
+    width: Width,
+    mnemonic: &'s [u8],
+    operands: &[Token<'s>],
+    bytes: &mut Vec<u8>,
+) -> Result<(), AsmError>
+    requires { bytes.old.items ≡ [] }
+    ensures ok { OnOk result (InstructionWrites line (places_in places.now) place width mnemonic.now
+        (views operands.now) (Ok bytes.new.items)) }
+    ensures err { IfErr result (λ e. Tells e (λ r. InstructionWrites line (places_in places.now) place width
+        mnemonic.now (views operands.now) (Err r))) }
+{
+    let label = label_place(places, operands);
+    match code_of(mnemonic, operands, place, as_address(label)) {
+        Ok(code) => match push_code(bytes, width, code) {
+            Ok(()) => Ok(()),
+            Err(_) => Err(AsmError::Memory),
+        },
+        Err(cause) => Err(error_of(line, label, cause)),
+    }
+}
+
+/// Writes the bytes of a statement at a place, in place of what `bytes` had. The refusals are `NoLabel` and
+/// `Range`.
+#[tactic(auto, unfolding(crate::specs::Written::Writes, crate::specs::Layouts::byte_count, crate::specs::Values::data_bytes))]
+pub fn write_statement<'s>(
+    places: &Places<'s>,
+    line: u32,
+    place: u64,
+    statement: &Statement<'_, 's>,
+    bytes: &mut Vec<u8>,
+) -> Result<(), AsmError>
+    requires { place + byte_count place (statement_view statement.now) ≤ 2 ^ 32 }
+    ensures ok { OnOk result (Writes line (places_in places.now) place (statement_view statement.now)
+        (Ok bytes.new.items)) }
+    ensures count { OnOk result (length bytes.new.items ≡ byte_count place (statement_view statement.now)) }
+    ensures err { IfErr result (λ e. Tells e (λ r. Writes line (places_in places.now) place
+        (statement_view statement.now) (Err r))) }
+{
+    bytes.clear();
+    match *statement {
+        Statement::Nothing => Ok(()),
+        Statement::Org(_) => Ok(()),
+        Statement::Align(multiple) => match bytes.resize(padding(multiple, place) as usize, 0) {
+            Ok(()) => Ok(()),
+            Err(_) => Err(AsmError::Memory),
+        },
+        Statement::Data(size, expression) => write_data(places, line, size, &expression, bytes),
+        Statement::Instruction(width, mnemonic, operands) => write_instruction(
+            places,
+            line,
+            place as u32,
+            width,
+            mnemonic,
+            operands,
+            bytes,
+        ),
+    }
+}
