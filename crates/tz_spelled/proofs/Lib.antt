@@ -1,0 +1,11 @@
+pub mod AllSpelled
+pub mod ArithmeticSpelled
+pub mod BranchSpelled
+pub mod Cases
+pub mod DataSpelled
+pub mod Forms
+pub mod Groups
+pub mod LoadSpelled
+pub mod MultipleSpelled
+pub mod NarrowSpelled
+pub mod Spelling
