@@ -10,8 +10,8 @@ use Rattle.tz_twin.specs.Trace.{text_from}
 use Rattle.tz_run.specs.Events.{events_of}
 use Rattle.tz_twin.proofs.TwoRuns.{isolated}
 use Rattle.tz_words.specs.Run.{RunWords}
-use Rattle.tz_words.specs.Commands.{Command, Run, Dis, command_of}
-use Rattle.tz_cli.specs.Told.{Stop, BadWords, TooManySteps, Unread, TooLong, BadBoard, BadImage, BadScript, Told, Unknown, Stops, Gives, told_then, Job, Task, run_task, told, IsDone, job_told, trace_of, state_of}
+use Rattle.tz_words.specs.Commands.{Command, Run, Asm, Dis, command_of}
+use Rattle.tz_cli.specs.Told.{Stop, BadWords, TooManySteps, Unread, TooLong, BadBoard, BadImage, BadScript, BadSource, Told, Unknown, Stops, Gives, told_then, Job, Task, run_task, told, IsDone, job_told, trace_of, state_of}
 use Rattle.tz_cli.specs.Reads.{reads_of, TellsOf}
 use Rattle.tz_cli.specs.Lines.{stop_line, status_of}
 use Rattle.tz_cli.specs.Answer.{Allows, AllowsStop, Shelved, IsUnread, IsCaused, IsLine, Call, told_of, GainsFront, Exceeds, Answer, Done, Broken, Stopped, Wanting, Silent, Excused, IsText, IsRefusedBy, NamesUnread, CutsLine, IsStatus}
@@ -23,6 +23,7 @@ use Rattle.tz_cli.proofs.Reached.{absent_task, never_gives}
 done_below : (o : Option Command) (n : ℕ) → IsDone o n → n < 2
 done_below None n h = absurd h
 done_below (Some (Run r)) n h = omega arith
+done_below (Some (Asm a)) n h = omega arith
 done_below (Some (Dis d)) n h = omega arith
 
 stop_above : (stop : Stop) → 2 ≤ status_of stop
@@ -33,6 +34,7 @@ stop_above (TooLong name) = omega arith
 stop_above (BadBoard name refusal) = omega arith
 stop_above (BadImage name refusal) = omega arith
 stop_above (BadScript name refusal) = omega arith
+stop_above (BadSource name refusal) = omega arith
 
 not_broken : (stop : Stop) → status_of stop ≢ 4
 not_broken BadWords e = cc
@@ -42,6 +44,7 @@ not_broken (TooLong name) e = cc
 not_broken (BadBoard name refusal) e = cc
 not_broken (BadImage name refusal) e = cc
 not_broken (BadScript name refusal) e = cc
+not_broken (BadSource name refusal) e = cc
 
 not_wanting : (stop : Stop) → status_of stop ≢ 7
 not_wanting BadWords e = cc
@@ -51,6 +54,7 @@ not_wanting (TooLong name) e = cc
 not_wanting (BadBoard name refusal) e = cc
 not_wanting (BadImage name refusal) e = cc
 not_wanting (BadScript name refusal) e = cc
+not_wanting (BadSource name refusal) e = cc
 
 -- ---- what is settled
 
@@ -86,6 +90,7 @@ cause_of c (TooLong name) h = OfTold h.0 h.1 (λ e. cc)
 cause_of c (BadBoard name refusal) h = OfTold h.0 h.1 (λ e. cc)
 cause_of c (BadImage name refusal) h = OfTold h.0 h.1 (λ e. cc)
 cause_of c (BadScript name refusal) h = OfTold h.0 h.1 (λ e. cc)
+cause_of c (BadSource name refusal) h = OfTold h.0 h.1 (λ e. cc)
 
 -- ---- the causes of answers
 
@@ -97,6 +102,7 @@ usage_of_stop c (TooLong name) e h = absurd (cc)
 usage_of_stop c (BadBoard name refusal) e h = absurd (cc)
 usage_of_stop c (BadImage name refusal) e h = absurd (cc)
 usage_of_stop c (BadScript name refusal) e h = absurd (cc)
+usage_of_stop c (BadSource name refusal) e h = absurd (cc)
 
 pub usage_only : (c : Call) (result : ℕ) → Answer c result → result ≡ 2 → c.command ≡ None
 usage_only c result (Done task e done told out err) is = let below = done_below c.command result done in absurd (omega arith)
@@ -337,6 +343,7 @@ stop_status o (TooLong name) = inr (inr (inr (inr (inr (inl refl)))))
 stop_status o (BadBoard name refusal) = inr (inr (inr (inr (inl refl))))
 stop_status o (BadImage name refusal) = inr (inr (inr (inr (inl refl))))
 stop_status o (BadScript name refusal) = inr (inr (inr (inr (inl refl))))
+stop_status o (BadSource name refusal) = inr (inr (inr (inr (inl refl))))
 
 pub one_status : (c : Call) (result : ℕ) → Answer c result → IsStatus c.command result
 one_status c result (Done task e done told out err) = inl done

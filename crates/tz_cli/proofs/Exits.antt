@@ -5,22 +5,23 @@ use Rattle.std.proofs.lemmas.Bool.Decides.{nat_tests}
 use Rattle.tz_model.specs.declared.outside.SinkError.{SinkError}
 use Rattle.tz_model.specs.declared.outside.SinkError.TheVariants.{Failed}
 use Rattle.tz_model.specs.Outside.{Held, Rose, Gains, Put}
-use Rattle.tz_model.specs.Image.{ImageValue}
+use Rattle.tz_model.specs.Image.{ImageValue, SegmentValue}
 use Rattle.tz_words.specs.Run.{RunWords}
+use Rattle.tz_words.specs.Asm.{AsmWords}
 use Rattle.tz_words.specs.Dis.{DisWords}
-use Rattle.tz_words.specs.Commands.{Command, Run, Dis, command_of, longest, names_of}
+use Rattle.tz_words.specs.Commands.{Command, Run, Asm, Dis, command_of, longest, names_of}
 use Rattle.tz_words.proofs.FileNames.{names_of-longest}
 use Rattle.tz_cli.specs.declared.stops.LoadError.{LoadError}
-use Rattle.tz_cli.specs.declared.stops.LoadError.TheVariants.{Unread, Long, Board, Image, Script, Memory}
+use Rattle.tz_cli.specs.declared.stops.LoadError.TheVariants.{Unread, Long, Board, Image, Script, Source, Memory}
 use Rattle.tz_cli.specs.declared.stops.File.{File}
 use Rattle.tz_cli.specs.declared.stops.File.TheVariants as files
-use Rattle.tz_cli.specs.Told.{Stop, BadWords, TooManySteps, TooLong, BadBoard, BadImage, BadScript, Told, Unknown, Stops, Gives, told_then, Start, Job, Task, run_task, dis_task, told, IsDone, start_told, job_told, listed_told, step_limit}
+use Rattle.tz_cli.specs.Told.{Stop, BadWords, TooManySteps, TooLong, BadBoard, BadImage, BadScript, BadSource, Told, Unknown, Stops, Gives, told_then, Start, Job, Task, run_task, asm_task, dis_task, told, IsDone, start_told, job_told, source_told, listed_told, step_limit}
 use Rattle.tz_cli.specs.Told as stops
 use Rattle.tz_cli.specs.Reads.{Form, AsImage, Reading, reads_of, IsOneOf}
 use Rattle.tz_cli.specs.Lines.{stop_line, status_of}
 use Rattle.tz_cli.specs.Answer.{Allows, AllowsStop, Shelved, IsSettled, IsCaused, IsLine, Call, told_of, GainsFront, Exceeds, IsTold, Answer, Done, Broken, Stopped, Wanting, Silent}
-use Rattle.tz_cli.specs.Faults.{AllowsRefusal, IsFault, IsReached, IsListed, Names, run_files, dis_files, list_of, form_of, name_in, image_refusal, stop_of, stop_with, line_with, status_with}
-use Rattle.tz_cli.proofs.Reached.{is_read, is_listed}
+use Rattle.tz_cli.specs.Faults.{AllowsRefusal, IsFault, IsReached, IsListed, IsSource, Names, run_files, asm_files, dis_files, list_of, form_of, name_in, image_refusal, source_refusal, stop_of, stop_with, line_with, status_with}
+use Rattle.tz_cli.proofs.Reached.{is_read, is_listed, is_assembled}
 use Rattle.tz_board.specs.BoardErrors.{refusal_of}
 use Rattle.tz_board.specs.ScriptErrors.{script_refusal_of}
 
@@ -161,6 +162,9 @@ module _ {A : Type 0} (c : Call) (n : Names) (IsRead : File → Type 0) (t : Tol
   answer_fault result (Script error) room told quiet short h =
       answer_refusal result (BadScript n.script) (script_refusal_of error) room
       (λ x stop. (loads.stops (BadScript n.script x) stop, reads_it files.Script (form_of files.Script) told.0 refl)) told.1 quiet short h
+  answer_fault result (Source error) room told quiet short h =
+      answer_refusal result (BadSource n.source) (source_refusal error) room
+      (λ x stop. (loads.stops (BadSource n.source x) stop, reads_it files.Source (form_of files.Source) told.0 refl)) told.1 quiet short h
   answer_fault result Memory room told quiet short h = answer_memory c result quiet room h
 
   -- its line was told, or that of want of memory
@@ -217,6 +221,20 @@ run_loads c r e l = record {
       (is_read c.shelf.held r file reached);
   stops = λ stop h. run_of_stop c.shelf.held r stop l h;
 }
+
+-- ---- the assembly
+
+pub asm_loads : (c : Call) (a : AsmWords) → c.command ≡ Some (Asm a) → Loads c (asm_files a) IsSource (source_told c.shelf.held a.source)
+asm_loads c a e = record {
+  command = Asm a;
+  is = e;
+  read = λ file reached. is_assembled c.shelf.held a file reached;
+  stops = λ stop h. then_stop (source_told c.shelf.held a.source) _ stop h;
+}
+
+pub asm_of_segments : (held : List ℕ → Held) (a : AsmWords) (segments : List SegmentValue) → Allows (source_told held a.source) segments
+    → Allows (told held (Some (Asm a))) (asm_task a.form segments)
+asm_of_segments held a segments allowed = then_gives (asm_task a.form) (source_told held a.source) segments allowed
 
 -- ---- the disassembly
 

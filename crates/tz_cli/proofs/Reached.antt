@@ -7,13 +7,14 @@ use Rattle.tz_table.specs.declared.units.Side.TheVariants as sides
 use Rattle.tz_model.specs.Board.{BoardValue}
 use Rattle.tz_model.specs.Outside.{Held, Absent}
 use Rattle.tz_words.specs.Run.{RunWords}
+use Rattle.tz_words.specs.Asm.{AsmWords}
 use Rattle.tz_words.specs.Dis.{DisWords}
-use Rattle.tz_words.specs.Commands.{Command, Run, Dis}
+use Rattle.tz_words.specs.Commands.{Command, Run, Asm, Dis}
 use Rattle.tz_cli.specs.declared.stops.File.{File}
-use Rattle.tz_cli.specs.declared.stops.File.TheVariants.{Board, First, Second, Script}
-use Rattle.tz_cli.specs.Told.{Stop, TooManySteps, Unread, Told, Unknown, Stops, Gives, told_then, Job, told, is_demo, is_none_script, board_told, board_file, image_told, script_told, script_file, secure_told, nonsecure_told, start_told, job_told, listed_told, step_limit}
-use Rattle.tz_cli.specs.Reads.{Form, AsBoard, AsImage, AsScript, Reading, goes_on, read_where, run_reads, dis_reads, reads_of, IsOneOf}
-use Rattle.tz_cli.specs.Faults.{IsReached, IsListed, run_files, dis_files, form_of, name_in}
+use Rattle.tz_cli.specs.declared.stops.File.TheVariants.{Board, First, Second, Script, Source}
+use Rattle.tz_cli.specs.Told.{Stop, TooManySteps, Unread, Told, Unknown, Stops, Gives, told_then, Job, told, is_demo, is_none_script, board_told, board_file, image_told, script_told, script_file, secure_told, nonsecure_told, start_told, job_told, source_told, listed_told, step_limit}
+use Rattle.tz_cli.specs.Reads.{Form, AsBoard, AsImage, AsScript, AsSource, Reading, goes_on, read_where, run_reads, dis_reads, reads_of, IsOneOf}
+use Rattle.tz_cli.specs.Faults.{IsReached, IsListed, IsSource, run_files, asm_files, dis_files, form_of, name_in}
 
 here : (b : Bool) (name : List ℕ) (form : Form) (readings : List Reading) → b ≡ true → IsOneOf (read_where b name form readings) (record { name = name; form = form })
 here false name form readings e = absurd (cc)
@@ -48,6 +49,7 @@ is_read held r Script h =
     (later (goes_on (secure_told held r)) r.nonsecure AsImage _ _
     (here (not (is_none_script r.script) && goes_on (nonsecure_told held r)) r.script AsScript []
     (both (not (is_none_script r.script)) (goes_on (nonsecure_told held r)) (not_false (is_none_script r.script) h.0) h.1))))
+is_read held r Source h = absurd h
 
 -- ---- what is read is reached
 
@@ -153,6 +155,7 @@ absent_start held r Script e reached =
     never_after (nonsecure_told held r) _ (λ p.
     never_then (script_told held p.board.interrupts r.script) _
     (never_stops (script_told held p.board.interrupts r.script) (Unread r.script) (absent_script held p.board.interrupts r.script e reached.0)))
+absent_start held r Source e reached = absurd reached
 
 -- an absent file that is read settles no run
 absent_run : (held : List ℕ → Held) (r : RunWords) (name : List ℕ) (form : Form) (many : Bool) → held name ≡ Absent
@@ -164,6 +167,25 @@ absent_run held r name form false e h =
     let absent : held (name_in (run_files r) reached.file) ≡ Absent = ap held reached.named ∙ e in
     never_then (start_told held r) _ (absent_start held r reached.file absent reached.reached)
 
+-- ---- the file of an assembly
+
+pub is_assembled : (held : List ℕ → Held) (a : AsmWords) (file : File) → IsSource file → IsOneOf (reads_of held (Some (Asm a))) (record { name = name_in (asm_files a) file; form = form_of file })
+is_assembled held a Board h = absurd h
+is_assembled held a First h = absurd h
+is_assembled held a Second h = absurd h
+is_assembled held a Script h = absurd h
+is_assembled held a Source h = inl refl
+
+absent_source : (held : List ℕ → Held) (name : List ℕ) → held name ≡ Absent → source_told held name ≡ Stops (Unread name)
+unfolding source_told
+absent_source held name e = rw e refl
+
+absent_assembled : (held : List ℕ → Held) (a : AsmWords) (reading : Reading) → held reading.name ≡ Absent
+    → (record { name = a.source; form = AsSource } ≡ reading) ⊎ IsOneOf [] reading → NeverGives (source_told held a.source)
+absent_assembled held a reading e (inl h) =
+    never_stops (source_told held a.source) (Unread a.source) (absent_source held a.source (ap held (ap (λ (x : Reading). x.name) h) ∙ e))
+absent_assembled held a reading e (inr h) = absurd h
+
 -- ---- the files of a disassembly
 
 pub is_listed : (held : List ℕ → Held) (d : DisWords) (file : File) → IsListed held d file → IsOneOf (dis_reads held d) (record { name = name_in (dis_files d) file; form = form_of file })
@@ -171,6 +193,7 @@ is_listed held d Board h = here (not (is_demo d.board)) d.board AsBoard _ (not_f
 is_listed held d First h = later (not (is_demo d.board)) d.board AsBoard _ _ (here (goes_on (board_told held d.board)) d.image AsImage [] h)
 is_listed held d Second h = absurd h
 is_listed held d Script h = absurd h
+is_listed held d Source h = absurd h
 
 absent_image_of : (held : List ℕ → Held) (d : DisWords) (reading : Reading) → held reading.name ≡ Absent
     → ((goes_on (board_told held d.board) ≡ true) × (d.image ≡ reading.name)) ⊎ IsOneOf [] reading → NeverGives (listed_told held d)
@@ -190,5 +213,7 @@ pub absent_task : (held : List ℕ → Held) (o : Option Command) (name : List �
     → NeverGives (told held o)
 absent_task held None name form e h = absurd h
 absent_task held (Some (Run r)) name form e h = never_then (job_told held r) _ (absent_run held r name form (nat_lt step_limit r.steps) e h)
+absent_task held (Some (Asm a)) name form e h =
+    never_then (source_told held a.source) _ (absent_assembled held a (record { name = name; form = form }) e h)
 absent_task held (Some (Dis d)) name form e h =
     never_then (listed_told held d) _ (absent_listed held d (record { name = name; form = form }) e (split (not (is_demo d.board)) d.board AsBoard _ (record { name = name; form = form }) h))

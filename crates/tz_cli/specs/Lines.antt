@@ -6,7 +6,9 @@ use Rattle.tz_board.specs.Scripts.{ScriptRefusal, BadLine, OutOfOrder, NoSuchInt
 use Rattle.tz_board.specs.Scripts as scripts
 use Rattle.tz_board.specs.Boards.{BoardRefusal, NotToml, Missing, WrongKind, Range, TooMany, Place, Top, InRegion, InSau, key_text}
 use Rattle.tz_board.specs.Boards as boards
-use Rattle.tz_cli.specs.Told.{Stop, BadWords, TooManySteps, Unread, TooLong, BadBoard, BadImage, BadScript}
+use Rattle.tz_asm.specs.Refusals.{Refusal as AsmRefusal}
+use Rattle.tz_asm.specs.Refusals as sources
+use Rattle.tz_cli.specs.Told.{Stop, BadWords, TooManySteps, Unread, TooLong, BadBoard, BadImage, BadScript, BadSource}
 
 abbrev pub image_code : Refusal → List ℕ
 image_code Magic = codes "L1"
@@ -38,6 +40,16 @@ board_code (Range place) = codes "B4 " ++ place_text place
 board_code (boards.Overlap i j) = codes "B5 " ++ decimal i ++ codes " " ++ decimal j
 board_code TooMany = codes "B6"
 
+abbrev pub source_code : AsmRefusal → List ℕ
+source_code (sources.Token line) = codes "A1 " ++ decimal line
+source_code (sources.Mnemonic line) = codes "A2 " ++ decimal line
+source_code (sources.Operands line) = codes "A3 " ++ decimal line
+source_code (sources.Range line) = codes "A4 " ++ decimal line
+source_code (sources.NoLabel line) = codes "A5 " ++ decimal line
+source_code (sources.TwoLabels line) = codes "A6 " ++ decimal line
+source_code (sources.OrgBackwards line) = codes "A7 " ++ decimal line
+source_code (sources.TooLarge line) = codes "A8 " ++ decimal line
+
 -- a refused file: its name, and the code with its place
 abbrev pub refused_line : List ℕ → List ℕ → List ℕ
 refused_line name code = name ++ codes ": " ++ code ++ codes "\n"
@@ -56,6 +68,7 @@ stop_line (TooLong name) = limit_line name
 stop_line (BadBoard name refusal) = refused_line name (board_code refusal)
 stop_line (BadImage name refusal) = refused_line name (image_code refusal)
 stop_line (BadScript name refusal) = refused_line name (script_code refusal)
+stop_line (BadSource name refusal) = refused_line name (source_code refusal)
 
 abbrev pub status_of : Stop → ℕ
 status_of BadWords = 2
@@ -65,3 +78,4 @@ status_of (TooLong name) = 6
 status_of (BadBoard name refusal) = 5
 status_of (BadImage name refusal) = 5
 status_of (BadScript name refusal) = 5
+status_of (BadSource name refusal) = 5

@@ -2,9 +2,10 @@
 use Rattle.std.specs.Prelude.{◌≡◌, ◌⊎◌, ℕ, nat_lt, ◌&&◌, Bool, true, false, not, if◌then◌else◌, List, [], ◌∷◌, Option, Some, None}
 use Rattle.tz_model.specs.Outside.{Held}
 use Rattle.tz_words.specs.Run.{RunWords}
+use Rattle.tz_words.specs.Asm.{AsmWords}
 use Rattle.tz_words.specs.Dis.{DisWords}
-use Rattle.tz_words.specs.Commands.{Command, Run, Dis}
-use Rattle.tz_cli.specs.Told.{Stop, BadWords, TooManySteps, Unread, TooLong, BadBoard, BadImage, BadScript, Told, Unknown, Stops, Gives, is_demo, is_none_script, board_told, secure_told, nonsecure_told, step_limit}
+use Rattle.tz_words.specs.Commands.{Command, Run, Asm, Dis}
+use Rattle.tz_cli.specs.Told.{Stop, BadWords, TooManySteps, Unread, TooLong, BadBoard, BadImage, BadScript, BadSource, Told, Unknown, Stops, Gives, is_demo, is_none_script, board_told, secure_told, nonsecure_told, step_limit}
 
 -- nothing that is settled stops the command
 abbrev pub goes_on : {A : Type 0} → Told A → Bool
@@ -17,6 +18,7 @@ pub data Form : Type 0 where
   AsBoard : Form
   AsImage : Form
   AsScript : Form
+  AsSource : Form
 
 -- a file that is read
 pub record Reading : Type 0 where
@@ -36,6 +38,10 @@ run_reads held r =
     (read_where (goes_on (secure_told held r)) r.nonsecure AsImage
     (read_where (not (is_none_script r.script) && goes_on (nonsecure_told held r)) r.script AsScript [])))
 
+-- the file of an assembly
+abbrev pub asm_reads : AsmWords → List Reading
+asm_reads a = record { name = a.source; form = AsSource } ∷ []
+
 -- the files of a disassembly
 abbrev pub dis_reads : (List ℕ → Held) → DisWords → List Reading
 dis_reads held d =
@@ -46,6 +52,7 @@ dis_reads held d =
 abbrev pub reads_of : (List ℕ → Held) → Option Command → List Reading
 reads_of held None = []
 reads_of held (Some (Run r)) = if nat_lt step_limit r.steps then [] else run_reads held r
+reads_of held (Some (Asm a)) = asm_reads a
 reads_of held (Some (Dis d)) = dis_reads held d
 
 -- one of the files
@@ -62,3 +69,4 @@ TellsOf files (TooLong name) = (form : Form) × IsOneOf files (record { name = n
 TellsOf files (BadBoard name refusal) = IsOneOf files (record { name = name; form = AsBoard })
 TellsOf files (BadImage name refusal) = IsOneOf files (record { name = name; form = AsImage })
 TellsOf files (BadScript name refusal) = IsOneOf files (record { name = name; form = AsScript })
+TellsOf files (BadSource name refusal) = IsOneOf files (record { name = name; form = AsSource })

@@ -4,7 +4,7 @@ use Rattle.std.specs.Str.{bytes_eq}
 use Rattle.tz_table.specs.declared.units.Side.{Side}
 use Rattle.tz_table.specs.declared.units.Side.TheVariants.{Secure, NonSecure}
 use Rattle.tz_model.specs.Board.{BoardValue}
-use Rattle.tz_model.specs.Image.{ImageValue}
+use Rattle.tz_model.specs.Image.{ImageValue, SegmentValue}
 use Rattle.tz_model.specs.Outside.{Held, Untold, Absent, Holds}
 use Rattle.tz_state.specs.State.{State}
 use Rattle.tz_sem.specs.Boot.{boot}
@@ -15,9 +15,16 @@ use Rattle.tz_twin.specs.Trace.{text_from}
 use Rattle.tz_run.specs.Events.{events_of}
 use Rattle.tz_board.specs.Boards.{BoardRefusal, board_of}
 use Rattle.tz_dis.specs.Text.{dis_text}
+use Rattle.tz_elf.specs.PlainImage.{plain_text}
+use Rattle.tz_elf.specs.ElfImage.{elf_bytes}
+use Rattle.tz_asm.specs.Refusals.{Refusal as AsmRefusal}
+use Rattle.tz_asm.specs.Told.{assembled}
 use Rattle.tz_words.specs.Run.{RunWords}
+use Rattle.tz_words.specs.Asm.{AsmWords}
 use Rattle.tz_words.specs.Dis.{DisWords}
-use Rattle.tz_words.specs.Commands.{Command, Run, Dis}
+use Rattle.tz_words.specs.Commands.{Command, Run, Asm, Dis}
+use Rattle.tz_words.specs.declared.asm.Form.{Form}
+use Rattle.tz_words.specs.declared.asm.Form.TheVariants.{Hex, Elf}
 
 -- why a command stops before it begins
 pub data Stop : Type 0 where
@@ -28,6 +35,7 @@ pub data Stop : Type 0 where
   BadBoard : (name : List ℕ) (refusal : BoardRefusal) → Stop
   BadImage : (name : List ℕ) (refusal : Refusal) → Stop
   BadScript : (name : List ℕ) (refusal : ScriptRefusal) → Stop
+  BadSource : (name : List ℕ) (refusal : AsmRefusal) → Stop
 
 -- what is settled: nothing, where the shelf doesn't tell; that the command stops; or a value
 pub data Told (A : Type 0) : Type 0 where
@@ -41,7 +49,7 @@ told_then Unknown next = Unknown
 told_then (Stops stop) next = Stops stop
 told_then (Gives x) next = next x
 
--- limits of files, in bytes: 64 KiB, 8 MiB and 1 MiB
+-- limits of files, in bytes: 64 KiB, 8 MiB, 1 MiB and 1 MiB
 abbrev pub board_limit : ℕ
 board_limit = 65536
 
@@ -50,6 +58,9 @@ image_limit = 8388608
 
 abbrev pub script_limit : ℕ
 script_limit = 1048576
+
+abbrev pub source_limit : ℕ
+source_limit = 1048576
 
 abbrev pub step_limit : ℕ
 step_limit = 10000000
@@ -130,6 +141,10 @@ state_of start = boot start.board start.secure start.nonsecure
 abbrev pub trace_of : Job → List ℕ
 trace_of job = text_from job.words.view (events_of job.start.script) 0 (state_of job.start) job.words.steps
 
+-- the segments of a source
+unfoldable pub source_told : (List ℕ → Held) → List ℕ → Told (List SegmentValue)
+source_told held name = told_then (file_with name source_limit (held name)) (λ bytes. graded (BadSource name) (assembled bytes))
+
 -- the image of a disassembly: its board is read first
 abbrev pub listed_told : (List ℕ → Held) → DisWords → Told ImageValue
 listed_told held d = told_then (board_told held d.board) (λ b. image_told held b d.side d.image)
@@ -145,6 +160,14 @@ pub record Task : Type 0 where
 abbrev pub run_task : Job → Task
 run_task job = record { text = trace_of job; status = 0 }
 
+-- an assembly writes the image of its segments in a form
+abbrev pub image_bytes : Form → List SegmentValue → List ℕ
+image_bytes Hex segments = plain_text segments
+image_bytes Elf segments = elf_bytes segments
+
+abbrev pub asm_task : Form → List SegmentValue → Task
+asm_task form segments = record { text = image_bytes form segments; status = 0 }
+
 -- a disassembly writes the lines of its image
 abbrev pub dis_task : ImageValue → Task
 dis_task image = record { text = dis_text image; status = 0 }
@@ -153,10 +176,12 @@ dis_task image = record { text = dis_text image; status = 0 }
 abbrev pub told : (List ℕ → Held) → Option Command → Told Task
 told held None = Stops BadWords
 told held (Some (Run r)) = told_then (job_told held r) (λ job. Gives (run_task job))
+told held (Some (Asm a)) = told_then (source_told held a.source) (λ segments. Gives (asm_task a.form segments))
 told held (Some (Dis d)) = told_then (listed_told held d) (λ image. Gives (dis_task image))
 
 -- the statuses of a command whose work is done
 abbrev pub IsDone : Option Command → ℕ → Type 0
 IsDone None status = ⊥
 IsDone (Some (Run r)) status = status ≡ 0
+IsDone (Some (Asm a)) status = status ≡ 0
 IsDone (Some (Dis d)) status = status ≡ 0

@@ -6,18 +6,20 @@ ghost use Rattle.tz_model.specs.Outside.{Held, Absent, Rose};
 ghost use Rattle.tz_cli.specs.declared.stops.File.TheVariants as files;
 ghost use Rattle.tz_cli.specs.declared.stops.LoadError.TheVariants as faults;
 ghost use Rattle.tz_words.specs.Run.{run_in};
+ghost use Rattle.tz_words.specs.Asm.{asm_in};
 ghost use Rattle.tz_words.specs.Dis.{dis_in};
-ghost use Rattle.tz_cli.specs.Told.{file_with, board_told, image_told, script_told, start_told, listed_told, is_demo, is_none_script, TooLong};
+ghost use Rattle.tz_cli.specs.Told.{file_with, board_told, image_told, script_told, source_told, start_told, listed_told, is_demo, is_none_script, TooLong};
 ghost use Rattle.tz_cli.specs.Reads.{AsImage};
 ghost use Rattle.tz_cli.specs.Answer.{Allows, AllowsStop};
-ghost use Rattle.tz_cli.specs.Faults.{form_of, name_in, names_read, run_files, dis_files, unread_in, IsReached, IsListed, IsStageFault, IsFault, start_in};
+ghost use Rattle.tz_cli.specs.Faults.{form_of, name_in, names_read, run_files, asm_files, dis_files, unread_in, IsReached, IsListed, IsSource, IsStageFault, IsFault, start_in};
 
 use crate::stops::{File, FileNames, LoadError};
 use std::alloc::{AllocError, Global};
+use tz_asm::assemble;
 use tz_board::{Script, demo_board, read_board, read_script};
 use tz_elf::read_image;
 use tz_model::{Board, Image, Shelf, ShelfError, Side};
-use tz_words::{DisWords, RunWords};
+use tz_words::{AsmWords, DisWords, RunWords};
 
 /// What the files of a run give.
 #[derive(Drop)]
@@ -37,6 +39,9 @@ const IMAGE_LIMIT: usize = 8_388_608;
 /// The most bytes of a script file.
 const SCRIPT_LIMIT: usize = 1_048_576;
 
+/// The most bytes of a source file.
+const SOURCE_LIMIT: usize = 1_048_576;
+
 /// The name of a file.
 pub fn name_of<'a>(names: &FileNames<'a>, file: File) -> &'a str
     ensures { result.now ≡ name_in (names_read names.now) file }
@@ -46,6 +51,7 @@ pub fn name_of<'a>(names: &FileNames<'a>, file: File) -> &'a str
         File::First => names.first,
         File::Second => names.second,
         File::Script => names.script,
+        File::Source => names.source,
     }
 }
 
@@ -58,6 +64,7 @@ pub fn names_of_run<'a>(words: &RunWords<'a>) -> FileNames<'a>
         first: words.secure,
         second: words.nonsecure,
         script: words.script,
+        source: "",
     }
 }
 
@@ -70,6 +77,20 @@ pub fn names_of_dis<'a>(words: &DisWords<'a>) -> FileNames<'a>
         first: words.image,
         second: "",
         script: "",
+        source: "",
+    }
+}
+
+/// The name of the file of an assembly.
+pub fn names_of_asm<'a>(words: &AsmWords<'a>) -> FileNames<'a>
+    ensures { names_read result ≡ asm_files (asm_in words.now) }
+{
+    FileNames {
+        board: "",
+        first: "",
+        second: "",
+        script: "",
+        source: words.source,
     }
 }
 
@@ -244,6 +265,45 @@ pub fn load_listed<H: Shelf>(
         Err(fault) => return Err(fault),
     };
     match load_image(alloc, shelf, &names, File::First, &board, words.side) {
+        Ok(image) => Ok(image),
+        Err(fault) => Err(fault),
+    }
+}
+
+/// The image that a source gives.
+#[tactic(auto, unfolding(crate::specs::Told::source_told))]
+fn load_source<H: Shelf>(
+    alloc: Global,
+    shelf: &mut H,
+    names: &FileNames<'_>,
+) -> Result<Image, LoadError>
+    ensures ok { IfOk result (λ i. Allows (source_told (H.held shelf.old) names.now.source.now) i.segments) }
+    ensures few { IfOk result (λ i. length i.segments < 65536) }
+    ensures err { IfErr result (λ e. IsStageFault (record { held = H.held shelf.old; sound = H.sound shelf.old; before = H.faults shelf.old; now = H.faults shelf.new }) (names_read names.now) files.Source (source_told (H.held shelf.old) names.now.source.now) e) }
+    ensures later { H.faults shelf.old ≤ H.faults shelf.new }
+{
+    let bytes = match read(alloc, shelf, names.source, SOURCE_LIMIT) {
+        Ok(bytes) => bytes,
+        Err(error) => return Err(unread(File::Source, error)),
+    };
+    match assemble(alloc, &bytes) {
+        Ok(image) => Ok(image),
+        Err(error) => Err(LoadError::Source(error)),
+    }
+}
+
+/// The image of an assembly.
+pub fn load_assembled<H: Shelf>(
+    alloc: Global,
+    shelf: &mut H,
+    words: &AsmWords<'_>,
+) -> Result<Image, LoadError>
+    ensures ok { IfOk result (λ i. Allows (source_told (H.held shelf.old) (asm_in words.now).source) i.segments) }
+    ensures few { IfOk result (λ i. length i.segments < 65536) }
+    ensures err { IfErr result (λ e. IsFault (record { held = H.held shelf.old; sound = H.sound shelf.old; before = H.faults shelf.old; now = H.faults shelf.new }) (asm_files (asm_in words.now)) IsSource (source_told (H.held shelf.old) (asm_in words.now).source) e) }
+    ensures later { H.faults shelf.old ≤ H.faults shelf.new }
+{
+    match load_source(alloc, shelf, &names_of_asm(words)) {
         Ok(image) => Ok(image),
         Err(fault) => Err(fault),
     }

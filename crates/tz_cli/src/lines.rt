@@ -8,13 +8,14 @@ ghost use Rattle.tz_board.specs.BoardErrors.{refusal_of, place_of};
 ghost use Rattle.tz_board.specs.ScriptErrors.{script_refusal_of};
 ghost use Rattle.tz_words.specs.Commands.{longest};
 ghost use Rattle.tz_cli.specs.Answer.{IsTold};
-ghost use Rattle.tz_cli.specs.Lines.{board_code, image_code, script_code, place_text, refused_line, unread_line, limit_line};
-ghost use Rattle.tz_cli.specs.Faults.{image_refusal, line_with, list_of, names_read, status_with, stop_of, code_with};
+ghost use Rattle.tz_cli.specs.Lines.{board_code, image_code, script_code, source_code, place_text, refused_line, unread_line, limit_line};
+ghost use Rattle.tz_cli.specs.Faults.{image_refusal, source_refusal, line_with, list_of, names_read, status_with, stop_of, code_with};
 
 use crate::files::name_of;
 use crate::stops::{FileNames, LoadError};
 use itoa::Buffer;
 use std::alloc::{AllocError, Global};
+use tz_asm::AsmError;
 use tz_board::{BoardError, Place, ScriptError};
 use tz_elf::ElfError;
 use tz_model::Sink;
@@ -130,6 +131,24 @@ fn push_script_error(line: &mut Vec<u8>, error: ScriptError) -> Result<(), Alloc
     }
 }
 
+/// Appends the code of a source's refusal with its line; of want of memory nothing.
+fn push_source_error(line: &mut Vec<u8>, error: AsmError) -> Result<(), AllocError>
+    ensures bytes { OnOk result (line.new.items ≡ line.old.items ++ code_with source_code (source_refusal error)) }
+    ensures len { OnOk result (vec_len line.new ≤ vec_len line.old + 24) }
+{
+    match error {
+        AsmError::Token(number) => push_code(line, "A1 ", number),
+        AsmError::Mnemonic(number) => push_code(line, "A2 ", number),
+        AsmError::Operands(number) => push_code(line, "A3 ", number),
+        AsmError::Range(number) => push_code(line, "A4 ", number),
+        AsmError::NoLabel(number) => push_code(line, "A5 ", number),
+        AsmError::TwoLabels(number) => push_code(line, "A6 ", number),
+        AsmError::OrgBackwards(number) => push_code(line, "A7 ", number),
+        AsmError::TooLarge(number) => push_code(line, "A8 ", number),
+        AsmError::Memory => Ok(()),
+    }
+}
+
 /// The line of a file that can't be read.
 fn unread_line(alloc: Global, name: &str) -> Result<Vec<u8>, AllocError>
     ensures bytes { IfOk result (λ line. line.items ≡ unread_line name.now) }
@@ -193,6 +212,19 @@ fn script_line(alloc: Global, name: &str, error: ScriptError) -> Result<Vec<u8>,
     Ok(line)
 }
 
+/// The line of a source that is refused.
+fn source_line(alloc: Global, name: &str, error: AsmError) -> Result<Vec<u8>, AllocError>
+    ensures bytes { IfOk result (λ line. line.items ≡ refused_line name.now (code_with source_code (source_refusal error))) }
+    ensures len { IfOk result (λ line. vec_len line ≤ 64 + length name.now) }
+{
+    let mut line = Vec::new(alloc);
+    push_text(&mut line, name)?;
+    push_text(&mut line, ": ")?;
+    push_source_error(&mut line, error)?;
+    push_text(&mut line, "\n")?;
+    Ok(line)
+}
+
 /// The line of a fault, and its status: 3, 5, 6, or 7 for want of memory.
 pub fn fault_line(
     alloc: Global,
@@ -209,9 +241,11 @@ pub fn fault_line(
         LoadError::Board(BoardError::Memory) => Err(AllocError),
         LoadError::Image(_, ElfError::Memory) => Err(AllocError),
         LoadError::Script(ScriptError::Memory) => Err(AllocError),
+        LoadError::Source(AsmError::Memory) => Err(AllocError),
         LoadError::Memory => Err(AllocError),
         LoadError::Board(error) => Ok((board_line(alloc, names.board, error)?, 5)),
         LoadError::Script(error) => Ok((script_line(alloc, names.script, error)?, 5)),
+        LoadError::Source(error) => Ok((source_line(alloc, names.source, error)?, 5)),
         LoadError::Image(file, error) => Ok((image_line(alloc, name_of(names, file), error)?, 5)),
     }
 }

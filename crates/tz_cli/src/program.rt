@@ -22,6 +22,7 @@ ghost use Rattle.tz_cli.specs.Reads.{reads_of};
 ghost use Rattle.tz_cli.specs.Lines.{stop_line, status_of};
 ghost use Rattle.tz_cli.specs.Answer.{Answer, CutsLine, Excused, GainsFront, IsRefusedBy, IsStatus, IsText, NamesUnread, line_room};
 
+use crate::asm::asm_files;
 use crate::dis::dis_files;
 use crate::lines::refuse;
 use crate::run::run_files;
@@ -119,6 +120,7 @@ fn answer<H: Shelf, O: Sink, E: Sink>(
     };
     match command {
         Command::Run(words) => run_files(alloc, &words, shelf, out, err),
+        Command::Asm(words) => asm_files(alloc, &words, shelf, out, err),
         Command::Dis(words) => dis_files(alloc, &words, shelf, out, err),
     }
 }

@@ -1,10 +1,11 @@
 //! Why a command stops before it begins.
 
+use tz_asm::AsmError;
 use tz_board::{BoardError, ScriptError};
 use tz_elf::ElfError;
 
-/// The names of a command's files: a board, one image or two, a script. Of files that it doesn't have they
-/// are empty.
+/// The names of a command's files: a board, one image or two, a script, a source. Of files that it doesn't
+/// have they are empty.
 #[derive(Clone, Copy)]
 pub struct FileNames<'a> {
     pub board: &'a str,
@@ -13,6 +14,7 @@ pub struct FileNames<'a> {
     /// The Non-secure image.
     pub second: &'a str,
     pub script: &'a str,
+    pub source: &'a str,
 }
 
 /// A file that the words name.
@@ -22,6 +24,7 @@ pub enum File {
     First,
     Second,
     Script,
+    Source,
 }
 
 /// Why the files give no start.
@@ -32,5 +35,6 @@ pub enum LoadError {
     Board(BoardError),
     Image(File, ElfError),
     Script(ScriptError),
+    Source(AsmError),
     Memory,
 }

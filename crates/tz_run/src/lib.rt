@@ -10,7 +10,6 @@ ghost use Rattle.tz_sem.specs.Run.{state_after};
 ghost use Rattle.tz_twin.specs.Trace.{text_from};
 ghost use Rattle.tz_run.specs.Events.{events_of};
 
-
 use std::marker::Brand;
 use std::sync::ledger::{Blank, Ledger};
 use tz_board::Script;

@@ -7,8 +7,10 @@ use Rattle.tz_words.specs.Parts.{Text, Look, EndsOptions, Named, NamedWith, Refu
 use Rattle.tz_words.specs.Counts.{count_of}
 use Rattle.tz_table.specs.declared.units.Side.{Side}
 use Rattle.tz_words.specs.Run.{RunWords, run_behind, run_names, run_parts, run_with, view_of}
+use Rattle.tz_words.specs.Asm.{AsmWords, asm_behind, asm_names, asm_parts, asm_with, form_of}
+use Rattle.tz_words.specs.declared.asm.Form.{Form}
 use Rattle.tz_words.specs.Dis.{DisWords, dis_behind, dis_names, dis_parts, dis_with, side_named}
-use Rattle.tz_words.specs.Commands.{Command, Run, Dis, command_behind, command_of, longest, names_of}
+use Rattle.tz_words.specs.Commands.{Command, Run, Asm, Dis, command_behind, command_of, longest, names_of}
 
 -- no positional word is longer than a bound
 abbrev pub Within : ℕ → Option Parts → Type 0
@@ -62,6 +64,19 @@ names_behind : (words : List Text) (o : Option Parts) (r : RunWords) → Within 
 names_behind words None r h e = absurd (cc)
 names_behind words (Some p) r h e = let l = names_in (view_of p.values) p.positionals r e in omega arith
 
+-- so is that of an assembly
+asm_names_in : (form : Option Form) (words : List Text) (a : AsmWords) → asm_with form words ≡ Some a → longest (asm_names a) ≤ longest words
+asm_names_in None words a e = absurd (cc)
+asm_names_in (Some form) [] a e = absurd (cc)
+asm_names_in (Some form) (w ∷ x ∷ more) a e = absurd (cc)
+asm_names_in (Some form) (w ∷ []) a e =
+    let same : ◌≡◌ {A = AsmWords} (record { source = w; form = form }) a = cc in
+    subst (λ (x : AsmWords). longest (asm_names x) ≤ longest (w ∷ [])) same (omega arith)
+
+asm_names_behind : (words : List Text) (o : Option Parts) (a : AsmWords) → Within (longest words) o → option_and_then asm_parts o ≡ Some a → longest (asm_names a) ≤ longest words
+asm_names_behind words None a h e = absurd (cc)
+asm_names_behind words (Some p) a h e = let l = asm_names_in (form_of p.values) p.positionals a e in omega arith
+
 -- so are those of a disassembly
 dis_names_in : (values words : List Text) (d : DisWords) → dis_with values words ≡ Some d → longest (dis_names d) ≤ longest words
 dis_names_in (v ∷ values) words d e = absurd (cc)
@@ -94,10 +109,16 @@ names_command name words command e = is_run (bytes_eq name (codes "run")) e wher
   is_dis false h = absurd (cc)
   is_dis true h = names_made Dis words (dis_behind words) command (λ d. dis_names_behind words (parts_of [] AnyWord words) d (within_parts [] AnyWord words)) h
 
-  is_run : (is : Bool) → cond is (option_map Run (run_behind words)) (cond (bytes_eq name (codes "dis")) (option_map Dis (dis_behind words)) None) ≡ Some command
+  is_asm : (is : Bool) → cond is (option_map Asm (asm_behind words)) (cond (bytes_eq name (codes "dis")) (option_map Dis (dis_behind words)) None) ≡ Some command
+      → longest (names_of command) ≤ longest words
+  is_asm true h = names_made Asm words (asm_behind words) command (λ a. asm_names_behind words (parts_of (codes "form") AnyWord words) a (within_parts (codes "form") AnyWord words)) h
+  is_asm false h = is_dis (bytes_eq name (codes "dis")) h
+
+  is_run : (is : Bool) → cond is (option_map Run (run_behind words))
+      (cond (bytes_eq name (codes "asm")) (option_map Asm (asm_behind words)) (cond (bytes_eq name (codes "dis")) (option_map Dis (dis_behind words)) None)) ≡ Some command
       → longest (names_of command) ≤ longest words
   is_run true h = names_made Run words (run_behind words) command (λ r. names_behind words (parts_of (codes "view") AnyWord words) r (within_parts (codes "view") AnyWord words)) h
-  is_run false h = is_dis (bytes_eq name (codes "dis")) h
+  is_run false h = is_asm (bytes_eq name (codes "asm")) h
 
 -- a command's names are among the words
 pub names_of-longest : (words : List Text) (command : Command) → command_of words ≡ Some command → longest (names_of command) ≤ longest words

@@ -4,6 +4,6 @@ pub mod WordWalks
 pub mod WordValues
 pub mod WordAnswers
 pub mod Numbers
-pub mod Views
+pub mod Choices
 pub mod Sides
 pub mod FileNames

@@ -1,8 +1,8 @@
 -- What the words behind `dis` mean.
-use Rattle.std.specs.Prelude.{ℕ, List, [], ◌∷◌, Option, Some, None, if◌then◌else◌, codes, option_map, option_and_then}
-use Rattle.std.specs.Str.{bytes_eq}
+use Rattle.std.specs.Prelude.{ℕ, List, [], ◌∷◌, Option, Some, None, codes, option_map, option_and_then}
 use Rattle.tz_table.specs.declared.units.Side.{Side}
 use Rattle.tz_table.specs.declared.units.Side.TheVariants.{Secure, NonSecure}
+use Rattle.tz_words.specs.Choices.{named_of}
 use Rattle.tz_words.specs.Parts.{Text, Parts, AnyWord, parts_of}
 use Rattle.tz_words.specs.declared.dis.DisWords.{DisWords as ReadWords}
 
@@ -18,7 +18,7 @@ dis_in w = record { board = w.board.now; image = w.image.now; side = w.side }
 
 -- the side of a word
 abbrev pub side_named : Text → Option Side
-side_named word = if bytes_eq word (codes "s") then Some Secure else if bytes_eq word (codes "ns") then Some NonSecure else None
+side_named word = named_of (codes "s") Secure (codes "ns") NonSecure word
 
 -- three positional words, of which the last is a side; no option has a value
 abbrev pub dis_with : List Text → List Text → Option DisWords

@@ -2,6 +2,8 @@ pub mod Parts
 pub mod Leaf
 pub mod Found
 pub mod Counts
+pub mod Choices
 pub mod Run
+pub mod Asm
 pub mod Dis
 pub mod Commands

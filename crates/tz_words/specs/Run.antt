@@ -1,9 +1,9 @@
 -- What the words behind `run` mean.
-use Rattle.std.specs.Prelude.{ℕ, List, [], ◌∷◌, Option, Some, None, if◌then◌else◌, codes, option_map, option_and_then}
-use Rattle.std.specs.Str.{bytes_eq}
+use Rattle.std.specs.Prelude.{ℕ, List, [], ◌∷◌, Option, Some, None, codes, option_map, option_and_then}
 use Rattle.tz_model.specs.declared.report.View.{View}
 use Rattle.tz_model.specs.declared.report.View.TheVariants.{Ns, All}
 use Rattle.tz_words.specs.Parts.{Text, Parts, AnyWord, parts_of}
+use Rattle.tz_words.specs.Choices.{chosen_of}
 use Rattle.tz_words.specs.Counts.{count_of}
 use Rattle.tz_words.specs.declared.run.RunWords.{RunWords as ReadWords}
 
@@ -27,15 +27,9 @@ run_in w = record {
   view = w.view;
 }
 
--- the view of a name
-abbrev pub view_named : Text → Option View
-view_named name = if bytes_eq name (codes "ns") then Some Ns else if bytes_eq name (codes "all") then Some All else None
-
 -- the view that the option's values choose: one at most, and `ns` where there is none
 abbrev pub view_of : List Text → Option View
-view_of [] = Some Ns
-view_of (name ∷ []) = view_named name
-view_of (name ∷ other ∷ more) = None
+view_of values = chosen_of (codes "ns") Ns (codes "all") All values
 
 -- five positional words, of which the last is a number of steps, and a view
 abbrev pub run_with : Option View → List Text → Option RunWords

@@ -8,11 +8,14 @@
 ghost use Rattle.std.specs.Prelude.{◌≡◌, IfOk, map, string_bytes, option_map};
 ghost use Rattle.tz_words.specs.Commands.{command_in, command_of};
 
+mod asm;
 mod counts;
 mod dis;
 mod leaf;
 mod run;
 
+use asm::words_behind_asm;
+pub use asm::{AsmWords, Form};
 pub use dis::DisWords;
 use dis::words_behind_dis;
 pub use run::RunWords;
@@ -24,6 +27,8 @@ use std::alloc::{AllocError, Global};
 pub enum Command<'a> {
     /// A run of two images on a board.
     Run(RunWords<'a>),
+    /// An image from its source.
+    Asm(AsmWords<'a>),
     /// An image as the text of its instructions.
     Dis(DisWords<'a>),
 }
@@ -40,6 +45,10 @@ pub fn command_words<'a>(
         [_program, command, rest @ ..] => match command.as_str() {
             "run" => match words_behind_run(alloc, rest)? {
                 Some(run) => Ok(Some(Command::Run(run))),
+                None => Ok(None),
+            },
+            "asm" => match words_behind_asm(alloc, rest)? {
+                Some(asm) => Ok(Some(Command::Asm(asm))),
                 None => Ok(None),
             },
             "dis" => match words_behind_dis(alloc, rest)? {

@@ -21,12 +21,16 @@ fn file(alloc: Global, name: &str, bytes: &str) -> Result<File, AllocError> {
     })
 }
 
-/// The worked images, a file that is refused, and a board that is too long.
+const SOURCE: &str = ".org 0x00200040\nmovs r0, #5\n";
+
+/// The worked images, a file that is refused, a board that is too long, and two sources.
 fn shelf(alloc: Global) -> Result<MemoryShelf, AllocError> {
     let mut files = Vec::new(alloc);
     files.push(file(alloc, "S", SECURE)?)?;
     files.push(file(alloc, "N", NONSECURE)?)?;
     files.push(file(alloc, "past", "10000000 00\n30007fff 0000\n")?)?;
+    files.push(file(alloc, "P", SOURCE)?)?;
+    files.push(file(alloc, "large", ".org 0x00200040\nmovs r0, #256\n")?)?;
     files.push(File {
         name: String::from_str(alloc, "long")?,
         bytes: vec![in alloc; b'\n'; 65_537]?,
@@ -49,6 +53,16 @@ fn answers(rt: HostRuntime) -> Result<(), Fail> {
     for (line, status, written, line_told) in [
         ("tzrun run @demo S N @none 4", 0, TRACE, ""),
         ("tzrun", 2, "", "usage\n"),
+        ("tzrun asm P", 0, "00200040 0520\n", ""),
+        ("tzrun asm large", 5, "", "large: A4 2\n"),
+        ("tzrun asm absent", 3, "", "cannot read absent\n"),
+        (
+            "tzrun dis @demo N ns",
+            0,
+            "00200040 2005 movs r0, #5\n00200042 e7fe b 0x00200042\n",
+            "",
+        ),
+        ("tzrun dis @demo N s", 5, "", "N: L7 0\n"),
         (
             "tzrun run @demo absent N @none 4",
             3,

@@ -4,10 +4,10 @@ use crate::words_of;
 use std::alloc::Global;
 use std::test::Fail;
 use tz_model::{Side, View};
-use tz_words::{Command, command_words};
+use tz_words::{Command, Form, command_words};
 
-/// What a command is told, as one line: of `run` the names between `|`, the steps and the view; of `dis` its
-/// word, the names and the side.
+/// What a command is told, as one line: of `run` the names between `|`, the steps and the view; of `asm` its
+/// word, the name and the form; of `dis` its word, the names and the side.
 fn told(alloc: Global, line: &str) -> Result<String, Fail> {
     let words = words_of(alloc, line)?;
     Ok(match command_words(alloc, &words)? {
@@ -20,6 +20,13 @@ fn told(alloc: Global, line: &str) -> Result<String, Fail> {
                 "{}|{}|{}|{}|{}|{view}",
                 run.board, run.secure, run.nonsecure, run.script, run.steps
             )?
+        }
+        Some(Command::Asm(asm)) => {
+            let form = match asm.form {
+                Form::Hex => "hex",
+                Form::Elf => "elf",
+            };
+            format!(in alloc; "asm|{}|{form}", asm.source)?
         }
         Some(Command::Dis(dis)) => {
             let side = match dis.side {
@@ -67,6 +74,11 @@ fn accepted(rt: HostRuntime) -> Result<(), Fail> {
         ("tzrun run b s n t 00000001", "b|s|n|t|1|ns"),
         ("tzrun run b s n t 10000001", "b|s|n|t|10000001|ns"),
         ("tzrun run b s n t 99999999", "b|s|n|t|99999999|ns"),
+        ("tzrun asm p", "asm|p|hex"),
+        ("tzrun asm p --form hex", "asm|p|hex"),
+        ("tzrun asm p --form elf", "asm|p|elf"),
+        ("tzrun asm --form=elf p", "asm|p|elf"),
+        ("tzrun asm --form hex -- --form", "asm|--form|hex"),
         ("tzrun dis b i s", "dis|b|i|s"),
         ("tzrun dis @demo i ns", "dis|@demo|i|ns"),
         ("tzrun dis -- -b --=x s", "dis|-b|--=x|s"),
@@ -146,6 +158,17 @@ fn refused(rt: HostRuntime) -> Result<(), Fail> {
         "tzrun run b s n t 1_0",
         "tzrun run b s n t ١",
         "tzrun run b s n t -",
+        // `asm` has one name, and the option `--form`.
+        "tzrun asm",
+        "tzrun asm p q",
+        "tzrun asm p --form",
+        "tzrun asm p --form x",
+        "tzrun asm p --form ns",
+        "tzrun asm p --form=",
+        "tzrun asm p --form hex --form hex",
+        "tzrun asm p --view all",
+        "tzrun asm -p",
+        "tzrun run b s n t 1 --form hex",
         // `dis` has two names, a side, and no option.
         "tzrun dis",
         "tzrun dis b i",

@@ -1,0 +1,113 @@
+//! The command `asm`: its source, the image in its form, and the status.
+
+ghost use Rattle.std.specs.Prelude.{◌≡◌, ◌<◌, ◌≤◌, ◌+◌, ◌++◌, ◌^◌, IfOk, Err, length, Some};
+ghost use Rattle.tz_model.specs.Outside.{HasCause, Put};
+ghost use Rattle.tz_words.specs.Asm.{asm_in, asm_names};
+ghost use Rattle.tz_words.specs.Commands.{Asm, longest};
+ghost use Rattle.tz_cli.specs.Told.{image_bytes};
+ghost use Rattle.tz_cli.specs.Answer.{Answer};
+
+use crate::files::{load_assembled, names_of_asm};
+use crate::lines::{refuse, refuse_fault};
+use std::alloc::{AllocError, Global};
+use tz_elf::{write_image, write_plain};
+use tz_model::{Image, Shelf, Sink, SinkError};
+use tz_words::{AsmWords, Form};
+
+/// The bytes of an image's file in a form.
+fn file_of(alloc: Global, form: Form, image: &Image) -> Result<Vec<u8>, AllocError>
+    requires { length image.now.segments < 65536 }
+    ensures { IfOk result (λ v. v.items ≡ image_bytes form image.now.segments) }
+{
+    match form {
+        Form::Hex => write_plain(alloc, image),
+        Form::Elf => write_image(alloc, image),
+    }
+}
+
+/// How many bytes the first line of a text has, with its line feed.
+fn line_length(text: &[u8]) -> usize
+    requires { 0 < length text.now }
+    ensures some { 0 < result }
+    ensures within { result ≤ length text.now }
+{
+    for (place, byte) in text.iter().enumerate() {
+        if *byte == b'\n' {
+            return place + 1;
+        }
+    }
+    text.len()
+}
+
+/// The first line of a text, with its line feed, and what stands behind it.
+fn cut_line(text: &[u8]) -> (&[u8], &[u8])
+    requires { 0 < length text.now }
+    ensures parts { result.0.now ++ result.1.now ≡ text.now }
+    ensures shorter { length result.1.now < length text.now }
+{
+    text.split_at(line_length(text))
+}
+
+/// Writes a text, each line with its line feed as one put.
+fn put_lines<O: Sink>(text: &[u8], out: &mut O) -> Result<(), SinkError>
+    ensures put { Put (O.written out.old) (O.written out.new) (O.space out.old) (O.space out.new) text.now result }
+    ensures cause { HasCause (O.faults out.old) (O.faults out.new) (result ≡ Err SinkError.Failed) }
+{
+    let mut rest = text;
+    'lines: while !rest.is_empty() {
+        let (line, behind) = cut_line(rest);
+        if let Err(error) = out.put(line) {
+            return Err(error);
+        }
+        rest = behind;
+    }
+    Ok(())
+}
+
+/// Writes an image's file: a plain image line by line, and an ELF file as one put.
+fn put_file<O: Sink>(form: Form, file: &[u8], out: &mut O) -> Result<(), SinkError>
+    ensures put { Put (O.written out.old) (O.written out.new) (O.space out.old) (O.space out.new) file.now result }
+    ensures cause { HasCause (O.faults out.old) (O.faults out.new) (result ≡ Err SinkError.Failed) }
+{
+    match form {
+        Form::Hex => put_lines(file, out),
+        Form::Elf => out.put(file),
+    }
+}
+
+/// Does what the words of `asm` say, and tells the answer with what it says of the outside.
+pub fn asm_files<H: Shelf, O: Sink, E: Sink>(
+    alloc: Global,
+    words: &AsmWords<'_>,
+    shelf: &mut H,
+    out: &mut O,
+    err: &mut E,
+) -> u8
+    ensures { Answer (record {
+      command = Some (Asm (asm_in words.now));
+      room = 64 + longest (asm_names (asm_in words.now));
+      shelf = record { held = H.held shelf.old; sound = H.sound shelf.old; before = H.faults shelf.old; now = H.faults shelf.new };
+      out_old = O.written out.old;
+      out_new = O.written out.new;
+      out_space = O.space out.old;
+      out_before = O.faults out.old;
+      out_now = O.faults out.new;
+      err_old = E.written err.old;
+      err_new = E.written err.new;
+      err_space = E.space err.old;
+      err_before = E.faults err.old;
+      err_now = E.faults err.new;
+    }) result }
+{
+    let image = match load_assembled(alloc, shelf, words) {
+        Ok(image) => image,
+        Err(fault) => return refuse_fault(alloc, &names_of_asm(words), fault, err),
+    };
+    let Ok(file) = file_of(alloc, words.form, &image) else {
+        return refuse(err, b"no memory\n", 7);
+    };
+    match put_file(words.form, &file, out) {
+        Ok(()) => 0,
+        Err(_) => 4,
+    }
+}
