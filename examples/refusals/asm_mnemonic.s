@@ -1,0 +1,2 @@
+.text
+movs r0, #5

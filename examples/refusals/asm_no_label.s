@@ -1,0 +1,2 @@
+start: movs r0, #5
+b strat

@@ -1,0 +1,2 @@
+movs r0, #5
+adds r0, #1

@@ -1,0 +1,2 @@
+b nowhere
+movs r0, #256

@@ -1,0 +1,2 @@
+.org 0x00200040
+movs r0, #5 @ five
