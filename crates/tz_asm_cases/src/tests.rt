@@ -1,0 +1,4 @@
+//! The cases, by what is large in them.
+
+mod cuts;
+mod sizes;
