@@ -1,8 +1,7 @@
 -- Labels.
-use Rattle.std.specs.Prelude.{ℕ, ◌==◌, Bool, not, ◌&&◌, if◌then◌else◌, List, ◌∷◌, Option, Some, None}
+use Rattle.std.specs.Prelude.{ℕ, ◌==◌, Bool, if◌then◌else◌, List, ◌∷◌, Option, Some, None, is_some}
 use Rattle.std.specs.List.{list_any}
-use Rattle.std.specs.Str.{str_eq_ignore_ascii_case}
-use Rattle.tz_syntax.specs.Names.{registers}
+use Rattle.tz_syntax.specs.Spelling.{register_of}
 use Rattle.tz_tokens.specs.Tokens.{TokenValue, Word, Mark}
 
 -- a `.` (46) stands in a word
@@ -10,12 +9,8 @@ abbrev pub has_dot : List ℕ → Bool
 has_dot word = list_any (λ b. b == 46) word
 
 -- a word is the name of a register, in any case of letters
-unfoldable pub is_register : List ℕ → Bool
-is_register word = list_any (str_eq_ignore_ascii_case word) registers
-
--- a word may be a label
-abbrev pub is_label : List ℕ → Bool
-is_label word = not (has_dot word) && not (is_register word)
+abbrev pub is_register : List ℕ → Bool
+is_register word = is_some (register_of word)
 
 -- the tokens behind a `:` (58) that stands first
 unfoldable pub behind_colon : List TokenValue → Option (List TokenValue)

@@ -6,9 +6,9 @@ ghost use Rattle.tz_source.specs.Statements.{directed, directive_of};
 ghost use Rattle.tz_source.specs.Views.{expression_view, statement_view, views};
 
 use crate::first::split;
-use crate::label::is_label;
 use crate::number::{Signed, number_of, offset_of};
 use crate::statement::{Expression, Statement};
+use tz_statement::is_label;
 use tz_table::Size;
 use tz_tokens::Token;
 

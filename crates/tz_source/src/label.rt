@@ -1,15 +1,12 @@
 //! Labels.
 
 ghost use Rattle.std.specs.Prelude.{◌≡◌, option_map};
-ghost use Rattle.tz_source.specs.Labels.{behind_colon, has_dot, is_label, is_register, label_at};
+ghost use Rattle.tz_source.specs.Labels.{behind_colon, has_dot, is_register, label_at};
 ghost use Rattle.tz_source.specs.Views.{views};
 
 use crate::first::split;
-use tz_syntax::register_name;
+use tz_syntax::register_of;
 use tz_tokens::Token;
-
-/// How many registers have names.
-const REGISTERS: u32 = 16;
 
 /// Whether a word has a `.`.
 fn has_dot(word: &[u8]) -> bool
@@ -22,19 +19,7 @@ fn has_dot(word: &[u8]) -> bool
 pub fn is_register(word: &[u8]) -> bool
     ensures { result ≡ is_register word.now }
 {
-    for number in 0..REGISTERS {
-        if word.eq_ignore_ascii_case(register_name(number).as_bytes()) {
-            return true;
-        }
-    }
-    false
-}
-
-/// Whether a word may be a label.
-pub fn is_label(word: &[u8]) -> bool
-    ensures { result ≡ is_label word.now }
-{
-    !has_dot(word) && !is_register(word)
+    register_of(word).is_some()
 }
 
 /// The tokens behind a `:` that stands first.
