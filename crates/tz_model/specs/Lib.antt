@@ -3,3 +3,4 @@ pub mod Board
 pub mod Image
 pub mod Outside
 pub mod Shelves
+pub mod Ports

@@ -9,6 +9,7 @@ mod board;
 mod fetch;
 mod image;
 mod outside;
+mod port;
 mod report;
 mod shelf_double;
 mod sink_double;
@@ -17,8 +18,9 @@ pub use board::{Board, Profile, Region, RegionKind, RegionSide, SauRegion};
 pub use fetch::{FetchAnswer, Fetched};
 pub use image::{Image, Segment};
 pub use outside::{Shelf, ShelfError, Sink, SinkError};
+pub use port::Port;
 pub use report::{
-    Change, CrossKind, Fault, Outcome, Report, ScriptEvent, Slot, StepKind, Store, View, Way,
+    Change, CrossKind, Fault, Outcome, Report, ScriptEvent, Sleep, Slot, StepKind, Store, View, Way,
 };
 pub use shelf_double::{FailingShelf, File, MemoryShelf};
 pub use sink_double::{FailingSink, MemorySink};

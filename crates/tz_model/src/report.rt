@@ -65,6 +65,16 @@ pub enum ScriptEvent {
     Nmi,
 }
 
+/// Whether a core sleeps, and what it waits for.
+#[derive(Clone, Copy, PartialEq, Eq)]
+pub enum Sleep {
+    Awake,
+    /// For an interrupt.
+    Wfi,
+    /// For an event.
+    Wfe,
+}
+
 /// How an instruction goes on.
 #[derive(Clone, Copy)]
 pub enum Outcome {

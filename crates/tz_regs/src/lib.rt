@@ -1,0 +1,22 @@
+//! The registers of the core, with both banks: what is in use, reads and writes, special registers, the
+//! IT state and masks (DDI0553, chapter B3 and `R[]`, `SP`, `MRS`, `MSR`).
+//!
+//! The structs are what the definitions in `specs/` speak of. Each reader gives the word that the manual's
+//! register has; each writer keeps the bits that the register has and changes nothing else.
+#![tactic(auto)]
+
+mod access;
+mod it;
+mod parts;
+mod priority;
+mod readers;
+mod reset;
+mod special;
+mod status;
+mod writers;
+
+pub use parts::{
+    Apsr, Before, Core, Masks, Registers, Running, SharedStatus, SideMasks, SideStatus, Stacks,
+    Status,
+};
+pub use special::{Special, StackLimit};

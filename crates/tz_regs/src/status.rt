@@ -1,0 +1,94 @@
+//! Writers of the configuration and of the fault registers, as `Status` has them.
+
+ghost use Rattle.std.specs.Prelude.{◌≡◌, ◌/◌, ◌*◌, bit_and};
+ghost use Rattle.tz_regs.specs.Banks.{status_of, with_status};
+
+use crate::parts::Core;
+use tz_model::Side;
+
+impl Core {
+    /// Writes VTOR of a side, bits 31:7.
+    pub fn set_vtor(&mut self, side: Side, value: u32)
+        ensures { self.new ≡ with_status side self.old (record (status_of side self.old) { vtor = value / 128 * 128 }) }
+    {
+        match side {
+            Side::Secure => self.status.s.vtor = value / 128 * 128,
+            Side::NonSecure => self.status.ns.vtor = value / 128 * 128,
+        }
+    }
+
+    /// Writes CCR of a side: UNALIGN_TRP and DIV_0_TRP.
+    pub fn set_ccr(&mut self, side: Side, value: u32)
+        ensures { self.new ≡ with_status side self.old (record (status_of side self.old) { ccr = bit_and value 0x18 }) }
+    {
+        match side {
+            Side::Secure => self.status.s.ccr = value & 0x18,
+            Side::NonSecure => self.status.ns.ccr = value & 0x18,
+        }
+    }
+
+    /// Writes UFSR of a side, CFSR from bit 16 on: UNDEFINSTR to STKOF, UNALIGNED, DIVBYZERO.
+    pub fn set_ufsr(&mut self, side: Side, value: u32)
+        ensures { self.new ≡ with_status side self.old (record (status_of side self.old) { ufsr = bit_and value 0x31F }) }
+    {
+        match side {
+            Side::Secure => self.status.s.ufsr = value & 0x31f,
+            Side::NonSecure => self.status.ns.ufsr = value & 0x31f,
+        }
+    }
+
+    /// Writes MMFSR of a side: IACCVIOL, DACCVIOL, MUNSTKERR, MSTKERR, MMARVALID.
+    pub fn set_mmfsr(&mut self, side: Side, value: u32)
+        ensures { self.new ≡ with_status side self.old (record (status_of side self.old) { mmfsr = bit_and value 0x9B }) }
+    {
+        match side {
+            Side::Secure => self.status.s.mmfsr = value & 0x9b,
+            Side::NonSecure => self.status.ns.mmfsr = value & 0x9b,
+        }
+    }
+
+    /// Writes MMFAR of a side.
+    pub fn set_mmfar(&mut self, side: Side, value: u32)
+        ensures { self.new ≡ with_status side self.old (record (status_of side self.old) { mmfar = value }) }
+    {
+        match side {
+            Side::Secure => self.status.s.mmfar = value,
+            Side::NonSecure => self.status.ns.mmfar = value,
+        }
+    }
+
+    /// Writes SFSR: INVEP, INVIS, INVER, AUVIOL, INVTRAN, SFARVALID.
+    pub fn set_sfsr(&mut self, value: u32)
+        ensures { self.new ≡ record self.old { status = record self.old.status { shared = record self.old.status.shared { sfsr = bit_and value 0x5F } } } }
+    {
+        self.status.shared.sfsr = value & 0x5f;
+    }
+
+    /// Writes SFAR.
+    pub fn set_sfar(&mut self, value: u32)
+        ensures { self.new ≡ record self.old { status = record self.old.status { shared = record self.old.status.shared { sfar = value } } } }
+    {
+        self.status.shared.sfar = value;
+    }
+
+    /// Writes BFSR, CFSR from bit 8 on: IBUSERR, PRECISERR, UNSTKERR, STKERR, BFARVALID.
+    pub fn set_bfsr(&mut self, value: u32)
+        ensures { self.new ≡ record self.old { status = record self.old.status { shared = record self.old.status.shared { bfsr = bit_and value 0x9B } } } }
+    {
+        self.status.shared.bfsr = value & 0x9b;
+    }
+
+    /// Writes BFAR.
+    pub fn set_bfar(&mut self, value: u32)
+        ensures { self.new ≡ record self.old { status = record self.old.status { shared = record self.old.status.shared { bfar = value } } } }
+    {
+        self.status.shared.bfar = value;
+    }
+
+    /// Writes HFSR: VECTTBL, FORCED, DEBUGEVT.
+    pub fn set_hfsr(&mut self, value: u32)
+        ensures { self.new ≡ record self.old { status = record self.old.status { shared = record self.old.status.shared { hfsr = bit_and value 0xC0000002 } } } }
+    {
+        self.status.shared.hfsr = value & 0xc000_0002;
+    }
+}
