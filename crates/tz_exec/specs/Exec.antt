@@ -1,61 +1,110 @@
--- The operation of each instruction that is built (DDI0553, chapter C2), over what the running code
--- has: the accesses that it makes, and what it leaves once these gave their words.
-use Rattle.std.specs.Prelude.{ℕ, false, List, [], Ok, Err, Result}
-use Rattle.tz_table.specs.declared.units.Size.TheVariants.{Word}
-use Rattle.tz_table.specs.declared.instruction.Flags.TheVariants.{OutsideIt}
+-- The operation of each instruction that is built (DDI0553, chapter C2), on the state of the machine.
+use Rattle.std.specs.Prelude.{ℕ, ℤ, List, [], Result, Ok, Err}
 use Rattle.tz_table.specs.declared.instruction.Insn.{Insn}
 use Rattle.tz_table.specs.declared.instruction.Insn.TheVariants as insns
 use Rattle.tz_model.specs.declared.report.Fault.{Fault}
-use Rattle.tz_model.specs.declared.report.Fault.TheVariants.{Undef}
 use Rattle.tz_model.specs.declared.report.Outcome.{Outcome}
-use Rattle.tz_model.specs.declared.report.Outcome.TheVariants.{Next}
 use Rattle.tz_model.specs.declared.report.Store as stored
-use Rattle.tz_state.specs.State.{State, asker_of}
-use Rattle.tz_state.specs.Access.{Access, Answered, answers}
-use Rattle.tz_exec.specs.Local.{Local, Finished, local_of, with_local}
-use Rattle.tz_exec.specs.Alu.{finish_constant}
-use Rattle.tz_exec.specs.LoadStore.{plan_load, plan_store, finish_load, finish_store}
-use Rattle.tz_exec.specs.Branch.{finish_branch, finish_exchange, finish_call}
-use Rattle.tz_exec.specs.System.{finish_hint}
+use Rattle.tz_model.specs.Ports.{Access, Answering, answers}
+use Rattle.tz_regs.specs.declared.parts.Core.{Core}
+use Rattle.tz_regs.specs.Priority.{mask_priority}
+use Rattle.tz_regs.specs.Special.{named_of}
+use Rattle.tz_state.specs.State.{State, with_core}
+use Rattle.tz_state.specs.Access.{Reached, reached_in, access}
+use Rattle.tz_exec.specs.declared.family.Family.{Family}
+use Rattle.tz_exec.specs.declared.family.Family.TheVariants.{Alu, LoadStore, Branch, System}
+use Rattle.tz_exec.specs.Local.{Local, Finished, local_of, finished_in, finished_named}
+use Rattle.tz_exec.specs.Alu.{finish_alu}
+use Rattle.tz_exec.specs.LoadStore.{plan_load_store, finish_load_store}
+use Rattle.tz_exec.specs.Branch.{plan_branch, finish_branch}
+use Rattle.tz_exec.specs.System.{finish_system}
 
--- the accesses of an instruction; all others make none
-abbrev pub plan : Insn → Local → List Access
-plan (insns.Load Word false rt address false) l = plan_load address l
-plan (insns.Store Word rt address false) l = plan_store rt address l
-plan insn l = []
+-- ---- over any port
 
--- what an instruction leaves, after its accesses gave these words, and how it goes on; an
--- instruction that isn't built is undefined; (own) SG that isn't reached through a gateway does nothing
-abbrev pub finish : Insn → Local → List ℕ → Finished
-finish (insns.DataImm op OutsideIt rd rn imm12) l words = finish_constant op rd rn imm12 l
-finish (insns.Load Word false rt address false) l words = finish_load rt address l words
-finish (insns.Store Word rt address false) l words = finish_store address l
-finish (insns.Branch offset) l words = finish_branch offset l
-finish (insns.BranchExchange rm ns) l words = finish_exchange rm ns l
-finish (insns.CallExchange rm ns) l words = finish_call rm ns l
-finish (insns.Hint op) l words = finish_hint op l
-finish insns.SecureGateway l words = Ok (l, Next)
-finish insn l words = Err Undef
+-- what an instruction leaves of the core and of what a port holds, and how it goes on or its fault
+pub record Ported (H : Type 0) : Type 0 where
+  pub core : Core
+  pub held : H
+  pub outcome : Result Outcome Fault
 
--- the state after an instruction but for PC, the stores that it made, and how it goes on or its fault
+abbrev pub ported : {H : Type 0} → H → Core × Result Outcome Fault → Ported H
+ported h (c, outcome) = record { core = c; held = h; outcome = outcome }
+
+-- after its accesses; where one faulted, the core is as it was, and the accesses before it stand
+abbrev pub after_accesses : {H : Type 0} → Core → H × Result (List ℕ) Fault → (List ℕ → Finished) → Ported H
+after_accesses c (h, Ok words) finish = ported h (finished_in c (finish words))
+after_accesses c (h, Err fault) finish = record { core = c; held = h; outcome = Err fault }
+
+-- an instruction by its accesses and by what it leaves once these gave their words
+abbrev pub over : {H : Type 0} → Answering H → Core → H → List Access → (List ℕ → Finished) → Ported H
+over one c h plan finish = after_accesses c (answers one h plan) finish
+
+-- loads and stores, and branches, over a port
+abbrev pub load_store_over : {H : Type 0} → Answering H → Insn → Core → H → Ported H
+load_store_over one i c h = over one c h (plan_load_store i (local_of c)) (finish_load_store i (local_of c))
+
+abbrev pub branch_over : {H : Type 0} → Answering H → Insn → Core → H → Ported H
+branch_over one i c h = over one c h (plan_branch i (local_of c)) (finish_branch i (local_of c))
+
+-- ---- on the state
+
+-- the family that an instruction belongs to
+abbrev pub family_of : Insn → Family
+family_of (insns.DataImm op flags rd rn imm12) = Alu
+family_of (insns.DataReg op flags rd rn rm kind amount) = Alu
+family_of (insns.ShiftReg kind flags rd rn rm) = Alu
+family_of (insns.AddWide sub rd rn imm) = Alu
+family_of (insns.Adr rd offset) = Alu
+family_of (insns.MovWide top rd imm) = Alu
+family_of (insns.Saturate signed rd rn bits asr amount) = Alu
+family_of (insns.BitField op rd rn low width) = Alu
+family_of (insns.Extend op rd rm rotation) = Alu
+family_of (insns.Reverse op rd rm) = Alu
+family_of (insns.Multiply op flags rd rn rm ra) = Alu
+family_of (insns.MultiplyLong op lo hi rn rm) = Alu
+family_of (insns.Divide signed rd rn rm) = Alu
+family_of (insns.Branch offset) = Branch
+family_of (insns.BranchIf cond offset) = Branch
+family_of (insns.BranchLink offset) = Branch
+family_of (insns.BranchZero nonzero rn offset) = Branch
+family_of (insns.TableBranch half rn rm) = Branch
+family_of (insns.BranchExchange rm ns) = Branch
+family_of (insns.CallExchange rm ns) = Branch
+family_of (insns.IfThen cond mask) = Branch
+family_of (insns.Hint op) = System
+family_of (insns.Barrier op option) = System
+family_of (insns.ChangeState disable i f) = System
+family_of (insns.ReadSpecial rd sysm) = System
+family_of (insns.WriteSpecial rn sysm) = System
+family_of (insns.TestTarget a t rd rn) = System
+family_of insns.SecureGateway = System
+family_of (insns.LazyState load rn) = System
+family_of (insns.Supervisor imm) = System
+family_of (insns.Breakpoint imm) = System
+family_of (insns.Undefined imm) = System
+family_of insn = LoadStore
+
+-- the state after an instruction but for PC and the IT state, the stores that it made, and how it goes on
+-- or its fault
 pub record Executed : Type 0 where
   pub state : State
   pub stores : List stored.Store
   pub outcome : Result Outcome Fault
 
--- what the instruction leaves; at a fault its registers stay
-abbrev pub finished : State → List stored.Store → Finished → Executed
-finished s stores (Ok f) = record { state = record s { core = with_local s.core f.0 }; stores = stores; outcome = Ok f.1 }
-finished s stores (Err fault) = record { state = s; stores = stores; outcome = Err fault }
+-- of an instruction that makes no access
+abbrev pub alone : State → Core × Result Outcome Fault → Executed
+alone s (c, outcome) = record { state = with_core s c; stores = []; outcome = outcome }
 
--- what follows the accesses: those before one that faulted stand
-abbrev pub answered : Insn → Local → State → List stored.Store → Result (List ℕ) Fault → Executed
-answered i l s stores (Ok words) = finished s stores (finish i l words)
-answered i l s stores (Err fault) = record { state = s; stores = stores; outcome = Err fault }
+-- of one over the machine's port
+abbrev pub through : State → Ported Reached → Executed
+through s p = record { state = record s { core = p.core; memory = p.held.memory }; stores = p.held.stores; outcome = p.outcome }
 
-abbrev pub executed_with : Insn → Local → Answered → Executed
-executed_with i l a = answered i l a.state a.stores a.words
+abbrev pub executed_by : Family → State → Insn → Executed
+executed_by Alu s i = alone s (finished_in s.core (finish_alu i (local_of s.core)))
+executed_by LoadStore s i = through s (load_store_over access i s.core (reached_in s))
+executed_by Branch s i = through s (branch_over access i s.core (reached_in s))
+executed_by System s i = alone s (finished_named s.core (finish_system (mask_priority s.core.masks) i (named_of s.core)))
 
 -- an instruction of the running code
 abbrev pub executed : State → Insn → Executed
-executed s i = executed_with i (local_of s.core) (answers (asker_of s) s (plan i (local_of s.core)))
+executed s i = executed_by (family_of i) s i

@@ -1,7 +1,8 @@
 pub mod Local
+pub mod Operations
 pub mod Alu
 pub mod LoadStore
 pub mod Branch
 pub mod System
-pub mod Built
+pub mod ItRules
 pub mod Exec

@@ -10,6 +10,12 @@ ghost use Rattle.tz_table.specs.declared.instruction.Insn.{Insn};
 ghost use Rattle.tz_state.specs.State.{State};
 ghost use Rattle.tz_exec.specs.Exec.{executed};
 
+mod computed;
+mod family;
+
+pub use computed::Computed;
+pub use family::Family;
+
 /// No instruction of Non-secure code changes a Secure stack pointer.
 pub fn keeps_secure_stacks()
     ensures { (s : State) (i : Insn) → s.core.run.side ≡ NonSecure → (executed s i).state.core.stacks_s ≡ s.core.stacks_s }

@@ -2,13 +2,13 @@
 use Rattle.std.specs.Prelude.{ℕ}
 use Rattle.tz_table.specs.declared.units.Side.{Side}
 use Rattle.tz_model.specs.Board.{BoardValue}
-use Rattle.tz_state.specs.declared.registers.Core.{Core}
-use Rattle.tz_state.specs.declared.registers.Registers.{Registers}
-use Rattle.tz_state.specs.declared.registers.Running.{Running}
-use Rattle.tz_state.specs.declared.registers.Asker.{Asker}
+use Rattle.tz_regs.specs.declared.parts.Core.{Core}
+use Rattle.tz_regs.specs.declared.parts.Registers.{Registers}
+use Rattle.tz_regs.specs.declared.parts.Running.{Running}
+use Rattle.tz_regs.specs.Registers.{side_in}
+use Rattle.tz_state.specs.declared.asker.Asker.{Asker}
 use Rattle.tz_state.specs.Memory.{Memory}
 use Rattle.tz_state.specs.Attribution.{MapState, map_on}
-use Rattle.tz_state.specs.Registers.{side_in}
 
 pub record State : Type 0 where
   pub core : Core
@@ -29,6 +29,9 @@ asker_of s = record { side = s.core.run.side }
 
 abbrev pub with_memory : State → Memory → State
 with_memory s m = record s { memory = m }
+
+abbrev pub with_core : State → Core → State
+with_core s c = record s { core = c }
 
 abbrev pub with_run : State → Running → State
 with_run s r = record s { core = record s.core { run = r } }

@@ -1,10 +1,17 @@
-//! The state of the machine in its parts, and how it answers looks: attribution, accesses, fetches.
+//! The state of the machine, and how it answers looks: attribution, accesses, fetches.
 //!
-//! The definitions stand in `specs/`. The parts of the core that code holds as they are defined are
-//! structs here, so that each is described once. Which part an instruction, a port or both sides may
-//! write decides where a field stands.
+//! The definitions stand in `specs/`; the core is that of `tz_regs`. The one call is a law.
 #![tactic(auto)]
 
-mod registers;
+ghost use Rattle.std.specs.Prelude.{◌≡◌, OnErr};
+ghost use Rattle.tz_model.specs.Ports.{Access};
+ghost use Rattle.tz_state.specs.Access.{Reached, access};
 
-pub use registers::{Apsr, Asker, Before, Core, Registers, Running, Stacks};
+mod asker;
+
+pub use asker::Asker;
+
+/// An access that faults changes nothing.
+pub fn faulting_access_changes_nothing()
+    ensures { (r : Reached) (a : Access) → OnErr (access r a).1 ((access r a).0 ≡ r) }
+{}
