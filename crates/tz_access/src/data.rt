@@ -112,10 +112,17 @@ fn may_touch(board: &Board, side: Side, size: Size, addr: u32) -> bool
 }
 
 /// The first check that fails, where `mapped` tells whether the map takes the access.
-fn checked(board: &Board, side: Side, size: Size, addr: u32, mapped: bool) -> Option<Fault>
-    ensures { result ≡ checked (map_on board.now) side size addr mapped }
+fn checked(
+    board: &Board,
+    side: Side,
+    size: Size,
+    addr: u32,
+    must_align: bool,
+    mapped: bool,
+) -> Option<Fault>
+    ensures { result ≡ checked (map_on board.now) side size addr must_align mapped }
 {
-    if addr >= 0xe000_0000 && !is_aligned(size, addr) {
+    if (must_align || addr >= 0xe000_0000) && !is_aligned(size, addr) {
         return Some(Fault::Unaligned);
     }
     if !may_touch(board, side, size, addr) {
@@ -128,31 +135,45 @@ fn checked(board: &Board, side: Side, size: Size, addr: u32, mapped: bool) -> Op
 }
 
 /// The fault of a load of code of a side, or none: UNALIGNED, AUVIOL or PRECISERR, the first check that
-/// fails.
+/// fails. With `must_align` it has to be aligned to its size everywhere.
 #[tactic(auto, unfolding(tz_state::specs::Access::load_verdict))]
-pub fn load_verdict(board: &Board, side: Side, size: Size, addr: u32) -> Option<Fault>
-    ensures { result ≡ load_verdict (map_on board.now) side size addr }
+pub fn load_verdict(
+    board: &Board,
+    side: Side,
+    size: Size,
+    addr: u32,
+    must_align: bool,
+) -> Option<Fault>
+    ensures { result ≡ load_verdict (map_on board.now) side size addr must_align }
 {
     checked(
         board,
         side,
         size,
         addr,
+        must_align,
         all_mapped(&board.regions, addr, size),
     )
 }
 
 /// The fault of a store of code of a side, or none: UNALIGNED, AUVIOL or PRECISERR, the first check that
-/// fails.
+/// fails. With `must_align` it has to be aligned to its size everywhere.
 #[tactic(auto, unfolding(tz_state::specs::Access::store_verdict))]
-pub fn store_verdict(board: &Board, side: Side, size: Size, addr: u32) -> Option<Fault>
-    ensures { result ≡ store_verdict (map_on board.now) side size addr }
+pub fn store_verdict(
+    board: &Board,
+    side: Side,
+    size: Size,
+    addr: u32,
+    must_align: bool,
+) -> Option<Fault>
+    ensures { result ≡ store_verdict (map_on board.now) side size addr must_align }
 {
     checked(
         board,
         side,
         size,
         addr,
+        must_align,
         all_writable(&board.regions, addr, size),
     )
 }

@@ -2,35 +2,17 @@
 
 ghost use Rattle.std.specs.Prelude.{◌≡◌, ◌≤◌, ◌<◌, ◌+◌, ◌++◌};
 ghost use Rattle.arrayvec.specs.ArrayVec.{array_vec_len};
-ghost use Rattle.tz_sem.specs.Ended.{flag_at, apsr_word, changed, registers_changed, changes_of};
+ghost use Rattle.tz_sem.specs.Ended.{changed, registers_changed, changes_of};
 
 use arrayvec::ArrayVec;
 use tz_model::{Change, Store};
-use tz_state::{Apsr, Before, Core};
+use tz_regs::{Before, Core};
 
 /// The registers that differ after a step.
 pub type Changes = ArrayVec<Change, 16>;
 
 /// The stores of an instruction.
 pub type Stores = ArrayVec<Store, 16>;
-
-/// A flag at its place in APSR.
-fn flag_at(flag: bool, place: u32) -> u32
-    ensures value { result ≡ flag_at flag place }
-    ensures small { result ≤ place }
-{
-    if flag { place } else { 0 }
-}
-
-/// The flags at their places in APSR.
-pub fn apsr_word(apsr: &Apsr) -> u32
-    ensures { result ≡ apsr_word apsr.now }
-{
-    flag_at(apsr.n, 0x8000_0000)
-        + flag_at(apsr.z, 0x4000_0000)
-        + flag_at(apsr.c, 0x2000_0000)
-        + flag_at(apsr.v, 0x1000_0000)
-}
 
 /// Tells a register where it differs.
 fn tell(changes: &mut Changes, name: u8, old: u32, new: u32)
@@ -63,12 +45,7 @@ pub fn tell_changes(changes: &mut Changes, before: &Before, core: &Core)
 {
     let now = &core.registers;
     tell_general(changes, &before.registers.general, &now.general);
-    tell(changes, 13, before.sp, core.sp());
+    tell(changes, 13, before.sp, core.pointer());
     tell(changes, 14, before.registers.lr, now.lr);
-    tell(
-        changes,
-        15,
-        apsr_word(&before.registers.apsr),
-        apsr_word(&now.apsr),
-    );
+    tell(changes, 15, before.registers.apsr.word(), now.apsr.word());
 }

@@ -7,8 +7,8 @@ ghost use Rattle.tz_sem.specs.Ended.{kind_of};
 use crate::changes::tell_changes;
 use crate::running::Machine;
 use tz_model::{CrossKind, Report, Side, StepKind, Way};
+use tz_regs::Before;
 use tz_sem::{Cause, Ending};
-use tz_state::Before;
 
 /// The kind of a crossing, by the side that the step started on and by what it did.
 fn kind_of(start: Side, cause: Cause) -> Option<CrossKind>

@@ -5,9 +5,10 @@
 #![tactic(auto)]
 
 mod changes;
-mod code;
 mod ending;
 mod execute;
+mod it_rules;
+mod port;
 mod running;
 mod start;
 

@@ -5,16 +5,18 @@ ghost use Rattle.arrayvec.specs.ArrayVec.{array_vec_len};
 ghost use Rattle.tz_model.specs.Words.{wrap};
 ghost use Rattle.std.specs.Prelude.{Some};
 ghost use Rattle.tz_sem.specs.declared.ending.Cause.TheVariants.{Went};
+ghost use Rattle.tz_model.specs.Codes.{second_of};
 ghost use Rattle.tz_sem.specs.Step.{length_of};
 
 use crate::changes::Stores;
-use crate::code::built_insn;
+use crate::it_rules::{ignores_condition, is_misplaced, is_passed_over};
 use std::marker::Model;
 use tz_access::{fetch_at, is_own_fetch};
+use tz_decode::{Decoded, decode};
 use tz_mem::Memory;
-use tz_model::{Board, Code, Insn, Outcome, Report, ScriptEvent, Side};
+use tz_model::{Board, Code, Fault, Insn, Outcome, Report, ScriptEvent, Side};
+use tz_regs::Core;
 use tz_sem::{Cause, Ending};
-use tz_state::Core;
 
 /// The machine: the core, its memory and its board.
 #[derive(Drop)]
@@ -47,6 +49,13 @@ fn next_of(pc: u32, code: &Code) -> u32
     }
 }
 
+/// The second halfword of a code, 0 where it has none.
+fn second_of(code: &Code) -> u16
+    ensures { result ≡ second_of code.now }
+{
+    code.second.unwrap_or(0)
+}
+
 /// An instruction ran.
 fn ran(touched: bool, code: &Code) -> Ending
     ensures { result ≡ record { touched = touched; cause = Went; ran = Some code.now } }
@@ -63,16 +72,16 @@ impl Machine {
     ghost use Rattle.tz_model.specs.declared.report.Store.{Store};
     ghost use Rattle.tz_model.specs.declared.report.ScriptEvent.{ScriptEvent as DueEvent};
     ghost use Rattle.tz_sem.specs.declared.ending.Cause.TheVariants.{Went};
-    ghost use Rattle.tz_state.specs.State.{side_of, with_run};
-    ghost use Rattle.tz_exec.specs.Built.{Fits};
-    ghost use Rattle.tz_sem.specs.Step.{branch_ns, exchanged, goes_on, decoded, enters, looks, ended, step};
+    ghost use Rattle.tz_state.specs.State.{side_of, with_run, with_pc};
+    ghost use Rattle.tz_model.specs.Codes.{meaning_of};
+    ghost use Rattle.tz_sem.specs.Step.{branch_ns, moves_to, exchanged, past, skips, goes_on, placed, decoded, enters, looks, unready, ended, step};
     ghost use Rattle.tz_twin.specs.Integrity.{LeavesSecure, EntersByGateway};
 
     /// The state that the machine is in; a locked machine counts as Secure.
     pub fn side(&self) -> Side
         ensures { result ≡ side_of self.now }
     {
-        self.core.side()
+        self.core.running_side()
     }
 
     /// Whether the machine is locked, which it then stays.
@@ -102,34 +111,56 @@ impl Machine {
         }
     }
 
-    /// Goes on after an instruction.
-    fn go_on(&mut self, touched: bool, code: &Code, outcome: Outcome) -> Ending
-        ensures { (stores : List Store) → goes_on self.old touched code.now stores outcome ≡ record { state = self.new; stores = stores; ending = result } }
+    /// Ends a step that faults, which locks the machine whatever the fault.
+    fn fault(&mut self, touched: bool, fault: Fault) -> Ending
+        ensures state { self.new ≡ with_run self.old (record self.old.core.run { locked = true }) }
+        ensures ending { result ≡ record { touched = touched; cause = Went; ran = None } }
     {
-        match outcome {
-            Outcome::Jump(to) => {
-                self.core.registers.pc = to;
-                ran(touched, code)
-            }
-            Outcome::Exchange { target, ns } => self.exchange(touched, code, target, ns),
-            Outcome::Next => {
-                self.core.registers.pc = next_of(self.core.registers.pc, code);
-                ran(touched, code)
-            }
-            Outcome::Sleep { event: _ } => {
-                self.core.registers.pc = next_of(self.core.registers.pc, code);
-                ran(touched, code)
-            }
+        let _fault = fault;
+        self.lock(touched)
+    }
+
+    /// Moves the IT state on past an instruction, which IT does by itself.
+    fn pass(&mut self, insn: &Insn)
+        ensures { self.new ≡ past insn.now self.old }
+    {
+        match *insn {
+            Insn::IfThen { .. } => {}
+            _ => self.core.registers.advance_it(),
         }
     }
 
-    /// Exchanges to a target.
-    fn exchange(&mut self, touched: bool, code: &Code, target: u32, ns: bool) -> Ending
-        ensures { (stores : List Store) → exchanged self.old touched code.now stores target ns ≡ record { state = self.new; stores = stores; ending = result } }
+    /// Goes on to the next instruction.
+    fn go_next(&mut self, touched: bool, code: &Code) -> Ending
+        ensures state { self.new ≡ with_pc self.old (wrap (self.old.core.registers.pc + length_of code.now)) }
+        ensures ending { result ≡ record { touched = touched; cause = Went; ran = Some code.now } }
     {
-        if target == 0xfeff_fffe || target == 0xfeff_ffff {
-            return self.lock(true);
+        self.core.registers.pc = next_of(self.core.registers.pc, code);
+        ran(touched, code)
+    }
+
+    /// Goes on after an instruction.
+    fn go_on(&mut self, insn: &Insn, touched: bool, code: &Code, outcome: Outcome) -> Ending
+        ensures { (stores : List Store) → goes_on insn.now self.old touched code.now stores outcome ≡ record { state = self.new; stores = stores; ending = result } }
+    {
+        match outcome {
+            Outcome::Next | Outcome::Sleep { event: _ } => {
+                self.pass(insn);
+                self.go_next(touched, code)
+            }
+            Outcome::Jump(to) => {
+                self.pass(insn);
+                self.core.registers.pc = to;
+                ran(touched, code)
+            }
+            Outcome::Exchange { target, ns } => self.exchange(insn, touched, code, target, ns),
         }
+    }
+
+    /// Moves to a target of an exchange.
+    fn move_to(&mut self, touched: bool, code: &Code, target: u32, ns: bool) -> Ending
+        ensures { (stores : List Store) → moves_to self.old touched code.now stores target ns ≡ record { state = self.new; stores = stores; ending = result } }
+    {
         if ns {
             return self.branch_ns(touched, code, target);
         }
@@ -137,6 +168,18 @@ impl Machine {
         registers.pc = target / 2 * 2;
         registers.t = target % 2 == 1;
         ran(touched, code)
+    }
+
+    /// Exchanges to a target.
+    fn exchange(&mut self, insn: &Insn, touched: bool, code: &Code, target: u32, ns: bool) -> Ending
+        ensures { (stores : List Store) → exchanged self.old (past insn.now self.old) touched code.now stores target ns ≡ record { state = self.new; stores = stores; ending = result } }
+    {
+        if target == 0xfeff_fffe || target == 0xfeff_ffff {
+            let side = self.core.run.side;
+            return self.fault(true, Fault::InvPc(side));
+        }
+        self.pass(insn);
+        self.move_to(touched, code, target, ns)
     }
 
     /// BXNS in Secure state.
@@ -166,6 +209,7 @@ impl Machine {
         let registers = &mut self.core.registers;
         registers.lr = registers.lr / 2 * 2;
         registers.pc = registers.pc.wrapping_add(4);
+        registers.it = 0;
         let code = Code {
             first: 0xe97f,
             second: Some(0xe97f),
@@ -173,15 +217,46 @@ impl Machine {
         ran(true, &code)
     }
 
-    /// Runs an instruction.
-    fn run(&mut self, insn: &Insn, code: &Code, touched: bool, stores: &mut Stores) -> Ending
-        requires fits { Fits insn.now }
-        requires stores { array_vec_len stores.old ≡ 0 }
-        ensures { decoded self.old touched code.now (Some insn.now) ≡ record { state = self.new; stores = stores.new.items; ending = result } }
+    /// Skips an instruction whose condition fails.
+    fn skip(&mut self, touched: bool, code: &Code) -> Ending
+        ensures { skips self.old touched code.now ≡ record { state = self.new; stores = []; ending = result } }
     {
+        self.core.registers.advance_it();
+        self.go_next(touched, code)
+    }
+
+    /// Runs an instruction, unless it may not stand where it does, or its condition fails.
+    fn run(&mut self, insn: &Insn, code: &Code, touched: bool, stores: &mut Stores) -> Ending
+        requires { array_vec_len stores.old ≡ 0 }
+        ensures { placed self.old touched code.now insn.now ≡ record { state = self.new; stores = stores.new.items; ending = result } }
+    {
+        if is_misplaced(insn, &self.core.registers) {
+            return self.fault(touched, Fault::Undef);
+        }
+        if is_passed_over(&self.core.registers) && !ignores_condition(self.core.run.side, insn) {
+            return self.skip(touched, code);
+        }
         match self.execute(insn, stores) {
-            Ok(outcome) => self.go_on(touched, code, outcome),
-            Err(_) => self.lock(touched),
+            Ok(outcome) => self.go_on(insn, touched, code, outcome),
+            Err(fault) => self.fault(touched, fault),
+        }
+    }
+
+    /// Runs the instruction that a code means.
+    fn run_code(&mut self, code: &Code, touched: bool, stores: &mut Stores) -> Ending
+        requires { array_vec_len stores.old ≡ 0 }
+        ensures { decoded self.old touched code.now (meaning_of code.now) ≡ record { state = self.new; stores = stores.new.items; ending = result } }
+    {
+        match decode(code.first, second_of(code)) {
+            Decoded::One(insn, _) => self.run(&insn, code, touched, stores),
+            Decoded::NoCoprocessor => {
+                if is_passed_over(&self.core.registers) {
+                    self.skip(touched, code)
+                } else {
+                    self.fault(touched, Fault::NoCp)
+                }
+            }
+            Decoded::Undefined(_) => self.fault(touched, Fault::Undef),
         }
     }
 
@@ -197,6 +272,16 @@ impl Machine {
         }
     }
 
+    /// The fault of a step that fetches nothing.
+    fn unready(&self, looked: bool) -> Fault
+        ensures { result ≡ unready looked self.now.core.run.side }
+    {
+        match self.core.run.side {
+            Side::NonSecure if looked => Fault::EntryPoint,
+            _ => Fault::InvState,
+        }
+    }
+
     /// Makes one step but for its report: notes the stores, and tells how it ended.
     #[tactic(auto, unfolding(tz_sem::specs::Step::ended))]
     fn make_step(&mut self, stores: &mut Stores) -> Ending
@@ -208,19 +293,20 @@ impl Machine {
         }
         if !self.core.registers.t {
             let touched = self.looks();
-            return self.lock(touched);
+            let fault = self.unready(touched);
+            return self.fault(touched, fault);
         }
         let pc = self.core.registers.pc;
         let found = fetch_at(&self.board, self.core.run.side, &self.memory, pc);
-        let Ok(fetched) = found.answer else {
-            return self.lock(found.touched);
-        };
-        if fetched.gateway {
-            return self.enter();
-        }
-        match built_insn(&fetched.code) {
-            Some(insn) => self.run(&insn, &fetched.code, found.touched, stores),
-            None => self.lock(found.touched),
+        match found.answer {
+            Err(fault) => self.fault(found.touched, fault),
+            Ok(fetched) => {
+                if fetched.gateway {
+                    self.enter()
+                } else {
+                    self.run_code(&fetched.code, found.touched, stores)
+                }
+            }
         }
     }
 

@@ -8,7 +8,7 @@ use std::alloc::{AllocError, Global};
 use tz_access::is_word_mapped;
 use tz_mem::Memory;
 use tz_model::{Board, Image, Segment};
-use tz_state::Core;
+use tz_regs::Core;
 
 /// Puts the bytes of segments into memory.
 #[tactic(auto, unfolding(tz_sem::specs::Boot::with_segments))]
@@ -52,7 +52,7 @@ impl Machine {
             (0, 0)
         };
         Ok(Machine {
-            core: Core::reset(sp, start, !runs),
+            core: Core::reset(board.secure_vtor, board.nonsecure_vtor, sp, start, !runs),
             memory,
             board,
         })

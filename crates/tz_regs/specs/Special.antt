@@ -25,14 +25,14 @@ abbrev pub named_of : Core → Named
 named_of c =
     record { side = c.run.side; registers = c.registers; own = stacks_of c.run.side c; ns = c.stacks_ns; masks = c.masks }
 
--- the core with what its code leaves of these; Non-secure code has its own stacks alone
+-- the core with what its code leaves of these; Non-secure code leaves the Secure side as it was
 abbrev pub with_named : Core → Named → Core
 with_named c n =
     record c {
       registers = n.registers;
       stacks_s = secure_after c.run.side n.own c.stacks_s;
       stacks_ns = nonsecure_after c.run.side n.own n.ns;
-      masks = n.masks;
+      masks = record n.masks { s = secure_after c.run.side n.masks.s c.masks.s };
     }
 
 -- the banked registers by the low seven bits of their numbers

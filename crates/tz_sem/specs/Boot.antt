@@ -6,7 +6,7 @@ use Rattle.tz_model.specs.Board.{BoardValue}
 use Rattle.tz_model.specs.Image.{SegmentValue, ImageValue}
 use Rattle.tz_state.specs.Memory.{Memory, every, word_at, with_bytes}
 use Rattle.tz_state.specs.Zeros.{zero_memory}
-use Rattle.tz_state.specs.Registers.{reset_core}
+use Rattle.tz_regs.specs.Reset.{reset_core}
 use Rattle.tz_state.specs.Access.{is_mapped}
 use Rattle.tz_state.specs.State.{State}
 
@@ -21,7 +21,7 @@ boot_memory b secure nonsecure = with_segments (with_segments (zero_memory b.reg
 
 -- the values of a reset, with this memory, stack pointer and start
 abbrev pub reset : BoardValue → Memory → ℕ → ℕ → Bool → State
-reset b m sp start locked = record { core = reset_core sp start locked; memory = m; board = b }
+reset b m sp start locked = record { core = reset_core b.secure_vtor b.nonsecure_vtor sp start locked; memory = m; board = b }
 
 -- both words at the start of the Secure vector table are in memory
 abbrev pub has_vectors : BoardValue → Bool

@@ -12,10 +12,10 @@ use Rattle.tz_model.specs.declared.report.Change.{Change}
 use Rattle.tz_model.specs.declared.report.Store.{Store}
 use Rattle.tz_model.specs.declared.report.Report.{Report}
 use Rattle.tz_model.specs.Words.{is_nonsecure_side}
-use Rattle.tz_state.specs.declared.registers.Apsr.{Apsr}
-use Rattle.tz_state.specs.declared.registers.Before.{Before}
-use Rattle.tz_state.specs.declared.registers.Core.{Core}
-use Rattle.tz_state.specs.Registers.{sp_in}
+use Rattle.tz_regs.specs.declared.parts.Before.{Before}
+use Rattle.tz_regs.specs.declared.parts.Core.{Core}
+use Rattle.tz_regs.specs.Registers.{sp_in}
+use Rattle.tz_regs.specs.Special.{apsr_word}
 use Rattle.tz_state.specs.State.{State, side_of}
 use Rattle.tz_sem.specs.declared.ending.Cause.{Cause}
 use Rattle.tz_sem.specs.declared.ending.Cause.TheVariants.{Went, Returned}
@@ -47,13 +47,6 @@ abbrev pub way_of : Before → Ended → Option Way
 way_of b e = if crosses e then way_by e.state (kind_of b.side e.ending.cause) else None
 
 -- ---- what is told
-
--- a flag at its place in APSR
-abbrev pub flag_at : Bool → ℕ → ℕ
-flag_at flag place = if flag then place else 0
-
-abbrev pub apsr_word : Apsr → ℕ
-apsr_word a = flag_at a.n (2 ^ 31) + flag_at a.z (2 ^ 30) + flag_at a.c (2 ^ 29) + flag_at a.v (2 ^ 28)
 
 -- a register that differs is told
 abbrev pub changed : ℕ → ℕ → ℕ → List Change

@@ -1,10 +1,14 @@
 -- One step of the machine, stage by stage, each of which gives how the step ends.
-use Rattle.std.specs.Prelude.{ℕ, ◌+◌, ◌%◌, ◌==◌, Bool, true, ◌||◌, not, if◌then◌else◌, List, [], Option, Some, None, Result, Ok, Err}
+use Rattle.std.specs.Prelude.{ℕ, ◌+◌, ◌%◌, ◌==◌, Bool, true, ◌&&◌, ◌||◌, not, if◌then◌else◌, List, [], Option, Some, None, Result, Ok, Err}
 use Rattle.tz_table.specs.declared.units.Side.{Side}
 use Rattle.tz_table.specs.declared.units.Side.TheVariants.{Secure, NonSecure}
 use Rattle.tz_table.specs.declared.units.Code.{Code}
 use Rattle.tz_table.specs.declared.instruction.Insn.{Insn}
+use Rattle.tz_table.specs.declared.instruction.Insn.TheVariants.{IfThen}
+use Rattle.tz_table.specs.declared.decoded.Decoded.{Decoded}
+use Rattle.tz_table.specs.declared.decoded.Decoded.TheVariants.{One, NoCoprocessor, Undefined}
 use Rattle.tz_model.specs.declared.report.Fault.{Fault}
+use Rattle.tz_model.specs.declared.report.Fault.TheVariants.{Undef, NoCp, InvState, InvPc, EntryPoint}
 use Rattle.tz_model.specs.declared.report.Outcome.{Outcome}
 use Rattle.tz_model.specs.declared.report.Outcome.TheVariants.{Next, Jump, Exchange, Sleep}
 use Rattle.tz_model.specs.declared.report.ScriptEvent.{ScriptEvent}
@@ -12,12 +16,14 @@ use Rattle.tz_model.specs.declared.report.Store.{Store}
 use Rattle.tz_model.specs.declared.report.Report.{Report}
 use Rattle.tz_model.specs.declared.fetch.Fetched.{Fetched}
 use Rattle.tz_model.specs.declared.fetch.FetchAnswer.{FetchAnswer}
+use Rattle.tz_model.specs.Codes.{meaning_of}
 use Rattle.tz_model.specs.Words.{wrap, even_of}
-use Rattle.tz_state.specs.declared.registers.Before.{Before}
-use Rattle.tz_state.specs.Registers.{before_in}
+use Rattle.tz_regs.specs.declared.parts.Before.{Before}
+use Rattle.tz_regs.specs.Registers.{before_in}
+use Rattle.tz_regs.specs.ItState.{it_advanced}
 use Rattle.tz_state.specs.State.{State, map_of, with_run, with_registers, with_pc}
 use Rattle.tz_state.specs.Fetch.{fetch, is_own_fetch, wide, sg_half}
-use Rattle.tz_exec.specs.Built.{built_insn}
+use Rattle.tz_exec.specs.ItRules.{is_misplaced, is_passed_over, ignores_condition}
 use Rattle.tz_exec.specs.Exec.{Executed, executed}
 use Rattle.tz_sem.specs.declared.ending.Cause.TheVariants.{Went, Returned}
 use Rattle.tz_sem.specs.Ended.{Ended, report_of}
@@ -38,6 +44,10 @@ locks s touched stores =
       stores = stores;
       ending = record { touched = touched; cause = Went; ran = None };
     }
+
+-- a fault locks the machine, whichever it is: its registers are those before the instruction
+abbrev pub faults : State → Bool → Fault → List Store → Ended
+faults s touched fault stores = locks s touched stores
 
 -- an instruction ran
 abbrev pub ran : State → Bool → Code → List Store → Ended
@@ -69,53 +79,81 @@ branch_ns s touched code stores target =
     if target % 2 == 0 then returned (branched s target true) touched code stores
     else ran (branched s target true) touched code stores
 
--- BX and BXNS; a return to Secure code that was called is not built, and faults
-abbrev pub exchanged : State → Bool → Code → List Store → ℕ → Bool → Ended
-exchanged s touched code stores target ns =
-    if is_fnc_return target then locks s true stores
-    else if ns then branch_ns s touched code stores target
-    else ran (branched s target (target % 2 == 1)) touched code stores
+-- from the state after an instruction
+abbrev pub moves_to : State → Bool → Code → List Store → ℕ → Bool → Ended
+moves_to s touched code stores target ns =
+    if ns then branch_ns s touched code stores target else ran (branched s target (target % 2 == 1)) touched code stores
+
+-- BX, BXNS and loads of PC, with the state before the instruction and after it; a return to Secure code that
+-- was called is not built, and faults
+abbrev pub exchanged : State → State → Bool → Code → List Store → ℕ → Bool → Ended
+exchanged s after touched code stores target ns =
+    if is_fnc_return target then faults s true (InvPc s.core.run.side) stores else moves_to after touched code stores target ns
 
 -- ---- the instruction
+
+-- each instruction but IT moves the IT state on
+abbrev pub it_after : Insn → ℕ → ℕ
+it_after (IfThen cond mask) it = it
+it_after insn it = it_advanced it
+
+abbrev pub with_it : State → ℕ → State
+with_it s it = with_registers s (record s.core.registers { it = it })
+
+abbrev pub past : Insn → State → State
+past i s = with_it s (it_after i s.core.registers.it)
 
 -- to the next instruction
 abbrev pub goes_next : State → Bool → Code → List Store → Ended
 goes_next s touched code stores = ran (with_pc s (wrap (s.core.registers.pc + length_of code))) touched code stores
 
+-- an instruction that its IT block skips
+abbrev pub skips : State → Bool → Code → Ended
+skips s touched code = goes_next (with_it s (it_advanced s.core.registers.it)) touched code []
+
 -- how a step goes on after its instruction
-abbrev pub goes_on : State → Bool → Code → List Store → Outcome → Ended
-goes_on s touched code stores Next = goes_next s touched code stores
-goes_on s touched code stores (Jump to) = ran (with_pc s to) touched code stores
-goes_on s touched code stores (Exchange target ns) = exchanged s touched code stores target ns
-goes_on s touched code stores (Sleep event) = goes_next s touched code stores
+abbrev pub goes_on : Insn → State → Bool → Code → List Store → Outcome → Ended
+goes_on i s touched code stores Next = goes_next (past i s) touched code stores
+goes_on i s touched code stores (Jump to) = ran (with_pc (past i s) to) touched code stores
+goes_on i s touched code stores (Exchange target ns) = exchanged s (past i s) touched code stores target ns
+goes_on i s touched code stores (Sleep event) = goes_next (past i s) touched code stores
 
--- each fault locks the machine
-abbrev pub concludes : State → Bool → Code → List Store → Result Outcome Fault → Ended
-concludes s touched code stores (Ok outcome) = goes_on s touched code stores outcome
-concludes s touched code stores (Err fault) = locks s touched stores
+abbrev pub concludes : Insn → State → Bool → Code → List Store → Result Outcome Fault → Ended
+concludes i s touched code stores (Ok outcome) = goes_on i s touched code stores outcome
+concludes i s touched code stores (Err fault) = faults s touched fault stores
 
-abbrev pub executes : Bool → Code → Executed → Ended
-executes touched code x = concludes x.state touched code x.stores x.outcome
+abbrev pub executes : Bool → Code → Insn → Executed → Ended
+executes touched code i x = concludes i x.state touched code x.stores x.outcome
 
-abbrev pub decoded : State → Bool → Code → Option Insn → Ended
-decoded s touched code None = locks s touched []
-decoded s touched code (Some i) = executes touched code (executed s i)
+-- an instruction by where it stands: one that may not stand there is undefined, and one whose condition
+-- fails is skipped
+abbrev pub placed : State → Bool → Code → Insn → Ended
+placed s touched code i =
+    if is_misplaced i s.core.registers then faults s touched Undef []
+    else if is_passed_over s.core.registers && not (ignores_condition s.core.run.side i) then skips s touched code
+    else executes touched code i (executed s i)
 
--- SG reached from Non-secure state: bit 0 of LR is cleared, and Secure code runs on
+-- a code by what it means; one of a coprocessor is skipped as an instruction is
+abbrev pub decoded : State → Bool → Code → Decoded → Ended
+decoded s touched code (One i width) = placed s touched code i
+decoded s touched code NoCoprocessor = if is_passed_over s.core.registers then skips s touched code else faults s touched NoCp []
+decoded s touched code (Undefined width) = faults s touched Undef []
+
+-- SG reached from Non-secure state: bit 0 of LR and the IT state are cleared, and Secure code runs on
 abbrev pub enters : State → Ended
 enters s =
     ran (record s {
       core = record s.core {
         run = record s.core.run { side = Secure };
-        registers = record s.core.registers { lr = even_of s.core.registers.lr; pc = wrap (s.core.registers.pc + 4) };
+        registers = record s.core.registers { lr = even_of s.core.registers.lr; pc = wrap (s.core.registers.pc + 4); it = 0 };
       };
     }) true (wide sg_half sg_half true).code []
 
 -- ---- the fetch
 
 abbrev pub fetched : State → Bool → Result Fetched Fault → Ended
-fetched s touched (Err fault) = locks s touched []
-fetched s touched (Ok f) = if f.gateway then enters s else decoded s touched f.code (built_insn f.code)
+fetched s touched (Err fault) = faults s touched fault []
+fetched s touched (Ok f) = if f.gateway then enters s else decoded s touched f.code (meaning_of f.code)
 
 abbrev pub fetches : State → FetchAnswer → Ended
 fetches s f = fetched s f.touched f.answer
@@ -129,12 +167,17 @@ abbrev pub looks : Side → State → Bool
 looks Secure s = true
 looks NonSecure s = not (is_own_fetch (map_of s) NonSecure s.core.registers.pc)
 
--- how a step ends: a locked machine stays so; (own) where T is 0 it locks before anything is fetched
+-- (own) its fault: of an entry to Secure code, or of the instruction set
+abbrev pub unready : Bool → Side → Fault
+unready true NonSecure = EntryPoint
+unready looked side = InvState
+
+-- how a step ends: a locked machine stays so; (own) where T is 0 it faults before anything is fetched
 unfoldable pub ended : State → Ended
 ended s =
     if s.core.run.locked then locks s true []
     else if s.core.registers.t then fetches s (fetch_in s)
-    else locks s (looks s.core.run.side s) []
+    else faults s (looks s.core.run.side s) (unready (looks s.core.run.side s) s.core.run.side) []
 
 -- ---- the step
 

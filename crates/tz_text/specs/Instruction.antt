@@ -1,10 +1,10 @@
 -- A code as digits, and the text of what it means.
-use Rattle.std.specs.Prelude.{ℕ, List, [], ◌++◌, codes, Option, Some, None, unwrap_or}
-use Rattle.tz_table.specs.Table.{decode_of}
+use Rattle.std.specs.Prelude.{ℕ, List, [], ◌++◌, codes, Option, Some, None}
 use Rattle.tz_table.specs.declared.decoded.Decoded.{Decoded}
 use Rattle.tz_table.specs.declared.decoded.Decoded.TheVariants.{One, NoCoprocessor, Undefined}
 use Rattle.tz_table.specs.declared.units.Code.{Code}
 use Rattle.tz_table.specs.declared.units.Width.TheVariants.{Narrow, Wide}
+use Rattle.tz_model.specs.Codes.{second_of}
 use Rattle.tz_syntax.specs.Digits.{hex_half}
 use Rattle.tz_syntax.specs.Text.{text_of}
 
@@ -15,14 +15,6 @@ second_text (Some second) = hex_half second
 -- four or eight digits
 abbrev pub code_text : Code → List ℕ
 code_text code = hex_half code.first ++ second_text code.second
-
--- the second halfword; that of a code that has none isn't looked at
-abbrev pub second_of : Code → ℕ
-second_of code = unwrap_or code.second 0
-
--- what a code means by the instruction table
-abbrev pub meaning_of : Code → Decoded
-meaning_of code = decode_of code.first (second_of code)
 
 -- a code of 32 bits that is no instruction
 abbrev pub wide_text : Code → List ℕ

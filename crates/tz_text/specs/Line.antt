@@ -14,7 +14,8 @@ use Rattle.tz_model.specs.declared.report.View.TheVariants.{Ns, All}
 use Rattle.tz_model.specs.Words.{is_nonsecure_side}
 use Rattle.tz_syntax.specs.Digits.{hex_word}
 use Rattle.tz_syntax.specs.Names.{register_text}
-use Rattle.tz_text.specs.Instruction.{code_text, meaning_text, meaning_of}
+use Rattle.tz_model.specs.Codes.{meaning_of}
+use Rattle.tz_text.specs.Instruction.{code_text, meaning_text}
 
 -- r0 to r12, sp, lr and apsr
 abbrev pub change_name : ℕ → List ℕ

@@ -5,7 +5,8 @@
 
 ghost use Rattle.std.specs.Prelude.{◌≡◌, ◌≤◌, ◌+◌, ◌++◌};
 ghost use Rattle.arrayvec.specs.ArrayString.{array_string_len};
-ghost use Rattle.tz_text.specs.Instruction.{code_text, meaning_of, meaning_text, narrow_text, second_of, wide_text};
+ghost use Rattle.tz_model.specs.Codes.{meaning_of, second_of};
+ghost use Rattle.tz_text.specs.Instruction.{code_text, meaning_text, narrow_text, wide_text};
 
 use arrayvec::ArrayString;
 use tz_decode::{Decoded, decode};

@@ -1,119 +1,143 @@
 -- Accesses of Non-secure code: twins give the same words or the same fault, make the same stores, stay
 -- twins, and keep the Secure side.
-use Rattle.std.proofs.Common.{◌≡◌, ℕ, Bool, true, false, not, cond, List, [], ◌∷◌, Option, Some, None, refl, ap, ◌∙◌}
+use Rattle.std.proofs.Common.{◌≡◌, ℕ, Bool, true, false, not, cond, List, [], ◌∷◌, ◌++◌, Option, Some, None, Result, Ok, Err, refl, sym, ap, ◌∙◌}
 use Rattle.tz_table.specs.declared.units.Side.TheVariants.{NonSecure}
 use Rattle.tz_table.specs.declared.units.Size.{Size}
 use Rattle.tz_model.specs.declared.report.Fault.{Fault}
 use Rattle.tz_model.specs.declared.report.Fault.TheVariants.{Unaligned, Violation, Precise}
 use Rattle.tz_model.specs.declared.report.Store as stored
-use Rattle.tz_state.specs.declared.registers.Asker.{Asker}
-use Rattle.tz_state.specs.Memory.{Memory, every, with_value}
+use Rattle.tz_model.specs.Board.{BoardValue}
+use Rattle.tz_model.specs.Ports.{Access, Load, Store, with_read, after_answer, answers}
+use Rattle.tz_state.specs.declared.asker.Asker.{Asker}
+use Rattle.tz_state.specs.Memory.{Memory, every, value_at, with_value}
 use Rattle.tz_state.specs.Attribution.{MapState, map_on, is_open}
-use Rattle.tz_state.specs.State.{State}
-use Rattle.tz_state.specs.Access.{Access, Load, Store, Answered, may_touch, is_crooked, checked, load_verdict, store_verdict, unless_fault, with_read, after_read, after_store, answers}
+use Rattle.tz_state.specs.Access.{Reached, may_touch, is_crooked, checked, load_verdict, store_verdict, cut_to, read_by, write_by, access}
 use Rattle.tz_twin.specs.Integrity.{KeepsBytes}
 use Rattle.tz_twin.proofs.Bytes.{SameOpen, value_same, write_same, write_kept, keeps_nothing_changed, keeps_then}
-use Rattle.tz_twin.proofs.Split.{Open, Rest, join}
 
--- Non-secure code asks
-abbrev pub nonsecure : Asker
-nonsecure = record { side = NonSecure }
+-- what the accesses of Non-secure code reach
+abbrev pub reached : BoardValue → Memory → List stored.Store → Reached
+reached b memory stores = record { asker = record { side = NonSecure }; memory = memory; board = b; stores = stores }
 
-abbrev pub left : Open → Rest → Memory → State
-left o x memory = join o (record x { memory = memory })
-
-pub record SameAnswers (o : Open) (x x' : Rest) (a a' : Answered) : Type 0 where
+-- two answers over memories that are the same to Non-secure code, from two such memories
+pub record SameAnswers {A : Type 0} (b : BoardValue) (n n' : Memory) (a a' : Reached × A) : Type 0 where
   pub memory : Memory
   pub memory' : Memory
-  pub state : a.state ≡ left o x memory
-  pub state' : a'.state ≡ left o x' memory'
-  pub bytes : SameOpen (map_on o.board) memory memory'
-  pub kept : KeepsBytes (map_on o.board) x.memory memory
-  pub kept' : KeepsBytes (map_on o.board) x'.memory memory'
-  pub stores : a.stores ≡ a'.stores
-  pub words : a.words ≡ a'.words
+  pub stores : List stored.Store
+  pub held : a.0 ≡ reached b memory stores
+  pub held' : a'.0 ≡ reached b memory' stores
+  pub bytes : SameOpen (map_on b) memory memory'
+  pub kept : KeepsBytes (map_on b) n memory
+  pub kept' : KeepsBytes (map_on b) n' memory'
+  pub answer : a.1 ≡ a'.1
 
 -- an access that no check refuses is to Non-secure bytes
-open_of_checked : (m : MapState) (size : Size) (a : ℕ) (mapped : Bool) → checked m NonSecure size a mapped ≡ None → every (is_open m) a size ≡ true
+open_of_checked : (m : MapState) (size : Size) (a : ℕ) (must_align mapped : Bool) → checked m NonSecure size a must_align mapped ≡ None → every (is_open m) a size ≡ true
 unfolding may_touch
-open_of_checked m size a mapped e = go (every (is_open m) a size) (is_crooked size a) e where
+open_of_checked m size a must_align mapped e = go (every (is_open m) a size) (is_crooked size a must_align) e where
   go : (touch crooked : Bool) → cond crooked (Some Unaligned) (cond (not touch) (Some (Violation a)) (cond (not mapped) (Some (Precise a)) None)) ≡ None → touch ≡ true
   go true crooked h = refl
   go false true h = cc
   go false false h = cc
 
-open_of_load : (m : MapState) (size : Size) (a : ℕ) → load_verdict m NonSecure size a ≡ None → every (is_open m) a size ≡ true
+open_of_load : (m : MapState) (size : Size) (a : ℕ) (must_align : Bool) → load_verdict m NonSecure size a must_align ≡ None → every (is_open m) a size ≡ true
 unfolding load_verdict
-open_of_load m size a e = open_of_checked m size a _ e
+open_of_load m size a must_align e = open_of_checked m size a must_align _ e
 
-open_of_store : (m : MapState) (size : Size) (a : ℕ) → store_verdict m NonSecure size a ≡ None → every (is_open m) a size ≡ true
+open_of_store : (m : MapState) (size : Size) (a : ℕ) (must_align : Bool) → store_verdict m NonSecure size a must_align ≡ None → every (is_open m) a size ≡ true
 unfolding store_verdict
-open_of_store m size a e = open_of_checked m size a _ e
+open_of_store m size a must_align e = open_of_checked m size a must_align _ e
 
-unless_same : (o : Open) (x x' : Rest) (v : Option Fault) (a a' : Answered) → SameOpen (map_on o.board) x.memory x'.memory → (v ≡ None → SameAnswers o x x' a a')
-    → SameAnswers o x x' (unless_fault v (join o x) a) (unless_fault v (join o x') a')
-unless_same o x x' (Some fault) a a' same more = record {
-  memory = x.memory;
-  memory' = x'.memory;
-  state = refl;
-  state' = refl;
+-- nothing is changed, and both give one answer
+same_at : {A : Type 0} (b : BoardValue) (n n' : Memory) (stores : List stored.Store) (r r' : A) → SameOpen (map_on b) n n' → r ≡ r'
+    → SameAnswers b n n' (reached b n stores, r) (reached b n' stores, r')
+same_at b n n' stores r r' same e = record {
+  memory = n;
+  memory' = n';
+  stores = stores;
+  held = refl;
+  held' = refl;
   bytes = same;
-  kept = keeps_nothing_changed (map_on o.board) x.memory;
-  kept' = keeps_nothing_changed (map_on o.board) x'.memory;
-  stores = refl;
-  words = refl;
+  kept = keeps_nothing_changed (map_on b) n;
+  kept' = keeps_nothing_changed (map_on b) n';
+  answer = e;
 }
-unless_same o x x' None a a' same more = more refl
 
-read_same : (o : Open) (x x' : Rest) (w w' : ℕ) (a a' : Answered) → w ≡ w' → SameAnswers o x x' a a' → SameAnswers o x x' (after_read w a) (after_read w' a')
-read_same o x x' w w' a a' e h = record {
+read_same : (b : BoardValue) (n n' : Memory) (stores : List stored.Store) (v : Option Fault) (w w' : ℕ) → SameOpen (map_on b) n n' → (v ≡ None → w ≡ w')
+    → SameAnswers b n n' (read_by v (reached b n stores) w) (read_by v (reached b n' stores) w')
+read_same b n n' stores (Some fault) w w' same h = same_at b n n' stores _ _ same refl
+read_same b n n' stores None w w' same h = same_at b n n' stores _ _ same (ap Ok (h refl))
+
+write_by_same : (b : BoardValue) (n n' : Memory) (stores : List stored.Store) (v : Option Fault) (size : Size) (a value : ℕ) → SameOpen (map_on b) n n'
+    → (v ≡ None → every (is_open (map_on b)) a size ≡ true)
+    → SameAnswers b n n' (write_by v (reached b n stores) size a value) (write_by v (reached b n' stores) size a value)
+write_by_same b n n' stores (Some fault) size a value same h = same_at b n n' stores _ _ same refl
+write_by_same b n n' stores None size a value same h = record {
+  memory = with_value n size a value;
+  memory' = with_value n' size a value;
+  stores = stores ++ record { addr = a; size = size; value = value } ∷ [];
+  held = refl;
+  held' = refl;
+  bytes = write_same (map_on b) n n' size a value same;
+  kept = write_kept (map_on b) n size a value (h refl);
+  kept' = write_kept (map_on b) n' size a value (h refl);
+  answer = refl;
+}
+
+-- one access
+access_same : (b : BoardValue) (n n' : Memory) (stores : List stored.Store) (x : Access) → SameOpen (map_on b) n n'
+    → SameAnswers b n n' (access (reached b n stores) x) (access (reached b n' stores) x)
+unfolding access
+access_same b n n' stores (Load size a must_align user) same =
+    read_same b n n' stores (load_verdict (map_on b) NonSecure size a must_align) _ _ same (λ passes. value_same (map_on b) n n' size a same (open_of_load (map_on b) size a must_align passes))
+access_same b n n' stores (Store size a value must_align user) same =
+    write_by_same b n n' stores (store_verdict (map_on b) NonSecure size a must_align) size a (cut_to size value) same (λ passes. open_of_store (map_on b) size a must_align passes)
+
+-- what follows an answer
+answer_same : (b : BoardValue) (n n' : Memory) (a a' : Reached × Result ℕ Fault) (later : Reached → Reached × Result (List ℕ) Fault) → SameAnswers b n n' a a'
+    → ((m m' : Memory) (stores : List stored.Store) → SameOpen (map_on b) m m' → SameAnswers b m m' (later (reached b m stores)) (later (reached b m' stores)))
+    → SameAnswers b n n' (after_answer a later) (after_answer a' later)
+answer_same b n n' (r, Err fault) (r', Err fault') later h more = record {
   memory = h.memory;
   memory' = h.memory';
-  state = h.state;
-  state' = h.state';
+  stores = h.stores;
+  held = h.held;
+  held' = h.held';
   bytes = h.bytes;
   kept = h.kept;
   kept' = h.kept';
-  stores = h.stores;
-  words = ap (λ v. with_read v a.words) e ∙ ap (with_read w') h.words;
-}
+  answer = ap fault_of h.answer;
+} where
+  fault_of : Result ℕ Fault → Result (List ℕ) Fault
+  fault_of (Ok word) = Ok []
+  fault_of (Err f) = Err f
+answer_same b n n' (r, Ok w) (r', Err fault') later h more = let e = h.answer in cc
+answer_same b n n' (r, Err fault) (r', Ok w') later h more = let e = h.answer in cc
+answer_same b n n' (r, Ok w) (r', Ok w') later h more =
+    let next = more h.memory h.memory' h.stores h.bytes in
+    record {
+      memory = next.memory;
+      memory' = next.memory';
+      stores = next.stores;
+      held = ap (λ (q : Reached). (later q).0) h.held ∙ next.held;
+      held' = ap (λ (q : Reached). (later q).0) h.held' ∙ next.held';
+      bytes = next.bytes;
+      kept = keeps_then (map_on b) n h.memory next.memory h.kept next.kept;
+      kept' = keeps_then (map_on b) n' h.memory' next.memory' h.kept' next.kept';
+      answer =
+          ap (λ (q : Reached). with_read w (later q).1) h.held ∙ ap (λ (q : Result (List ℕ) Fault). with_read w q) next.answer
+          ∙ ap (λ (q : Reached). with_read w (later q).1) (sym h.held') ∙ ap (λ (q : Result ℕ Fault). read_after q (later r').1) h.answer;
+    }
+  where
+    read_after : Result ℕ Fault → Result (List ℕ) Fault → Result (List ℕ) Fault
+    read_after (Ok word) rest = with_read word rest
+    read_after (Err f) rest = rest
 
--- a store, and what follows it over the memories that it left
-store_same : (o : Open) (x x' : Rest) (n n' : Memory) (s : stored.Store) (a a' : Answered) → KeepsBytes (map_on o.board) x.memory n → KeepsBytes (map_on o.board) x'.memory n'
-    → SameAnswers o (record x { memory = n }) (record x' { memory = n' }) a a' → SameAnswers o x x' (after_store s a) (after_store s a')
-store_same o x x' n n' s a a' k k' h = record {
-  memory = h.memory;
-  memory' = h.memory';
-  state = h.state;
-  state' = h.state';
-  bytes = h.bytes;
-  kept = keeps_then (map_on o.board) x.memory n h.memory k h.kept;
-  kept' = keeps_then (map_on o.board) x'.memory n' h.memory' k' h.kept';
-  stores = ap (λ more. s ∷ more) h.stores;
-  words = ap (with_read 0) h.words;
-}
-
-pub answers_same : (o : Open) (x x' : Rest) (xs : List Access) → SameOpen (map_on o.board) x.memory x'.memory
-    → SameAnswers o x x' (answers nonsecure (join o x) xs) (answers nonsecure (join o x') xs)
+-- accesses in turn
+pub answers_same : (b : BoardValue) (xs : List Access) (n n' : Memory) (stores : List stored.Store) → SameOpen (map_on b) n n'
+    → SameAnswers b n n' (answers access (reached b n stores) xs) (answers access (reached b n' stores) xs)
 unfolding answers
-answers_same o x x' [] same = record {
-  memory = x.memory;
-  memory' = x'.memory;
-  state = refl;
-  state' = refl;
-  bytes = same;
-  kept = keeps_nothing_changed (map_on o.board) x.memory;
-  kept' = keeps_nothing_changed (map_on o.board) x'.memory;
-  stores = refl;
-  words = refl;
-}
-answers_same o x x' (Load size a ∷ more) same =
-    unless_same o x x' (load_verdict (map_on o.board) NonSecure size a) _ _ same (λ passes.
-    read_same o x x' _ _ _ _ (value_same (map_on o.board) x.memory x'.memory size a same (open_of_load (map_on o.board) size a passes)) (answers_same o x x' more same))
-answers_same o x x' (Store size a v ∷ more) same =
-    unless_same o x x' (store_verdict (map_on o.board) NonSecure size a) _ _ same (λ passes.
-    let is = open_of_store (map_on o.board) size a passes in
-    store_same o x x' (with_value x.memory size a v) (with_value x'.memory size a v) (record { addr = a; size = size; value = v }) _ _
-    (write_kept (map_on o.board) x.memory size a v is) (write_kept (map_on o.board) x'.memory size a v is)
-    (answers_same o (record x { memory = with_value x.memory size a v }) (record x' { memory = with_value x'.memory size a v }) more
-    (write_same (map_on o.board) x.memory x'.memory size a v same)))
+answers_same b [] n n' stores same = same_at b n n' stores _ _ same refl
+answers_same b (x ∷ more) n n' stores same =
+    answer_same b n n' (access (reached b n stores) x) (access (reached b n' stores) x) (λ left. answers access left more) (access_same b n n' stores x same)
+    (λ m m' later same'. answers_same b more m m' later same')

@@ -1,7 +1,7 @@
 -- The ends of two steps of twins: they go on as twins, they both lock, or they both looked at Secure state.
 use Rattle.std.proofs.Common.{◌≡◌, Bool, true, false, cond, Option, Some, None}
 use Rattle.tz_model.specs.Words.{is_nonsecure_side}
-use Rattle.tz_state.specs.Registers.{before_in}
+use Rattle.tz_regs.specs.Registers.{before_in}
 use Rattle.tz_state.specs.State.{State, side_of}
 use Rattle.tz_sem.specs.Ended.{Ended}
 use Rattle.tz_sem.specs.Step.{stepped}

@@ -11,7 +11,7 @@ use Rattle.tz_twin.proofs.Both.{Touching}
 
 -- a state in which Secure code runs
 abbrev pub secured : State → State
-secured s = with_run s (record { side = Secure; locked = false })
+secured s = with_run s (record s.core.run { side = Secure; locked = false })
 
 pub touching_returned : (s0 s : State) (before : Seen) (code : Code) (stores : List Store) → board_seen before ≡ s.board
     → Touching s0 before (returned (secured s) true code stores)

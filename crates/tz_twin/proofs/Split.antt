@@ -4,10 +4,14 @@ use Rattle.std.proofs.Common.{◌≡◌, ℕ, Bool, true, false, cond, Option, r
 use mathlib.Core.Path.{fun_ext}
 use Rattle.tz_table.specs.declared.units.Side.{Side}
 use Rattle.tz_table.specs.declared.units.Side.TheVariants.{Secure, NonSecure}
+use Rattle.tz_model.specs.declared.report.Sleep.{Sleep}
 use Rattle.tz_model.specs.Board.{BoardValue}
 use Rattle.tz_model.specs.Words.{is_nonsecure_side}
-use Rattle.tz_state.specs.declared.registers.Registers.{Registers}
-use Rattle.tz_state.specs.declared.registers.Stacks.{Stacks}
+use Rattle.tz_regs.specs.declared.parts.Registers.{Registers}
+use Rattle.tz_regs.specs.declared.parts.Stacks.{Stacks}
+use Rattle.tz_regs.specs.declared.parts.Masks.{Masks}
+use Rattle.tz_regs.specs.declared.parts.SideStatus.{SideStatus}
+use Rattle.tz_regs.specs.declared.parts.SharedStatus.{SharedStatus}
 use Rattle.tz_state.specs.Memory.{Memory}
 use Rattle.tz_state.specs.Attribution.{map_on}
 use Rattle.tz_state.specs.State.{State, map_of, side_of}
@@ -19,27 +23,46 @@ pub record Open : Type 0 where
   pub board : BoardValue
   pub registers : Registers
   pub stacks_ns : Stacks
+  pub masks : Masks
+  pub status_ns : SideStatus
+  pub event : Bool
+  pub sleep : Sleep
 
 -- the Secure parts, and all bytes
 pub record Rest : Type 0 where
   pub stacks_s : Stacks
+  pub status_s : SideStatus
+  pub shared : SharedStatus
   pub memory : Memory
 
 abbrev pub open_of : State → Open
-open_of s = record { board = s.board; registers = s.core.registers; stacks_ns = s.core.stacks_ns }
+open_of s =
+    record {
+      board = s.board;
+      registers = s.core.registers;
+      stacks_ns = s.core.stacks_ns;
+      masks = s.core.masks;
+      status_ns = s.core.status.ns;
+      event = s.core.event;
+      sleep = s.core.run.sleep;
+    }
 
 abbrev pub rest_of : State → Rest
-rest_of s = record { stacks_s = s.core.stacks_s; memory = s.memory }
+rest_of s =
+    record { stacks_s = s.core.stacks_s; status_s = s.core.status.s; shared = s.core.status.shared; memory = s.memory }
 
 -- the state of the two in which Non-secure code runs
 abbrev pub join : Open → Rest → State
 join o x =
     record {
       core = record {
-        run = record { side = NonSecure; locked = false };
+        run = record { side = NonSecure; locked = false; sleep = o.sleep };
         registers = o.registers;
         stacks_s = x.stacks_s;
         stacks_ns = o.stacks_ns;
+        masks = o.masks;
+        event = o.event;
+        status = record { s = x.status_s; ns = o.status_ns; shared = x.shared };
       };
       memory = x.memory;
       board = o.board;
@@ -54,7 +77,7 @@ runs_open false NonSecure e = (refl, refl)
 pub joined : (s : State) → is_nonsecure_side (side_of s) ≡ true → s ≡ join (open_of s) (rest_of s)
 joined s is =
     let h = runs_open s.core.run.locked s.core.run.side is in
-    λ i. record s { core = record s.core { run = record { side = h.1 i; locked = h.0 i } } }
+    λ i. record s { core = record s.core { run = record s.core.run { side = h.1 i; locked = h.0 i } } }
 
 -- two states in which Non-secure code runs with the same open part and the same Non-secure bytes
 pub record Twins (s s' : State) : Type 0 where
@@ -90,7 +113,16 @@ is_shown (Shown b registers p) = true
 -- the open part that is seen, or a given one where nothing is shown
 open_seen : Open → Seen → Open
 open_seen o (Hidden b) = o
-open_seen o (Shown b registers p) = record { board = b; registers = registers; stacks_ns = p.stacks }
+open_seen o (Shown b registers p) =
+    record {
+      board = b;
+      registers = registers;
+      stacks_ns = p.stacks;
+      masks = p.masks;
+      status_ns = p.status;
+      event = p.event;
+      sleep = p.sleep;
+    }
 
 bytes_seen : (ℕ → Option ℕ) → Seen → ℕ → Option ℕ
 bytes_seen none (Hidden b) a = none a
@@ -142,4 +174,4 @@ twins_of_seen s s' e is =
 pub seen_of_twins : (s s' : State) → Twins s s' → seen s ≡ seen s'
 seen_of_twins s s' t =
     by_join (λ r r'. seen r ≡ seen r')
-    (λ o x x' same. ap (λ (bytes : ℕ → Option ℕ). Shown o.board o.registers (record { bytes = bytes; stacks = o.stacks_ns })) (fun_ext same)) s s' t
+    (λ o x x' same. ap (λ (bytes : ℕ → Option ℕ). Shown o.board o.registers (record (public_of (join o x)) { bytes = bytes })) (fun_ext same)) s s' t

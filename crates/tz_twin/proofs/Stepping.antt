@@ -8,13 +8,13 @@ use Rattle.tz_state.specs.Memory.{Memory, half_at}
 use Rattle.tz_state.specs.Attribution.{MapState, map_on}
 use Rattle.tz_state.specs.State.{State}
 use Rattle.tz_state.specs.Fetch.{fetch, needs_second, half_verdict, with_second, with_first, own_fetch, gateway_fetch, is_own_fetch, own_touch, is_entry_fault}
-use Rattle.tz_exec.specs.Built.{built_insn}
+use Rattle.tz_model.specs.Codes.{meaning_of}
 use Rattle.tz_sem.specs.Step.{fetched, fetches, looks, ended}
 use Rattle.tz_twin.proofs.Bytes.{SameOpen}
 use Rattle.tz_twin.proofs.Fetching.{own_fetch_same}
 use Rattle.tz_twin.proofs.Split.{Open, Rest, join, Twins, by_join}
 use Rattle.tz_twin.proofs.Both.{Both, Touch, both_cond, both_second}
-use Rattle.tz_twin.proofs.Executing.{beside_start, both_lock, decoded_same}
+use Rattle.tz_twin.proofs.Executing.{both_fault, decoded_same}
 use Rattle.tz_twin.proofs.Entering.{touching_gateway, arrives_gateway}
 
 -- an answer that isn't the gateway
@@ -41,8 +41,8 @@ own_fetch_plain m memory pc = first (half_verdict m NonSecure pc) where
 fetched_same : (o : Open) (x x' : Rest) (touched : Bool) (a : Result Fetched Fault) → IsPlain a → SameOpen (map_on o.board) x.memory x'.memory
     → Both (join o x) (join o x') (fetched (join o x) touched a) (fetched (join o x') touched a)
 unfolding IsPlain
-fetched_same o x x' touched (Err fault) plain same = both_lock o o x x' x.memory x'.memory touched [] refl (beside_start o x x' same)
-fetched_same o x x' touched (Ok f) plain same = both_second _ _ f.gateway _ _ _ _ plain (decoded_same o x x' touched f.code (built_insn f.code) same)
+fetched_same o x x' touched (Err fault) plain same = both_fault o x x' touched same
+fetched_same o x x' touched (Ok f) plain same = both_second _ _ f.gateway _ _ _ _ plain (decoded_same o x x' touched f.code (meaning_of f.code) same)
 
 -- a fetch of Non-secure code, by whether it begins in Non-secure memory
 fetches_same : (o : Open) (x x' : Rest) → SameOpen (map_on o.board) x.memory x'.memory
@@ -70,7 +70,7 @@ ended_same : (o : Open) (x x' : Rest) → SameOpen (map_on o.board) x.memory x'.
 unfolding ended
 ended_same o x x' same =
     both_cond _ _ o.registers.t _ _ _ _ (fetches_same o x x' same)
-    (both_lock o o x x' x.memory x'.memory (looks NonSecure (join o x)) [] refl (beside_start o x x' same))
+    (both_fault o x x' (looks NonSecure (join o x)) same)
 
 -- a step of twins
 pub twin_step : (s s' : State) → Twins s s' → Both s s' (ended s) (ended s')

@@ -12,10 +12,13 @@ use Rattle.tz_sem.specs.Step.{Stepped}
 abbrev pub KeepsBytes : MapState → Memory → Memory → Type 0
 KeepsBytes m old new = (a : ℕ) → is_open m a ≡ false → get new a ≡ get old a
 
--- the Secure side is as it was
+-- the Secure side is as it was: bytes, stack pointers with limits and CONTROL, masks, VTOR, CCR and fault
+-- registers
 pub record Keeps (old new : State) : Type 0 where
   pub bytes : KeepsBytes (map_of old) old.memory new.memory
   pub stacks : new.core.stacks_s ≡ old.core.stacks_s
+  pub masks : new.core.masks.s ≡ old.core.masks.s
+  pub status : new.core.status.s ≡ old.core.status.s
   pub board : new.board ≡ old.board
 
 -- the instruction at PC is SG, in Secure memory that Non-secure code may call

@@ -1,11 +1,14 @@
 -- What Non-secure code can see, and runs that agree.
-use Rattle.std.specs.Prelude.{◌≡◌, ℕ, zero, suc, ◌+◌, ◌&&◌, if◌then◌else◌, Option, Some, None}
+use Rattle.std.specs.Prelude.{◌≡◌, ℕ, zero, suc, ◌+◌, Bool, ◌&&◌, if◌then◌else◌, Option, Some, None}
 use Rattle.std.specs.FinMap.{get}
+use Rattle.tz_model.specs.declared.report.Sleep.{Sleep}
 use Rattle.tz_model.specs.declared.report.Way.{Way}
 use Rattle.tz_model.specs.Board.{BoardValue}
 use Rattle.tz_model.specs.Words.{is_nonsecure_side}
-use Rattle.tz_state.specs.declared.registers.Registers.{Registers}
-use Rattle.tz_state.specs.declared.registers.Stacks.{Stacks}
+use Rattle.tz_regs.specs.declared.parts.Registers.{Registers}
+use Rattle.tz_regs.specs.declared.parts.Stacks.{Stacks}
+use Rattle.tz_regs.specs.declared.parts.Masks.{Masks}
+use Rattle.tz_regs.specs.declared.parts.SideStatus.{SideStatus}
 use Rattle.tz_state.specs.Memory.{Memory}
 use Rattle.tz_state.specs.Attribution.{MapState, is_open}
 use Rattle.tz_state.specs.State.{State, map_of, side_of}
@@ -16,13 +19,27 @@ use Rattle.tz_sem.specs.Run.{Events}
 abbrev pub open_bytes : MapState → Memory → ℕ → Option ℕ
 open_bytes m memory a = if is_open m a then get memory a else None
 
--- the public state: its parts that can change yet
+-- the public state: the Non-secure bytes; the Non-secure stack pointers with their limits and CONTROL; what
+-- masks exceptions, on both sides; VTOR, CCR and the fault registers of the Non-secure side; and what the
+-- core waits for
 pub record Public : Type 0 where
   pub bytes : ℕ → Option ℕ
   pub stacks : Stacks
+  pub masks : Masks
+  pub status : SideStatus
+  pub event : Bool
+  pub sleep : Sleep
 
 abbrev pub public_of : State → Public
-public_of s = record { bytes = open_bytes (map_of s) s.memory; stacks = s.core.stacks_ns }
+public_of s =
+    record {
+      bytes = open_bytes (map_of s) s.memory;
+      stacks = s.core.stacks_ns;
+      masks = s.core.masks;
+      status = s.core.status.ns;
+      event = s.core.event;
+      sleep = s.core.run.sleep;
+    }
 
 -- a crossing out of Secure state: its way, the registers that Secure code hands to Non-secure code, and
 -- the public state after it
