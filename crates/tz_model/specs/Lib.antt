@@ -4,3 +4,4 @@ pub mod Image
 pub mod Outside
 pub mod Shelves
 pub mod Ports
+pub mod TablePorts
