@@ -1,1 +1,44 @@
+//! Branches, and IT (DDI0553, chapter C2).
+//!
+//! An instruction answers how its code goes on, and leaves what it writes but for PC: a call leaves LR and
+//! T, IT the IT state. Over any port: a table branch makes the one load of this family.
 #![tactic(auto)]
+
+ghost use Rattle.std.specs.Prelude.{◌≡◌};
+ghost use Rattle.tz_exec.specs.Exec.{branch_over};
+
+mod calls;
+mod jumps;
+
+use calls::{branch_link, call_exchange, if_then};
+use jumps::{branch_if, branch_zero, exchange, table_branch};
+use tz_model::{Fault, Insn, Outcome, Port};
+use tz_regs::Core;
+
+/// Runs an instruction of this family. `Undef` for BXNS in Non-secure state, for BLXNS, whose calls aren't
+/// built, and for instructions of other families; else the fault of a table branch's load. At a fault the
+/// core is as it was.
+#[tactic(auto, unfolding(tz_model::specs::Ports::answers))]
+pub fn execute<P: Port>(insn: &Insn, core: &mut Core, port: &mut P) -> Result<Outcome, Fault>
+    ensures executes { branch_over P.answer insn.now core.old (P.held port.old) ≡ record { core = core.new; held = P.held port.new; outcome = result } }
+    ensures room { P.room port.new ≡ P.room port.old }
+    ensures lent { P.lent port.new ≡ P.lent port.old }
+{
+    match *insn {
+        Insn::Branch { offset } => branch_if(core, true, offset),
+        Insn::BranchIf { cond, offset } => {
+            branch_if(core, core.registers.apsr.condition_holds(cond), offset)
+        }
+        Insn::BranchLink { offset } => branch_link(core, offset),
+        Insn::BranchZero {
+            nonzero,
+            rn,
+            offset,
+        } => branch_zero(core, nonzero, rn, offset),
+        Insn::TableBranch { half, rn, rm } => table_branch(core, port, half, rn, rm),
+        Insn::BranchExchange { rm, ns } => exchange(core, rm, ns),
+        Insn::CallExchange { rm, ns } => call_exchange(core, rm, ns),
+        Insn::IfThen { cond, mask } => if_then(core, cond, mask),
+        _ => Err(Fault::Undef),
+    }
+}

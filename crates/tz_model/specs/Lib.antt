@@ -5,3 +5,4 @@ pub mod Outside
 pub mod Shelves
 pub mod Ports
 pub mod Codes
+pub mod TablePorts

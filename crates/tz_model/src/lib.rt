@@ -10,6 +10,7 @@ mod fetch;
 mod image;
 mod outside;
 mod port;
+mod port_double;
 mod report;
 mod shelf_double;
 mod sink_double;
@@ -19,6 +20,7 @@ pub use fetch::{FetchAnswer, Fetched};
 pub use image::{Image, Segment};
 pub use outside::{Shelf, ShelfError, Sink, SinkError};
 pub use port::Port;
+pub use port_double::{TableEntry, TablePort};
 pub use report::{
     Change, CrossKind, Fault, Outcome, Report, ScriptEvent, Sleep, Slot, StepKind, Store, View, Way,
 };

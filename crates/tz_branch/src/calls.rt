@@ -1,0 +1,50 @@
+//! Calls, which leave LR, and IT.
+
+ghost use Rattle.std.specs.Prelude.{◌≡◌, ◌+◌};
+ghost use Rattle.tz_model.specs.Words.{even_of};
+ghost use Rattle.tz_exec.specs.Local.{local_of, finished_in};
+ghost use Rattle.tz_exec.specs.Branch.{finish_link, finish_call, finish_it};
+
+use crate::jumps::{reg, target};
+use tz_model::{Fault, Outcome};
+use tz_regs::Core;
+
+/// An address with bit 0 set.
+fn odd(addr: u32) -> u32
+    ensures { result ≡ even_of addr + 1 }
+{
+    addr / 2 * 2 + 1
+}
+
+/// BL.
+#[tactic(auto, using(crate::proofs::Kept::registers_put))]
+pub fn branch_link(core: &mut Core, offset: i32) -> Result<Outcome, Fault>
+    ensures { finished_in core.old (finish_link offset (local_of core.old)) ≡ (core.new, result) }
+{
+    let to = target(core, offset);
+    core.registers.lr = odd(core.registers.pc.wrapping_add(4));
+    Ok(Outcome::Jump(to))
+}
+
+/// BLX and BLXNS. Calls of Non-secure code aren't built.
+#[tactic(auto, using(crate::proofs::Kept::registers_put))]
+pub fn call_exchange(core: &mut Core, rm: u8, ns: bool) -> Result<Outcome, Fault>
+    ensures { finished_in core.old (finish_call rm ns (local_of core.old)) ≡ (core.new, result) }
+{
+    if ns {
+        return Err(Fault::Undef);
+    }
+    let to = reg(core, rm);
+    core.registers.lr = odd(core.registers.pc.wrapping_add(2));
+    core.registers.t = to % 2 == 1;
+    Ok(Outcome::Jump(to / 2 * 2))
+}
+
+/// IT.
+#[tactic(auto, using(crate::proofs::Kept::registers_put))]
+pub fn if_then(core: &mut Core, cond: u8, mask: u8) -> Result<Outcome, Fault>
+    ensures { finished_in core.old (finish_it cond mask (local_of core.old)) ≡ (core.new, result) }
+{
+    core.registers.begin_it(cond, mask);
+    Ok(Outcome::Next)
+}

@@ -1,0 +1,6 @@
+//! The cases, by family.
+
+mod branches;
+mod calls;
+mod loads;
+mod tables;
