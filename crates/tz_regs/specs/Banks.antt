@@ -1,5 +1,4 @@
 -- Things that stand once a side, and the choice among them.
-use Rattle.std.specs.Prelude.{ℕ}
 use Rattle.tz_table.specs.declared.units.Side.{Side}
 use Rattle.tz_table.specs.declared.units.Side.TheVariants.{Secure, NonSecure}
 use Rattle.tz_regs.specs.declared.parts.Core.{Core}

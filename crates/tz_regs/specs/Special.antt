@@ -1,5 +1,5 @@
 -- The special registers (DDI0553, `MRS`, `MSR`, `CPS`), by the number that an instruction names.
-use Rattle.std.specs.Prelude.{ℕ, ◌+◌, ◌-◌, ◌*◌, ◌/◌, ◌%◌, ◌^◌, ◌==◌, Bool, false, not, ◌&&◌, ◌||◌, nat_lt, if◌then◌else◌, Option, Some, None, ℤ, neg_ℤ, pos, int_lt}
+use Rattle.std.specs.Prelude.{ℕ, ◌+◌, ◌*◌, ◌/◌, ◌%◌, ◌^◌, ◌==◌, Bool, false, not, ◌&&◌, ◌||◌, nat_lt, if◌then◌else◌, Option, Some, None, ℤ, neg_ℤ, pos, int_lt}
 use Rattle.tz_table.specs.declared.units.Side.{Side}
 use Rattle.tz_table.specs.declared.units.Side.TheVariants.{Secure, NonSecure}
 use Rattle.tz_regs.specs.declared.parts.Apsr.{Apsr}
@@ -102,7 +102,7 @@ special_of n sysm =
 
 -- ---- writes
 
--- FAULTMASK is set only below priority -1, and is always cleared
+-- FAULTMASK is set only where the execution priority is above -1, and is always cleared
 abbrev pub faultmask_after : ℤ → Bool → Bool → Bool
 faultmask_after priority old new = if new && not (int_lt (neg_ℤ (pos 1)) priority) then old else new
 

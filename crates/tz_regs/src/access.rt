@@ -2,6 +2,7 @@
 
 ghost use Rattle.std.specs.Prelude.{◌≡◌, ◌<◌, ◌≤◌, MatchResult};
 ghost use Rattle.tz_regs.specs.Banks.{stacks_of, with_stacks};
+ghost use Rattle.tz_regs.specs.Special.{named_of, with_named};
 ghost use Rattle.tz_regs.specs.Registers.{is_handler, is_privileged, uses_process, pointer_of, limit_of, with_pointer, sp_of, reg_of, with_reg, with_reg_stacks, told_by, side_in, sp_in, before_in};
 
 use crate::parts::{Apsr, Before, Core, Registers, Stacks};
@@ -158,6 +159,13 @@ impl Core {
     pub fn set(&mut self, n: u8, value: u32)
         requires { n < 15 }
         ensures { self.new ≡ with_stacks self.old.run.side (record self.old { registers = with_reg self.old.registers n value }) (with_reg_stacks self.old.registers.ipsr (stacks_of self.old.run.side self.old) n value) }
+    {
+        self.put(n, value);
+    }
+
+    /// Writes R0 to R12, SP or LR as `set` does; other numbers change nothing.
+    pub fn put(&mut self, n: u8, value: u32)
+        ensures { self.new ≡ with_named self.old (record (named_of self.old) { registers = with_reg self.old.registers n value; own = with_reg_stacks self.old.registers.ipsr (stacks_of self.old.run.side self.old) n value }) }
     {
         match self.run.side {
             Side::Secure => self.stacks_s.set_reg(self.registers.ipsr, n, value),

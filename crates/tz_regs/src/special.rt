@@ -81,7 +81,7 @@ impl Stacks {
     }
 }
 
-/// FAULTMASK is set only below priority -1, and is always cleared.
+/// FAULTMASK is set only where the execution priority is above -1, and is always cleared.
 fn faultmask_after(priority: i32, old: bool, new: bool) -> bool
     ensures { result ≡ faultmask_after priority old new }
 {

@@ -1,0 +1,8 @@
+//! The cases, by what they are about.
+
+mod instructions;
+mod it;
+mod masks;
+mod registers;
+mod special;
+mod stacks;

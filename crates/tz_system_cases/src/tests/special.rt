@@ -1,0 +1,265 @@
+//! Reads and writes of special registers, by number, state and privilege.
+
+use crate::{NOTHING, SHOWN, difference, differences, ending, filled, filled_for, shown};
+use std::test::Fail;
+use tz_regs::Core;
+use tz_system::execute;
+use tz_table::{Insn, Side};
+
+/// The flags N, C and Q at their places.
+const NCQ: u32 = 0xa800_0000;
+
+/// The number of a register, and what code reads in Thread mode: Secure code, privileged and not, and
+/// Non-secure code, privileged and not.
+static READS: [(u8, &str, u32, u32, u32, u32); 25] = [
+    (0, "apsr", NCQ, NCQ, NCQ, NCQ),
+    (1, "iapsr", NCQ, NCQ, NCQ, NCQ),
+    (2, "eapsr", NCQ, NCQ, NCQ, NCQ),
+    (3, "xpsr", NCQ, NCQ, NCQ, NCQ),
+    (5, "ipsr", 0, 0, 0, 0),
+    (6, "epsr", 0, 0, 0, 0),
+    (7, "iepsr", 0, 0, 0, 0),
+    (8, "msp", 0x3000_1000, 0, 0x2000_1000, 0),
+    (9, "psp", 0x3000_2000, 0, 0x2000_2000, 0),
+    (10, "msplim", 0x3000_0100, 0, 0x2000_0100, 0),
+    (11, "psplim", 0x3000_0200, 0, 0x2000_0200, 0),
+    (16, "primask", 1, 0, 0, 0),
+    (17, "basepri", 0x40, 0, 0x60, 0),
+    (18, "basepri_max", 0x40, 0, 0x60, 0),
+    (19, "faultmask", 0, 0, 1, 0),
+    (20, "control", 0, 1, 2, 3),
+    (0x88, "msp_ns", 0x2000_1000, 0, 0, 0),
+    (0x89, "psp_ns", 0x2000_2000, 0, 0, 0),
+    (0x8a, "msplim_ns", 0x2000_0100, 0, 0, 0),
+    (0x8b, "psplim_ns", 0x2000_0200, 0, 0, 0),
+    (0x90, "primask_ns", 0, 0, 0, 0),
+    (0x91, "basepri_ns", 0x60, 0, 0, 0),
+    (0x93, "faultmask_ns", 1, 0, 0, 0),
+    (0x94, "control_ns", 2, 0, 0, 0),
+    (0x98, "sp_ns", 0x2000_2000, 0, 0, 0),
+];
+
+/// What MRS puts into R3, and what the register reads as.
+fn read(start: &Core, sysm: u8) -> (u32, u32, &'static str) {
+    let mut core = *start;
+    let end = ending(execute(&Insn::ReadSpecial { rd: 3, sysm }, &mut core, 256));
+    (core.get(3), start.special(sysm), end)
+}
+
+#[test]
+fn reads_by_state_and_privilege(rt: HostRuntime) -> Result<(), Fail> {
+    let secure = filled_for(Side::Secure, true);
+    let secure_user = filled_for(Side::Secure, false);
+    let nonsecure = filled_for(Side::NonSecure, true);
+    let nonsecure_user = filled_for(Side::NonSecure, false);
+    for (sysm, name, s, su, n, nu) in &READS {
+        assert_eq!(rt; read(&secure, *sysm), (*s, *s, "next"), "{name} secure");
+        assert_eq!(rt;
+            read(&secure_user, *sysm),
+            (*su, *su, "next"),
+            "{name} secure user"
+        );
+        assert_eq!(rt;
+            read(&nonsecure, *sysm),
+            (*n, *n, "next"),
+            "{name} nonsecure"
+        );
+        assert_eq!(rt;
+            read(&nonsecure_user, *sysm),
+            (*nu, *nu, "next"),
+            "{name} nonsecure user"
+        );
+    }
+    Ok(())
+}
+
+/// The number of a register, and what code of both states reads in Handler mode, with exception 0x10b and
+/// nPRIV set, which doesn't count there.
+static HANDLER_READS: [(u8, &str, u32, u32); 11] = [
+    (0, "apsr", 0xa800_0000, 0xa800_0000),
+    (1, "iapsr", 0xa800_010b, 0xa800_010b),
+    (2, "eapsr", 0xa800_0000, 0xa800_0000),
+    (3, "xpsr", 0xa800_010b, 0xa800_010b),
+    (5, "ipsr", 0x10b, 0x10b),
+    (6, "epsr", 0, 0),
+    (7, "iepsr", 0x10b, 0x10b),
+    (8, "msp", 0x3000_1000, 0x2000_1000),
+    (20, "control", 1, 3),
+    (0x94, "control_ns", 2, 0),
+    (0x98, "sp_ns", 0x2000_1000, 0),
+];
+
+/// A core that handles an exception, with IT and T set, of which no number tells.
+fn handling(side: Side) -> Core {
+    let mut core = filled_for(side, false);
+    core.set_ipsr(0x10b);
+    core.set_it(0xff);
+    core.set_t(true);
+    core
+}
+
+#[test]
+fn reads_in_handler_mode(rt: HostRuntime) -> Result<(), Fail> {
+    let secure = handling(Side::Secure);
+    let nonsecure = handling(Side::NonSecure);
+    for (sysm, name, s, n) in &HANDLER_READS {
+        assert_eq!(rt; read(&secure, *sysm), (*s, *s, "next"), "{name} secure");
+        assert_eq!(rt;
+            read(&nonsecure, *sysm),
+            (*n, *n, "next"),
+            "{name} nonsecure"
+        );
+    }
+    Ok(())
+}
+
+/// The number of a register, the places among the numbers shown that privileged Secure and Non-secure code
+/// writes, and what the register holds after 0xffffffff and after 0x45678a20.
+static WRITES: [(u8, &str, usize, usize, u32, u32); 20] = [
+    (5, "ipsr", NOTHING, NOTHING, 0, 0),
+    (6, "epsr", NOTHING, NOTHING, 0, 0),
+    (7, "iepsr", NOTHING, NOTHING, 0, 0),
+    (8, "msp", 0, 8, 0xffff_fffc, 0x4567_8a20),
+    (9, "psp", 1, 9, 0xffff_fffc, 0x4567_8a20),
+    (10, "msplim", 2, 10, 0xffff_fff8, 0x4567_8a20),
+    (11, "psplim", 3, 11, 0xffff_fff8, 0x4567_8a20),
+    (16, "primask", 4, 12, 1, 0),
+    (17, "basepri", 5, 13, 0xff, 0x20),
+    (19, "faultmask", 6, 14, 1, 0),
+    (20, "control", 7, 15, 3, 0),
+    (0x88, "msp_ns", 8, NOTHING, 0xffff_fffc, 0x4567_8a20),
+    (0x89, "psp_ns", 9, NOTHING, 0xffff_fffc, 0x4567_8a20),
+    (0x8a, "msplim_ns", 10, NOTHING, 0xffff_fff8, 0x4567_8a20),
+    (0x8b, "psplim_ns", 11, NOTHING, 0xffff_fff8, 0x4567_8a20),
+    (0x90, "primask_ns", 12, NOTHING, 1, 0),
+    (0x91, "basepri_ns", 13, NOTHING, 0xff, 0x20),
+    (0x93, "faultmask_ns", 14, NOTHING, 1, 0),
+    (0x94, "control_ns", 15, NOTHING, 3, 0),
+    (0x98, "sp_ns", 9, NOTHING, 0xffff_fffc, 0x4567_8a20),
+];
+
+/// The core after MSR of a value, from R3, at execution priority 0, with how it ended.
+fn write(start: &Core, sysm: u8, value: u32) -> (Core, &'static str) {
+    let mut core = *start;
+    core.set(3, value);
+    let end = ending(execute(&Insn::WriteSpecial { rn: 3, sysm }, &mut core, 0));
+    (core, end)
+}
+
+/// Whether a core after MSR of a value is the one before with that value in R3 and another at a place.
+fn is_written(start: &Core, sysm: u8, value: u32, place: usize, after: u32) -> bool {
+    let mut want = shown(start);
+    want[17] = value;
+    if place < SHOWN {
+        want[place] = after;
+    }
+    let (core, end) = write(start, sysm, value);
+    for (index, found) in shown(&core).iter().enumerate() {
+        if *found != want[index] {
+            return false;
+        }
+    }
+    end == "next"
+}
+
+#[test]
+fn writes_by_state_and_privilege(rt: HostRuntime) -> Result<(), Fail> {
+    let secure = filled_for(Side::Secure, true);
+    let secure_user = filled_for(Side::Secure, false);
+    let nonsecure = filled_for(Side::NonSecure, true);
+    let nonsecure_user = filled_for(Side::NonSecure, false);
+    for (sysm, name, s, n, ones, other) in &WRITES {
+        for (value, after) in [(0xffff_ffff, *ones), (0x4567_8a20, *other)] {
+            assert!(rt;
+                is_written(&secure, *sysm, value, *s, after),
+                "{name} {value} secure"
+            );
+            assert!(rt;
+                is_written(&nonsecure, *sysm, value, *n, after),
+                "{name} {value} nonsecure"
+            );
+            for user in [&secure_user, &nonsecure_user] {
+                assert!(rt;
+                    is_written(user, *sysm, value, NOTHING, 0),
+                    "{name} {value} user"
+                );
+            }
+        }
+    }
+    Ok(())
+}
+
+/// A word, and the flags after it.
+static FLAGS: [(u32, u32); 7] = [
+    (0xffff_ffff, 0xf800_0000),
+    (0x07ff_ffff, 0),
+    (0x8000_0000, 0x8000_0000),
+    (0x4000_0000, 0x4000_0000),
+    (0x2000_0000, 0x2000_0000),
+    (0x1000_0000, 0x1000_0000),
+    (0x0800_0000, 0x0800_0000),
+];
+
+#[test]
+fn flags_are_written_by_all(rt: HostRuntime) -> Result<(), Fail> {
+    for side in [Side::Secure, Side::NonSecure] {
+        for privileged in [true, false] {
+            let start = filled_for(side, privileged);
+            for (value, after) in &FLAGS {
+                for sysm in [0, 1, 2, 3] {
+                    assert!(rt;
+                        is_written(&start, sysm, *value, 16, *after),
+                        "{sysm} {value}"
+                    );
+                }
+            }
+        }
+    }
+    Ok(())
+}
+
+/// SP_NS: CONTROL_NS, IPSR, the value, the place that it goes to, and how the instruction ends. MSPLIM_NS is
+/// 0x20000100, PSPLIM_NS 0x20000200.
+static SP_NS: [(u32, u16, u32, usize, &str); 10] = [
+    (0, 0, 0x2000_0100, 8, "next"),
+    (0, 0, 0x2000_00ff, NOTHING, "limit n"),
+    (0, 0, 0, NOTHING, "limit n"),
+    (2, 0, 0x2000_0200, 9, "next"),
+    (2, 0, 0x2000_01ff, NOTHING, "limit n"),
+    (2, 0, 0xffff_fffc, 9, "next"),
+    (2, 11, 0x2000_0100, 8, "next"),
+    (2, 11, 0x2000_01fc, 8, "next"),
+    (2, 11, 0x2000_00fc, NOTHING, "limit n"),
+    (3, 0, 0x2000_01fc, NOTHING, "limit n"),
+];
+
+#[test]
+fn nonsecure_stack_pointer_by_its_limit(rt: HostRuntime) -> Result<(), Fail> {
+    for (control, ipsr, value, place, end) in &SP_NS {
+        let mut start = filled();
+        start.set_control(Side::NonSecure, *control);
+        start.set_ipsr(*ipsr);
+        start.set(3, *value);
+        let (core, found) = write(&start, 0x98, *value);
+        assert_eq!(rt; found, *end, "{control} {ipsr} {value}");
+        assert_eq!(rt;
+            difference(&start, &core),
+            *place,
+            "{control} {ipsr} {value}"
+        );
+        if *place < SHOWN {
+            assert_eq!(rt; shown(&core)[*place], *value);
+            assert_eq!(rt; differences(&start, &core), 1);
+        }
+    }
+    for start in [
+        filled_for(Side::Secure, false),
+        filled_for(Side::NonSecure, true),
+    ] {
+        assert!(rt; is_written(&start, 0x98, 0, NOTHING, 0), "ignored");
+    }
+    for sysm in [8, 9, 0x88, 0x89] {
+        assert_eq!(rt; write(&filled(), sysm, 0).1, "next", "{sysm} has no limit");
+    }
+    Ok(())
+}
