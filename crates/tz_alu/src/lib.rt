@@ -1,12 +1,49 @@
-//! The operations of data processing on words (DDI0553, chapter C2): logical operations and sums,
-//! products and quotients, saturation, bit fields, extensions and reversals.
+//! Data processing: what its instructions make of the registers, the flags and the stack pointer (DDI0553,
+//! chapter C2).
 //!
-//! Each call is proved to give what `tz_exec`'s `specs/Operations.antt` says over unbounded numbers.
-//! Nothing here knows an instruction, a register or a core.
+//! `execute` is proved to do what `tz_exec`'s `specs/Alu.antt` says. Each form works on the registers and on
+//! the stacks of the side that runs it, and sees nothing else of the core. The operations on words stand
+//! apart, and know no register.
 #![tactic(auto)]
 
+ghost use Rattle.std.specs.Prelude.{◌≡◌};
+ghost use Rattle.tz_exec.specs.Local.{local_of, finished_in};
+ghost use Rattle.tz_exec.specs.Alu.{finish_alu};
+
+mod data;
+mod dispatch;
+mod multiplies;
 mod operations;
 mod products;
+mod results;
+mod values;
 
-pub use operations::{compute, extend, field_of, place_field, reverse, saturate};
-pub use products::{divide, multiply, multiply_long};
+use crate::dispatch::run;
+use tz_model::{Fault, Insn, Outcome, Side};
+use tz_regs::Core;
+
+/// Runs a data processing instruction (DDI0553, chapter C2).
+///
+/// Faults: `StackLimit` exactly where a sum would take SP below its limit, and `DivZero` exactly where a
+/// divisor is 0 and CCR.DIV_0_TRP is set. An instruction of another family, and a width or a field that no
+/// code has, gives `Undef`. A fault leaves the core as it was.
+pub fn execute(insn: &Insn, core: &mut Core) -> Result<Outcome, Fault>
+    ensures { finished_in core.old (finish_alu insn.now (local_of core.old)) ≡ (core.new, result) }
+{
+    match core.run.side {
+        Side::Secure => run(
+            insn,
+            Side::Secure,
+            core.status.s.ccr,
+            &mut core.registers,
+            &mut core.stacks_s,
+        ),
+        Side::NonSecure => run(
+            insn,
+            Side::NonSecure,
+            core.status.ns.ccr,
+            &mut core.registers,
+            &mut core.stacks_ns,
+        ),
+    }
+}

@@ -39,7 +39,7 @@ fn add(x: u32, y: u32, carry: bool) -> Computed
 
 /// A data operation on the first operand and the second, which is shifted or expanded already and left
 /// `shifter_carry`; `carry` and `overflow` are the flags C and V before.
-pub fn compute(
+pub(crate) fn compute(
     op: DataOp,
     x: u32,
     y: u32,
@@ -67,7 +67,7 @@ pub fn compute(
 
 /// `old` with its bits from `low` on, `width` of them, replaced by the low bits of `field`.
 #[tactic(auto, using(crate::proofs::Places::places))]
-pub fn place_field(old: u32, field: u32, low: u32, width: u32) -> u32
+pub(crate) fn place_field(old: u32, field: u32, low: u32, width: u32) -> u32
     requires some { 1 ≤ width }
     requires inside { low + width ≤ 32 }
     ensures { result ≡ field_placed old field low width }
@@ -78,7 +78,7 @@ pub fn place_field(old: u32, field: u32, low: u32, width: u32) -> u32
 }
 
 /// The result of a bit field operation.
-pub fn field_of(op: FieldOp, old: u32, source: u32, low: u32, width: u32) -> u32
+pub(crate) fn field_of(op: FieldOp, old: u32, source: u32, low: u32, width: u32) -> u32
     requires some { 1 ≤ width }
     requires inside { low + width ≤ 32 }
     ensures { result ≡ field_result op old source low width }
@@ -92,7 +92,7 @@ pub fn field_of(op: FieldOp, old: u32, source: u32, low: u32, width: u32) -> u32
 }
 
 /// The low halfword or byte of `ROR(value, rotate)`, extended to a word.
-pub fn extend(op: ExtendOp, value: u32, rotate: u32) -> u32
+pub(crate) fn extend(op: ExtendOp, value: u32, rotate: u32) -> u32
     ensures { result ≡ extended op value rotate }
 {
     let rotated = shift_c(value, Shift::Ror, rotate, false).0;
@@ -105,7 +105,7 @@ pub fn extend(op: ExtendOp, value: u32, rotate: u32) -> u32
 }
 
 /// The bytes or bits of a word turned round, or the count of its leading zeros.
-pub fn reverse(op: ReverseOp, value: u32) -> u32
+pub(crate) fn reverse(op: ReverseOp, value: u32) -> u32
     ensures { result ≡ reversed op value }
 {
     match op {
@@ -153,7 +153,7 @@ fn saturate_unsigned(value: u32, bits: u32) -> (u32, bool)
 
 /// `SignedSatQ` or `UnsignedSatQ` of a word's signed number: the nearest number of `bits` bits as a
 /// word, and whether it is another number.
-pub fn saturate(signed: bool, value: u32, bits: u32) -> (u32, bool)
+pub(crate) fn saturate(signed: bool, value: u32, bits: u32) -> (u32, bool)
     requires of_signed { signed ≡ true → (1 ≤ bits) × (bits ≤ 32) }
     requires of_unsigned { signed ≡ false → bits ≤ 31 }
     ensures { result ≡ saturated signed value bits }

@@ -6,7 +6,7 @@ ghost use Rattle.tz_exec.specs.Operations.{signed_value, low_bits, multiplied, l
 use tz_model::{LongOp, MultiplyOp};
 
 /// The low word of a product, with or without the addend `a`.
-pub fn multiply(op: MultiplyOp, x: u32, y: u32, a: u32) -> u32
+pub(crate) fn multiply(op: MultiplyOp, x: u32, y: u32, a: u32) -> u32
     ensures { result ≡ multiplied op x y a }
 {
     let product = x.wrapping_mul(y);
@@ -46,7 +46,7 @@ fn product_bits(op: LongOp, x: u32, y: u32, lo: u32, hi: u32) -> u64
 }
 
 /// The low and the high word of a product, with or without the addend `hi:lo`.
-pub fn multiply_long(op: LongOp, x: u32, y: u32, lo: u32, hi: u32) -> (u32, u32)
+pub(crate) fn multiply_long(op: LongOp, x: u32, y: u32, lo: u32, hi: u32) -> (u32, u32)
     ensures { result ≡ multiplied_long op x y lo hi }
 {
     let product = product_bits(op, x, y, lo, hi);
@@ -64,7 +64,7 @@ fn signed_quotient(x: u32, y: u32) -> u32
 }
 
 /// The quotient rounded towards zero, or 0 where `y` is 0.
-pub fn divide(signed: bool, x: u32, y: u32) -> u32
+pub(crate) fn divide(signed: bool, x: u32, y: u32) -> u32
     ensures { result ≡ divided signed x y }
 {
     if y == 0 {

@@ -1,0 +1,142 @@
+//! Products and quotients.
+
+use crate::{core_with, result_of, set_flags};
+use tz_alu::execute;
+use tz_model::{Fault, Flags, Insn, LongOp, MultiplyOp};
+
+/// The operation, R0, R1 and R2, the flags before, and the product with the flags after.
+static PRODUCTS: [(MultiplyOp, u32, u32, u32, u8, u32, u8); 7] = [
+    (
+        MultiplyOp::Mul,
+        0xffff_ffff,
+        1,
+        9,
+        0b00111,
+        0xffff_ffff,
+        0b10111,
+    ),
+    (MultiplyOp::Mul, 0x1_0000, 0x1_0000, 9, 0b10000, 0, 0b01000),
+    (MultiplyOp::Mul, 7, 6, 9, 0b11010, 42, 0b00010),
+    (
+        MultiplyOp::Mla,
+        0xffff_ffff,
+        0xffff_ffff,
+        2,
+        0b00000,
+        3,
+        0b00000,
+    ),
+    (MultiplyOp::Mla, 1, 1, 0xffff_ffff, 0b00000, 0, 0b01000),
+    (MultiplyOp::Mls, 3, 2, 5, 0b00000, 0xffff_ffff, 0b10000),
+    (MultiplyOp::Mls, 0x1_0000, 0x1_0000, 5, 0b00000, 5, 0b00000),
+];
+
+/// The operation, R0 to R3, of which R3:R2 is the addend, and R2 and R3 after.
+static LONG_PRODUCTS: [(LongOp, [u32; 4], u32, u32); 7] = [
+    (LongOp::Smull, [0xffff_ffff, 0xffff_ffff, 8, 9], 1, 0),
+    (
+        LongOp::Smull,
+        [0x8000_0000, 0x8000_0000, 0, 0],
+        0,
+        0x4000_0000,
+    ),
+    (
+        LongOp::Umull,
+        [0xffff_ffff, 0xffff_ffff, 8, 9],
+        1,
+        0xffff_fffe,
+    ),
+    (
+        LongOp::Smlal,
+        [2, 0xffff_ffff, 1, 0],
+        0xffff_ffff,
+        0xffff_ffff,
+    ),
+    (
+        LongOp::Smlal,
+        [1, 1, 0xffff_ffff, 0x7fff_ffff],
+        0,
+        0x8000_0000,
+    ),
+    (
+        LongOp::Umlal,
+        [0xffff_ffff, 0xffff_ffff, 0xffff_ffff, 0xffff_ffff],
+        0,
+        0xffff_fffe,
+    ),
+    (LongOp::Umlal, [2, 3, 4, 5], 10, 5),
+];
+
+#[test]
+fn products(rt: HostRuntime) {
+    for (op, x, y, a, before, want, after) in &PRODUCTS {
+        let mut core = core_with([*x, *y, *a, 0]);
+        set_flags(&mut core, *before);
+        let insn = Insn::Multiply {
+            op: *op,
+            flags: Flags::Always,
+            rd: 2,
+            rn: 0,
+            rm: 1,
+            ra: 2,
+        };
+        assert_eq!(rt;
+            result_of(&insn, &mut core),
+            Some((*want, *after)),
+            "{x:08x} {y:08x}"
+        );
+    }
+    for (op, values, low, high) in &LONG_PRODUCTS {
+        let mut core = core_with(*values);
+        let insn = Insn::MultiplyLong {
+            op: *op,
+            lo: 2,
+            hi: 3,
+            rn: 0,
+            rm: 1,
+        };
+        assert_eq!(rt;
+            result_of(&insn, &mut core),
+            Some((*low, 0)),
+            "{low:08x} {high:08x}"
+        );
+        assert_eq!(rt; core.get(3), *high, "{low:08x} {high:08x}");
+    }
+}
+
+/// Whether the division is signed, its operands, and the quotient.
+static QUOTIENTS: [(bool, u32, u32, u32); 8] = [
+    (true, 0x8000_0000, 0xffff_ffff, 0x8000_0000),
+    (true, 7, 0xffff_fffe, 0xffff_fffd),
+    (true, 0xffff_fff9, 2, 0xffff_fffd),
+    (true, 7, 0, 0),
+    (false, 0xffff_ffff, 2, 0x7fff_ffff),
+    (false, 0x8000_0000, 0xffff_ffff, 0),
+    (false, 7, 2, 3),
+    (false, 7, 0, 0),
+];
+
+#[test]
+fn quotients(rt: HostRuntime) {
+    for (signed, x, y, want) in &QUOTIENTS {
+        let insn = Insn::Divide {
+            signed: *signed,
+            rd: 2,
+            rn: 0,
+            rm: 1,
+        };
+        let mut core = core_with([*x, *y, 9, 0]);
+        // DIV_0_TRP of the other side traps nothing.
+        core.status.ns.ccr = 0x10;
+        assert_eq!(rt;
+            result_of(&insn, &mut core),
+            Some((*want, 0)),
+            "{x:08x} {y:08x}"
+        );
+        core.registers.general[2] = 9;
+        core.status.s.ccr = 0x10;
+        let is_trapped = matches!(execute(&insn, &mut core), Err(Fault::DivZero));
+        assert_eq!(rt; is_trapped, *y == 0, "{x:08x} {y:08x}");
+        assert_eq!(rt; core.get(2) == 9, *y == 0, "{x:08x} {y:08x}");
+    }
+}
