@@ -1,8 +1,9 @@
 //! Data processing: what its instructions make of the registers, the flags and the stack pointer (DDI0553,
 //! chapter C2).
 //!
-//! `execute` is proved to do what `tz_exec`'s `specs/Alu.antt` says. The operations on words stand apart
-//! from the instructions, and know no register.
+//! `execute` is proved to do what `tz_exec`'s `specs/Alu.antt` says. Each form works on the registers and on
+//! the stacks of the side that runs it, and sees nothing else of the core. The operations on words stand
+//! apart, and know no register.
 #![tactic(auto)]
 
 ghost use Rattle.std.specs.Prelude.{◌≡◌};

@@ -99,7 +99,17 @@ impl Machine {
             | Insn::Supervisor { .. }
             | Insn::Breakpoint { .. }
             | Insn::Undefined { .. } => self.system(insn),
-            _ => self.load_store(insn, stores),
+            Insn::Load { .. }
+            | Insn::Store { .. }
+            | Insn::LoadPair { .. }
+            | Insn::StorePair { .. }
+            | Insn::LoadMany { .. }
+            | Insn::StoreMany { .. }
+            | Insn::Preload
+            | Insn::LoadExclusive { .. }
+            | Insn::StoreExclusive { .. }
+            | Insn::LoadAcquire { .. }
+            | Insn::StoreRelease { .. } => self.load_store(insn, stores),
         }
     }
 }
