@@ -10,10 +10,11 @@ mod tests;
 use tz_model::{Fault, Outcome, Side};
 use tz_regs::Core;
 
-/// How many numbers show a core, and the place of no number.
+/// How many numbers show a core.
 pub const SHOWN: usize = 18;
 
-pub const NOTHING: usize = 18;
+/// The place of no number.
+pub const NOTHING: usize = SHOWN;
 
 /// A core with registers of both sides that all differ: Secure code uses MSP, Non-secure code PSP.
 pub fn filled() -> Core {
