@@ -2,12 +2,25 @@
 
 ghost use Rattle.std.specs.Prelude.{◌≡◌, []};
 ghost use Rattle.arrayvec.specs.ArrayVec.{array_vec_len};
+ghost use Rattle.tz_regs.specs.Priority.{mask_priority};
+ghost use Rattle.tz_regs.specs.Special.{named_of};
+ghost use Rattle.tz_exec.specs.Local.{finished_named};
+ghost use Rattle.tz_exec.specs.System.{finish_system};
 
 use crate::changes::Stores;
 use crate::port::CorePort;
 use crate::running::Machine;
 use tz_model::{Fault, Insn, Outcome};
+use tz_regs::Core;
 use tz_state::Asker;
+
+/// A system instruction, at the execution priority that the masks give.
+fn run_system(insn: &Insn, core: &mut Core) -> Result<Outcome, Fault>
+    ensures { finished_named core.old (finish_system (mask_priority core.old.masks) insn.now (named_of core.old)) ≡ (core.new, result) }
+{
+    let priority = core.masks.priority();
+    tz_system::execute(insn, core, priority)
+}
 
 impl Machine {
     ghost use Rattle.tz_exec.specs.declared.family.Family.TheVariants.{Alu, LoadStore, Branch, System};
@@ -56,8 +69,7 @@ impl Machine {
     fn system(&mut self, insn: &Insn) -> Result<Outcome, Fault>
         ensures { executed_by System self.old insn.now ≡ record { state = self.new; stores = []; outcome = result } }
     {
-        let priority = self.core.masks.priority();
-        tz_system::execute(insn, &mut self.core, priority)
+        run_system(insn, &mut self.core)
     }
 
     /// Runs an instruction up to how it goes on: all but PC and the IT state is as it leaves it, and its
