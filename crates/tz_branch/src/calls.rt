@@ -17,7 +17,7 @@ fn odd(addr: u32) -> u32
 }
 
 /// BL.
-#[tactic(auto, using(crate::proofs::Kept::registers_put))]
+#[tactic(auto, using(tz_exec::proofs::Local::registers_put))]
 pub fn branch_link(core: &mut Core, offset: i32) -> Result<Outcome, Fault>
     ensures { finished_in core.old (finish_link offset (local_of core.old)) ≡ (core.new, result) }
 {
@@ -27,7 +27,7 @@ pub fn branch_link(core: &mut Core, offset: i32) -> Result<Outcome, Fault>
 }
 
 /// BLX and BLXNS. Calls of Non-secure code aren't built.
-#[tactic(auto, using(crate::proofs::Kept::registers_put))]
+#[tactic(auto, using(tz_exec::proofs::Local::registers_put))]
 pub fn call_exchange(core: &mut Core, rm: u8, ns: bool) -> Result<Outcome, Fault>
     ensures { finished_in core.old (finish_call rm ns (local_of core.old)) ≡ (core.new, result) }
 {
@@ -41,7 +41,7 @@ pub fn call_exchange(core: &mut Core, rm: u8, ns: bool) -> Result<Outcome, Fault
 }
 
 /// IT.
-#[tactic(auto, using(crate::proofs::Kept::registers_put))]
+#[tactic(auto, using(tz_exec::proofs::Local::registers_put))]
 pub fn if_then(core: &mut Core, cond: u8, mask: u8) -> Result<Outcome, Fault>
     ensures { finished_in core.old (finish_it cond mask (local_of core.old)) ≡ (core.new, result) }
 {

@@ -27,7 +27,7 @@ pub fn target(core: &Core, offset: i32) -> u32
 }
 
 /// A branch that is taken or not.
-#[tactic(auto, using(crate::proofs::Kept::core_kept))]
+#[tactic(auto, using(tz_exec::proofs::Local::core_kept))]
 pub fn branch_if(core: &Core, taken: bool, offset: i32) -> Result<Outcome, Fault>
     ensures { finished_in core.now (taken_if taken offset (local_of core.now)) ≡ (core.now, result) }
 {
@@ -46,7 +46,7 @@ pub fn branch_zero(core: &Core, nonzero: bool, rn: u8, offset: i32) -> Result<Ou
 }
 
 /// BX and BXNS.
-#[tactic(auto, using(crate::proofs::Kept::core_kept))]
+#[tactic(auto, using(tz_exec::proofs::Local::core_kept))]
 pub fn exchange(core: &Core, rm: u8, ns: bool) -> Result<Outcome, Fault>
     ensures { finished_in core.now (finish_exchange rm ns (local_of core.now)) ≡ (core.now, result) }
 {
@@ -80,7 +80,7 @@ fn load_entry<P: Port>(core: &Core, port: &mut P, half: bool, rn: u8, rm: u8) ->
 }
 
 /// TBB and TBH.
-#[tactic(auto, using(crate::proofs::Kept::core_kept), unfolding(tz_model::specs::Ports::answers))]
+#[tactic(auto, using(tz_exec::proofs::Local::core_kept), unfolding(tz_model::specs::Ports::answers))]
 pub fn table_branch<P: Port>(
     core: &Core,
     port: &mut P,

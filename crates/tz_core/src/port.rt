@@ -1,13 +1,13 @@
 //! The port of the machine: the accesses of its instructions, to memory.
 
-ghost use Rattle.std.specs.Prelude.{◌≡◌, ◌%◌, ◌^◌, ◌-◌, ℕ};
+ghost use Rattle.std.specs.Prelude.{◌-◌, ℕ};
 ghost use Rattle.arrayvec.specs.ArrayVec.{array_vec_len};
-ghost use Rattle.tz_state.specs.Access.{cut_to, access, Reached};
+ghost use Rattle.tz_state.specs.Access.{access, Reached};
 
 use crate::changes::Stores;
 use tz_access::{load_verdict, store_verdict};
 use tz_mem::Memory;
-use tz_model::{Board, Fault, Port, Size, Store};
+use tz_model::{Board, Fault, Port, Size, Store, cut_to};
 use tz_state::Asker;
 
 /// The accesses of one instruction: who asks for them, what they reach, and the stores made.
@@ -17,17 +17,6 @@ pub struct CorePort<'a> {
     pub memory: &'a mut Memory,
     pub board: &'a Board,
     pub stores: &'a mut Stores,
-}
-
-/// The low bits that a store of a size writes.
-fn cut_to(size: Size, value: u32) -> u32
-    ensures { result ≡ cut_to size value }
-{
-    match size {
-        Size::Byte => value % 0x100,
-        Size::Half => value % 0x1_0000,
-        Size::Word => value,
-    }
 }
 
 impl Port for CorePort<'_> {

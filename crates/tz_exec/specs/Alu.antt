@@ -1,5 +1,5 @@
 -- Data processing: registers and flags after an operation on words.
-use Rattle.std.specs.Prelude.{ℕ, ◌+◌, ◌*◌, ◌/◌, ◌%◌, ◌^◌, ◌==◌, nat_le, nat_lt, Bool, true, false, not, ◌&&◌, ◌||◌, if◌then◌else◌, Option, Some, None, unwrap_or, Ok, Err, ℤ}
+use Rattle.std.specs.Prelude.{ℕ, ◌+◌, ◌*◌, ◌/◌, ◌%◌, ◌^◌, ◌==◌, nat_le, nat_lt, Bool, true, false, not, ◌&&◌, ◌||◌, if◌then◌else◌, unwrap_or, Ok, Err, ℤ}
 use Rattle.tz_bits.specs.Shifts.{shifted, carry_after}
 use Rattle.tz_bits.specs.Constants.{imm_of}
 use Rattle.tz_table.specs.declared.units.Shift.{Shift}

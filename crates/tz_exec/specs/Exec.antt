@@ -1,5 +1,5 @@
 -- The operation of each instruction that is built (DDI0553, chapter C2), on the state of the machine.
-use Rattle.std.specs.Prelude.{ℕ, ℤ, List, [], Result, Ok, Err}
+use Rattle.std.specs.Prelude.{ℕ, List, [], Result, Ok, Err}
 use Rattle.tz_table.specs.declared.instruction.Insn.{Insn}
 use Rattle.tz_table.specs.declared.instruction.Insn.TheVariants as insns
 use Rattle.tz_model.specs.declared.report.Fault.{Fault}
@@ -13,7 +13,7 @@ use Rattle.tz_state.specs.State.{State, with_core}
 use Rattle.tz_state.specs.Access.{Reached, reached_in, access}
 use Rattle.tz_exec.specs.declared.family.Family.{Family}
 use Rattle.tz_exec.specs.declared.family.Family.TheVariants.{Alu, LoadStore, Branch, System}
-use Rattle.tz_exec.specs.Local.{Local, Finished, local_of, finished_in, finished_named}
+use Rattle.tz_exec.specs.Local.{Finished, local_of, finished_in, finished_named}
 use Rattle.tz_exec.specs.Alu.{finish_alu}
 use Rattle.tz_exec.specs.LoadStore.{plan_load_store, finish_load_store}
 use Rattle.tz_exec.specs.Branch.{plan_branch, finish_branch}

@@ -1,5 +1,5 @@
 -- What may stand in an IT block, and what runs there whatever the condition.
-use Rattle.std.specs.Prelude.{ℕ, ◌/◌, ◌==◌, Bool, true, false, not, ◌&&◌, ◌||◌, nat_le, if◌then◌else◌}
+use Rattle.std.specs.Prelude.{ℕ, ◌/◌, ◌==◌, Bool, true, false, not, ◌&&◌, ◌||◌, nat_le}
 use Rattle.tz_table.specs.declared.units.Side.{Side}
 use Rattle.tz_table.specs.declared.units.Side.TheVariants.{Secure, NonSecure}
 use Rattle.tz_table.specs.declared.units.Shift.{Shift}
@@ -9,7 +9,7 @@ use Rattle.tz_table.specs.declared.instruction.DataOp.TheVariants.{Mov}
 use Rattle.tz_table.specs.declared.instruction.Flags.{Flags}
 use Rattle.tz_table.specs.declared.instruction.Flags.TheVariants.{OutsideIt}
 use Rattle.tz_table.specs.declared.instruction.Insn.{Insn}
-use Rattle.tz_table.specs.declared.instruction.Insn.TheVariants.{DataImm, DataReg, Load, LoadMany, Branch, BranchIf, BranchLink, BranchZero, TableBranch, BranchExchange, CallExchange, IfThen, ChangeState, TestTarget, LazyState, Breakpoint, Undefined}
+use Rattle.tz_table.specs.declared.instruction.Insn.TheVariants.{DataReg, Load, LoadMany, Branch, BranchIf, BranchLink, BranchZero, TableBranch, BranchExchange, CallExchange, IfThen, ChangeState, TestTarget, LazyState, Breakpoint, Undefined}
 use Rattle.tz_regs.specs.declared.parts.Registers.{Registers}
 use Rattle.tz_regs.specs.ItState.{in_it_block, is_last_in_it_block, condition_holds}
 

@@ -1,8 +1,7 @@
 -- What most instructions work on: the registers and the stacks of the code that runs them.
-use Rattle.std.specs.Prelude.{ℕ, ◌==◌, if◌then◌else◌, Result, Ok, Err}
+use Rattle.std.specs.Prelude.{ℕ, Result, Ok, Err}
 use Rattle.tz_table.specs.declared.units.Side.{Side}
 use Rattle.tz_model.specs.declared.report.Fault.{Fault}
-use Rattle.tz_model.specs.declared.report.Fault.TheVariants.{StackLimit}
 use Rattle.tz_model.specs.declared.report.Outcome.{Outcome}
 use Rattle.tz_model.specs.declared.report.Outcome.TheVariants.{Next}
 use Rattle.tz_regs.specs.declared.parts.Core.{Core}
@@ -10,7 +9,7 @@ use Rattle.tz_regs.specs.declared.parts.Registers.{Registers}
 use Rattle.tz_regs.specs.declared.parts.Stacks.{Stacks}
 use Rattle.tz_regs.specs.Banks.{stacks_of, status_of, secure_after, nonsecure_after}
 use Rattle.tz_regs.specs.Registers.{reg_of, with_reg, with_reg_stacks}
-use Rattle.tz_regs.specs.Special.{Named, named_of, with_named}
+use Rattle.tz_regs.specs.Special.{Named, with_named}
 
 -- of Non-secure code nothing Secure is in it; whose code it is and CCR are only read
 pub record Local : Type 0 where

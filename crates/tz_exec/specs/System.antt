@@ -1,5 +1,5 @@
 -- System instructions: special registers, masks, hints, barriers, and the exceptions that code raises.
-use Rattle.std.specs.Prelude.{ℕ, ◌==◌, Bool, ◌||◌, nat_le, ◌&&◌, if◌then◌else◌, Ok, Err, ℤ}
+use Rattle.std.specs.Prelude.{ℕ, nat_le, ◌&&◌, if◌then◌else◌, Ok, Err, ℤ}
 use Rattle.tz_table.specs.declared.units.Side.{Side}
 use Rattle.tz_table.specs.declared.units.Side.TheVariants.{Secure, NonSecure}
 use Rattle.tz_table.specs.declared.instruction.BarrierOp.{BarrierOp}

@@ -25,7 +25,7 @@ fn put(core: &mut Core, index: u8, value: u32)
 }
 
 /// The register of a load gets its word; a load of PC exchanges.
-#[tactic(auto, using(crate::proofs::Kept::core_kept))]
+#[tactic(auto, using(tz_exec::proofs::Local::core_kept))]
 fn loaded(core: &mut Core, rt: u8, word: u32) -> Outcome
     ensures { finished_in core.old (loaded rt (local_of core.old) word) ≡ (core.new, Ok result) }
 {
@@ -58,7 +58,7 @@ pub fn load_word<P: Port>(
 }
 
 /// A store of a word.
-#[tactic(auto, using(crate::proofs::Kept::core_kept), unfolding(tz_model::specs::Ports::answers))]
+#[tactic(auto, using(tz_exec::proofs::Local::core_kept), unfolding(tz_model::specs::Ports::answers))]
 pub fn store_word<P: Port>(core: &Core, port: &mut P, rt: u8, addr: u32) -> Result<Outcome, Fault>
     requires { P.room port.old ≢ 0 }
     ensures executes { over P.answer core.now (P.held port.old) (Store Word addr (reg (local_of core.now) rt) false false ∷ []) (λ words. Ok (local_of core.now, Next)) ≡ record { core = core.now; held = P.held port.new; outcome = result } }

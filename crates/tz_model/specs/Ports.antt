@@ -1,6 +1,7 @@
 -- Accesses of instructions, and what a port answers to them in turn.
-use Rattle.std.specs.Prelude.{ℕ, Bool, List, [], ◌∷◌, Result, Ok, Err}
+use Rattle.std.specs.Prelude.{ℕ, ◌%◌, ◌^◌, Bool, List, [], ◌∷◌, Result, Ok, Err}
 use Rattle.tz_table.specs.declared.units.Size.{Size}
+use Rattle.tz_table.specs.declared.units.Size.TheVariants.{Byte, Half, Word}
 use Rattle.tz_model.specs.declared.report.Fault.{Fault}
 
 -- an access: a read, or a write of a value; whether it has to be aligned to its size whatever CCR says,
@@ -8,6 +9,12 @@ use Rattle.tz_model.specs.declared.report.Fault.{Fault}
 pub data Access : Type 0 where
   Load : (size : Size) (addr : ℕ) (must_align user : Bool) → Access
   Store : (size : Size) (addr value : ℕ) (must_align user : Bool) → Access
+
+-- the low bits of a number, so many as a size has
+abbrev pub cut_to : Size → ℕ → ℕ
+cut_to Byte value = value % 2 ^ 8
+cut_to Half value = value % 2 ^ 16
+cut_to Word value = value
 
 -- how what a port holds answers an access: it is left so, with the word that was read or the fault; a
 -- store that is made reads 0

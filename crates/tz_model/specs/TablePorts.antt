@@ -1,10 +1,8 @@
 -- What the double of the port holds, and how it answers.
-use Rattle.std.specs.Prelude.{ℕ, ◌%◌, ◌^◌, ◌==◌, Bool, false, if◌then◌else◌, List, [], ◌∷◌, ◌++◌, Option, Some, None, Ok, Err}
-use Rattle.tz_table.specs.declared.units.Size.{Size}
-use Rattle.tz_table.specs.declared.units.Size.TheVariants.{Byte, Half, Word}
+use Rattle.std.specs.Prelude.{ℕ, ◌==◌, Bool, false, if◌then◌else◌, List, [], ◌∷◌, ◌++◌, Option, Some, None, Ok, Err}
 use Rattle.tz_model.specs.declared.report.Fault.TheVariants.{Precise}
 use Rattle.tz_model.specs.declared.port_double.TableEntry.{TableEntry}
-use Rattle.tz_model.specs.Ports.{Answering, Load, Store}
+use Rattle.tz_model.specs.Ports.{Answering, Load, Store, cut_to}
 
 -- a number at each address that has an entry, and the address whose accesses fail
 pub record TableValue : Type 0 where
@@ -15,12 +13,6 @@ pub record TableValue : Type 0 where
 abbrev pub last_at : ℕ → List TableEntry → ℕ → ℕ
 last_at addr [] found = found
 last_at addr (e ∷ more) found = last_at addr more (if e.addr == addr then e.value else found)
-
--- the low bits of a number, so many as a size has
-abbrev pub low_of : Size → ℕ → ℕ
-low_of Byte value = value % 2 ^ 8
-low_of Half value = value % 2 ^ 16
-low_of Word value = value
 
 abbrev pub fails_at : Option ℕ → ℕ → Bool
 fails_at None addr = false
@@ -33,6 +25,6 @@ with_entry t addr value = record t { entries = t.entries ++ record { addr = addr
 -- an access of the address whose accesses fail gives a bus fault; alignment and privilege don't count
 abbrev pub table_answer : Answering TableValue
 table_answer t (Load size addr must_align user) =
-    if fails_at t.failing addr then (t, Err (Precise addr)) else (t, Ok (low_of size (last_at addr t.entries 0)))
+    if fails_at t.failing addr then (t, Err (Precise addr)) else (t, Ok (cut_to size (last_at addr t.entries 0)))
 table_answer t (Store size addr value must_align user) =
-    if fails_at t.failing addr then (t, Err (Precise addr)) else (with_entry t addr (low_of size value), Ok 0)
+    if fails_at t.failing addr then (t, Err (Precise addr)) else (with_entry t addr (cut_to size value), Ok 0)

@@ -1,10 +1,21 @@
 //! The port through which an instruction reaches memory and the system registers.
 
 ghost use Rattle.std.specs.Prelude.{◌≡◌, ◌≢◌, ◌≤◌, ◌+◌, ℕ, OnErr};
-ghost use Rattle.tz_model.specs.Ports.{Answering, Load, Store, stored_answer};
+ghost use Rattle.tz_model.specs.Ports.{Answering, Load, Store, cut_to, stored_answer};
 
 use crate::report::Fault;
 use tz_table::Size;
+
+/// The low bits of a number, so many as a size has.
+pub fn cut_to(size: Size, value: u32) -> u32
+    ensures { result ≡ cut_to size value }
+{
+    match size {
+        Size::Byte => value % 0x100,
+        Size::Half => value % 0x1_0000,
+        Size::Word => value,
+    }
+}
 
 /// Where loads and stores of an instruction go. A port says how what it holds answers an access, so an
 /// instruction over any port is its definition over that answer.

@@ -1,9 +1,9 @@
 //! A double of the port, for tests: a table of numbers, with an address whose accesses fail.
 
 ghost use Rattle.std.specs.Prelude.{◌≡◌, ◌≤◌, length};
-ghost use Rattle.tz_model.specs.TablePorts.{last_at, low_of, fails_at};
+ghost use Rattle.tz_model.specs.TablePorts.{last_at, fails_at};
 
-use crate::port::Port;
+use crate::port::{Port, cut_to};
 use crate::report::Fault;
 use arrayvec::ArrayVec;
 use tz_table::Size;
@@ -61,17 +61,6 @@ fn last_at(entries: &[TableEntry], addr: u32) -> u32
     found
 }
 
-/// The low bits of a number, so many as a size has.
-fn low_of(size: Size, value: u32) -> u32
-    ensures { result ≡ low_of size value }
-{
-    match size {
-        Size::Byte => value % 0x100,
-        Size::Half => value % 0x1_0000,
-        Size::Word => value,
-    }
-}
-
 impl Port for TablePort {
     ghost use Rattle.std.specs.Prelude.{ℕ, ◌-◌, length};
     ghost use Rattle.tz_model.specs.TablePorts.{TableValue, table_answer};
@@ -98,7 +87,7 @@ impl Port for TablePort {
         if self.fails(addr) {
             return Err(Fault::Precise(addr));
         }
-        Ok(low_of(size, last_at(&self.entries, addr)))
+        Ok(cut_to(size, last_at(&self.entries, addr)))
     }
 
     fn store(
@@ -114,7 +103,7 @@ impl Port for TablePort {
         }
         self.entries.push(TableEntry {
             addr,
-            value: low_of(size, value),
+            value: cut_to(size, value),
         });
         Ok(())
     }

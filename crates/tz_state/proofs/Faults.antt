@@ -3,10 +3,10 @@ use Rattle.std.proofs.Common.{◌≡◌, ℕ, Option, Some, None, refl}
 use Rattle.std.specs.Prelude.{OnErr}
 use Rattle.tz_table.specs.declared.units.Size.{Size}
 use Rattle.tz_model.specs.declared.report.Fault.{Fault}
-use Rattle.tz_model.specs.Ports.{Access, Load, Store}
+use Rattle.tz_model.specs.Ports.{Access, Load, Store, cut_to}
 use Rattle.tz_state.specs.Attribution.{map_on}
 use Rattle.tz_state.specs.Memory.{value_at}
-use Rattle.tz_state.specs.Access.{Reached, read_by, write_by, access, cut_to, load_verdict, store_verdict}
+use Rattle.tz_state.specs.Access.{Reached, read_by, write_by, access, load_verdict, store_verdict}
 
 read_keeps : (v : Option Fault) (r : Reached) (word : ℕ) → OnErr (read_by v r word).1 ((read_by v r word).0 ≡ r)
 read_keeps (Some fault) r word = refl

@@ -1,5 +1,5 @@
 -- Data accesses: the checks in their order, and how the machine answers.
-use Rattle.std.specs.Prelude.{ℕ, ◌%◌, ◌^◌, ◌==◌, Bool, true, false, ◌&&◌, ◌||◌, not, nat_le, if◌then◌else◌, List, [], ◌∷◌, ◌++◌, Option, Some, None, Result, Ok, Err}
+use Rattle.std.specs.Prelude.{ℕ, ◌%◌, ◌==◌, Bool, true, false, ◌&&◌, ◌||◌, not, nat_le, if◌then◌else◌, List, [], ◌∷◌, ◌++◌, Option, Some, None, Result, Ok, Err}
 use Rattle.tz_table.specs.declared.units.Side.{Side}
 use Rattle.tz_table.specs.declared.units.Side.TheVariants.{Secure, NonSecure}
 use Rattle.tz_table.specs.declared.units.Size.{Size}
@@ -11,7 +11,7 @@ use Rattle.tz_model.specs.declared.report.Fault.{Fault}
 use Rattle.tz_model.specs.declared.report.Fault.TheVariants.{Unaligned, Violation, Precise}
 use Rattle.tz_model.specs.declared.report.Store as stored
 use Rattle.tz_model.specs.Board.{BoardValue, in_region}
-use Rattle.tz_model.specs.Ports.{Answering, Load, Store}
+use Rattle.tz_model.specs.Ports.{Answering, Load, Store, cut_to}
 use Rattle.tz_state.specs.declared.asker.Asker.{Asker}
 use Rattle.tz_state.specs.Memory.{Memory, every, value_at, with_value}
 use Rattle.tz_state.specs.Attribution.{MapState, map_on, is_open}
@@ -59,12 +59,6 @@ load_verdict m side size a must_align = checked m side size a must_align (every 
 
 unfoldable pub store_verdict : MapState → Side → Size → ℕ → Bool → Option Fault
 store_verdict m side size a must_align = checked m side size a must_align (every (is_writable m.board.regions) a size)
-
--- the low bits that a store of a size writes
-abbrev pub cut_to : Size → ℕ → ℕ
-cut_to Byte value = value % 2 ^ 8
-cut_to Half value = value % 2 ^ 16
-cut_to Word value = value
 
 -- what the accesses of an instruction see and change: who asks, and the parts of the state behind the
 -- registers, with the stores made so far

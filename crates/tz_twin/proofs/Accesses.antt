@@ -7,11 +7,10 @@ use Rattle.tz_model.specs.declared.report.Fault.{Fault}
 use Rattle.tz_model.specs.declared.report.Fault.TheVariants.{Unaligned, Violation, Precise}
 use Rattle.tz_model.specs.declared.report.Store as stored
 use Rattle.tz_model.specs.Board.{BoardValue}
-use Rattle.tz_model.specs.Ports.{Access, Load, Store, with_read, after_answer, answers}
-use Rattle.tz_state.specs.declared.asker.Asker.{Asker}
-use Rattle.tz_state.specs.Memory.{Memory, every, value_at, with_value}
+use Rattle.tz_model.specs.Ports.{Access, Load, Store, with_read, after_answer, answers, cut_to}
+use Rattle.tz_state.specs.Memory.{Memory, every, with_value}
 use Rattle.tz_state.specs.Attribution.{MapState, map_on, is_open}
-use Rattle.tz_state.specs.Access.{Reached, may_touch, is_crooked, checked, load_verdict, store_verdict, cut_to, read_by, write_by, access}
+use Rattle.tz_state.specs.Access.{Reached, may_touch, is_crooked, checked, load_verdict, store_verdict, read_by, write_by, access}
 use Rattle.tz_twin.specs.Integrity.{KeepsBytes}
 use Rattle.tz_twin.proofs.Bytes.{SameOpen, value_same, write_same, write_kept, keeps_nothing_changed, keeps_then}
 

@@ -1,5 +1,5 @@
 -- An instruction of Non-secure code, and how the step goes on after it: twins stay twins, or both lock.
-use Rattle.std.proofs.Common.{◌≡◌, ℕ, ◌+◌, ◌%◌, ◌==◌, Bool, true, List, [], Result, Ok, Err, refl, sym, subst, cond, ◌&&◌, not}
+use Rattle.std.proofs.Common.{◌≡◌, ℕ, ◌+◌, ◌%◌, ◌==◌, Bool, true, List, [], Result, Ok, Err, refl, sym, subst, ◌&&◌, not}
 use Rattle.tz_table.specs.declared.units.Side.TheVariants.{NonSecure}
 use Rattle.tz_table.specs.declared.units.Code.{Code}
 use Rattle.tz_table.specs.declared.decoded.Decoded.{Decoded}
@@ -9,7 +9,6 @@ use Rattle.tz_model.specs.declared.report.Fault.{Fault}
 use Rattle.tz_model.specs.declared.report.Outcome.{Outcome}
 use Rattle.tz_model.specs.declared.report.Outcome.TheVariants.{Next, Jump, Exchange, Sleep}
 use Rattle.tz_model.specs.declared.report.Store.{Store}
-use Rattle.tz_model.specs.Ports.{Access, answers}
 use Rattle.tz_model.specs.Words.{wrap, even_of}
 use Rattle.tz_regs.specs.declared.parts.Registers.{Registers}
 use Rattle.tz_regs.specs.ItState.{it_advanced}
@@ -18,7 +17,7 @@ use Rattle.tz_regs.specs.Special.{Named, named_of}
 use Rattle.tz_state.specs.Memory.{Memory}
 use Rattle.tz_state.specs.State.{State}
 use Rattle.tz_state.specs.Attribution.{map_on}
-use Rattle.tz_state.specs.Access.{Reached, access}
+use Rattle.tz_state.specs.Access.{Reached}
 use Rattle.tz_exec.specs.declared.family.Family.{Family}
 use Rattle.tz_exec.specs.declared.family.Family.TheVariants.{Alu, LoadStore, Branch, System}
 use Rattle.tz_exec.specs.Local.{Local, Finished, FinishedNamed, local_of, finished_in, finished_named}
@@ -119,7 +118,7 @@ exchanged_same o p q x x' n n' touched code stores target ns f g h =
 -- a part with PC moved
 at_pc : (o p : Open) (x x' : Rest) (n n' : Memory) (stores : List Store) (ending : Ending) (pc : ℕ) → Follows o p → Beside o x x' n n'
     → Both (join o x) (join o x') (record { state = left (on_board p (record p.registers { pc = pc })) x n; stores = stores; ending = ending })
-      (record { state = left (on_board p (record p.registers { pc = pc })) x' n'; stores = stores; ending = ending })
+    (record { state = left (on_board p (record p.registers { pc = pc })) x' n'; stores = stores; ending = ending })
 at_pc o p x x' n n' stores ending pc f h =
     let r : Registers = record p.registers { pc = pc } in goes o (on_board p r) x x' n n' stores ending (on_same_board o p r f) h
 
@@ -176,7 +175,7 @@ named_same o x x' touched code i (Err fault) same = both_fault o x x' touched sa
 -- one that makes accesses, by their words
 words_same : (o : Open) (x x' : Rest) (n n' : Memory) (stores : List Store) (touched : Bool) (code : Code) (i : Insn) (finish : List ℕ → Finished) (words : Result (List ℕ) Fault) → Beside o x x' n n'
     → Both (join o x) (join o x') (executes touched code i (through (join o x) (after_accesses (join o x).core (reached o.board n stores, words) finish)))
-      (executes touched code i (through (join o x') (after_accesses (join o x').core (reached o.board n' stores, words) finish)))
+    (executes touched code i (through (join o x') (after_accesses (join o x').core (reached o.board n' stores, words) finish)))
 unfolding left_open
 words_same o x x' n n' stores touched code i finish (Err fault) h = both_lock o o x x' n n' touched stores (follows_itself o) h
 words_same o x x' n n' stores touched code i finish (Ok words) h = go (finish words) where
