@@ -1,8 +1,8 @@
 //! Fetches (DDI0553, `FetchInstr`).
 
-ghost use Rattle.std.specs.Prelude.{◌≡◌};
+ghost use Rattle.std.specs.Prelude.{◌≡◌, true};
 ghost use Rattle.tz_state.specs.Attribution.{map_on};
-ghost use Rattle.tz_state.specs.Fetch.{is_executable, is_half_mapped, is_own_byte, is_own_fetch, wrong_side, half_verdict, with_first, own_fetch, is_entry, gateway_fetch, is_entry_fault, fetch};
+ghost use Rattle.tz_state.specs.Fetch.{is_executable, is_half_mapped, is_own_byte, is_own_fetch, wrong_side, half_verdict, with_first, is_entry, gateway_fetch, is_entry_fault, fetch};
 
 use crate::data::all_mapped;
 use tz_mem::Memory;
@@ -33,12 +33,15 @@ fn is_own_byte(board: &Board, side: Side, addr: u32) -> bool
     }
 }
 
-/// Whether both bytes of a halfword are of the side that fetches them.
+/// Whether both bytes of a halfword are of the side that fetches them. Attribution goes by blocks, so for an
+/// even address one byte tells both.
 #[tactic(auto, unfolding(tz_state::specs::Fetch::is_own_fetch))]
 pub fn is_own_fetch(board: &Board, side: Side, addr: u32) -> bool
     ensures { result ≡ is_own_fetch (map_on board.now) side addr }
 {
-    is_own_byte(board, side, addr) && is_own_byte(board, side, addr.wrapping_add(1))
+    let _read = board.interrupts;
+    is_own_byte(board, side, addr)
+        && (addr % 2 == 0 || is_own_byte(board, side, addr.wrapping_add(1)))
 }
 
 fn wrong_side(side: Side) -> Fault
@@ -50,14 +53,12 @@ fn wrong_side(side: Side) -> Fault
     }
 }
 
-/// The fault of the fetch of a halfword, or none.
+/// The fault of the fetch of a halfword that is of the side that fetches it, or none.
 #[tactic(auto, unfolding(tz_state::specs::Fetch::half_verdict))]
-fn half_verdict(board: &Board, side: Side, addr: u32) -> Option<Fault>
+fn own_verdict(board: &Board, side: Side, addr: u32) -> Option<Fault>
+    requires { is_own_fetch (map_on board.now) side addr ≡ true }
     ensures { result ≡ half_verdict (map_on board.now) side addr }
 {
-    if !is_own_fetch(board, side, addr) {
-        return Some(wrong_side(side));
-    }
     if !is_executable(addr) {
         return Some(Fault::Exec(side));
     }
@@ -67,12 +68,28 @@ fn half_verdict(board: &Board, side: Side, addr: u32) -> Option<Fault>
     None
 }
 
-/// An instruction that begins in memory of the side that fetches it.
-#[tactic(auto, unfolding(tz_state::specs::Fetch::own_fetch))]
-fn own_fetch(board: &Board, side: Side, memory: &Memory, pc: u32) -> Result<Fetched, Fault>
-    ensures { result ≡ own_fetch (map_on board.now) side memory.now pc }
+/// The fault of the fetch of a halfword, or none.
+#[tactic(auto, unfolding(tz_state::specs::Fetch::half_verdict))]
+fn half_verdict(board: &Board, side: Side, addr: u32) -> Option<Fault>
+    ensures { result ≡ half_verdict (map_on board.now) side addr }
 {
-    if let Some(fault) = half_verdict(board, side, pc) {
+    if !is_own_fetch(board, side, addr) {
+        return Some(wrong_side(side));
+    }
+    own_verdict(board, side, addr)
+}
+
+/// The code at PC, where its first halfword has this fault or none.
+fn with_first(
+    board: &Board,
+    side: Side,
+    memory: &Memory,
+    pc: u32,
+    verdict: Option<Fault>,
+) -> Result<Fetched, Fault>
+    ensures { result ≡ with_first (map_on board.now) side memory.now pc verdict }
+{
+    if let Some(fault) = verdict {
         return Err(fault);
     }
     let first = memory.half(pc);
@@ -141,18 +158,25 @@ fn is_entry_fault(answer: &Result<Fetched, Fault>) -> bool
 
 /// The instruction at PC for code of a side, or its fault: INVTRAN, INVEP, IACCVIOL or IBUSERR, the
 /// first check that fails.
-#[tactic(auto, unfolding(tz_state::specs::Fetch::fetch))]
+#[tactic(auto, unfolding(tz_state::specs::Fetch::fetch, tz_state::specs::Fetch::own_fetch))]
 pub fn fetch_at(board: &Board, side: Side, memory: &Memory, pc: u32) -> FetchAnswer
     ensures { result ≡ fetch (map_on board.now) side memory.now pc }
 {
     match side {
         Side::Secure => FetchAnswer {
             touched: true,
-            answer: own_fetch(board, Side::Secure, memory, pc),
+            answer: with_first(
+                board,
+                Side::Secure,
+                memory,
+                pc,
+                half_verdict(board, Side::Secure, pc),
+            ),
         },
         Side::NonSecure => {
             if is_own_fetch(board, Side::NonSecure, pc) {
-                let answer = own_fetch(board, Side::NonSecure, memory, pc);
+                let verdict = own_verdict(board, Side::NonSecure, pc);
+                let answer = with_first(board, Side::NonSecure, memory, pc, verdict);
                 FetchAnswer {
                     touched: is_entry_fault(&answer),
                     answer,
