@@ -17,7 +17,7 @@ use Rattle.tz_regs.specs.Special.{Named, named_of}
 use Rattle.tz_state.specs.Memory.{Memory}
 use Rattle.tz_state.specs.State.{State}
 use Rattle.tz_state.specs.Attribution.{map_on}
-use Rattle.tz_state.specs.Access.{Reached}
+use Rattle.tz_state.specs.Access.{Reached, reached_in}
 use Rattle.tz_exec.specs.declared.family.Family.{Family}
 use Rattle.tz_exec.specs.declared.family.Family.TheVariants.{Alu, LoadStore, Branch, System}
 use Rattle.tz_exec.specs.Local.{Local, Finished, FinishedNamed, local_of, finished_in, finished_named}
