@@ -34,6 +34,8 @@ fn outcome_text(alloc: Global, outcome: &Result<Outcome, Fault>) -> Result<Strin
         Ok(Outcome::Exchange { target, ns: true }) => format!(in alloc; "exchange ns {target:x}"),
         Ok(Outcome::Sleep { .. }) => String::from_str(alloc, "sleep"),
         Err(Fault::Undef) => String::from_str(alloc, "undef"),
+        Err(Fault::StackLimit(Side::Secure)) => String::from_str(alloc, "limit s"),
+        Err(Fault::StackLimit(Side::NonSecure)) => String::from_str(alloc, "limit ns"),
         Err(Fault::Precise(addr)) => format!(in alloc; "precise {addr:x}"),
         Err(_) => String::from_str(alloc, "other fault"),
     }
@@ -96,6 +98,14 @@ pub fn branch_text(
     step_text(alloc, &outcome, core, &after)
 }
 
+/// Tells the stores that were made, those of the table that stand after the first `before`.
+fn tell_stores(text: &mut String, port: &TablePort, before: usize) -> Result<(), AllocError> {
+    for entry in port.entries.iter().skip(before) {
+        write!(text, " [{:x}] {:x}", entry.addr, entry.value)?;
+    }
+    Ok(())
+}
+
 /// Runs a load or a store.
 pub fn load_store_text(
     alloc: Global,
@@ -106,6 +116,9 @@ pub fn load_store_text(
     requires { length port.old.entries.items ≤ 16 }
 {
     let mut after = *core;
+    let before = port.entries.len();
     let outcome = tz_loadstore::execute(insn, &mut after, port);
-    step_text(alloc, &outcome, core, &after)
+    let mut text = step_text(alloc, &outcome, core, &after)?;
+    tell_stores(&mut text, port, before)?;
+    Ok(text)
 }

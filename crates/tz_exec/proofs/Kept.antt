@@ -1,5 +1,5 @@
 -- What instructions keep.
-use Rattle.std.proofs.Common.{◌≡◌, ℕ, List, Result, Ok, Err, refl}
+use Rattle.std.proofs.Common.{◌≡◌, ℕ, List, Result, Ok, Err, refl, Option, Some, None}
 use Rattle.tz_table.specs.declared.units.Side.{Side}
 use Rattle.tz_table.specs.declared.units.Side.TheVariants.{Secure, NonSecure}
 use Rattle.tz_table.specs.declared.instruction.Insn.{Insn}
@@ -16,10 +16,10 @@ use Rattle.tz_exec.specs.declared.family.Family.{Family}
 use Rattle.tz_exec.specs.declared.family.Family.TheVariants.{Alu, LoadStore, Branch, System}
 use Rattle.tz_exec.specs.Local.{Finished, FinishedNamed, local_of, finished_in, finished_named}
 use Rattle.tz_exec.specs.Alu.{finish_alu}
-use Rattle.tz_exec.specs.LoadStore.{plan_load_store, finish_load_store}
+use Rattle.tz_exec.specs.LoadStore.{refusal, plan_load_store, finish_load_store}
 use Rattle.tz_exec.specs.Branch.{plan_branch, finish_branch}
 use Rattle.tz_exec.specs.System.{finish_system}
-use Rattle.tz_exec.specs.Exec.{after_accesses, family_of, executed_by, executed}
+use Rattle.tz_exec.specs.Exec.{Ported, unless_refused, after_accesses, family_of, executed_by, executed}
 
 own_alone : (side : Side) (own before : Stacks) → side ≡ NonSecure → secure_after side own before ≡ before
 own_alone Secure own before e = cc
@@ -38,9 +38,15 @@ ported_stacks : {H : Type 0} (c : Core) (a : H × Result (List ℕ) Fault) (fini
 ported_stacks c (h, Ok words) finish e = finished_stacks c (finish words) e
 ported_stacks c (h, Err fault) finish e = refl
 
+refused_stacks : {H : Type 0} (refused : Option Fault) (c : Core) (h : H) (p : Ported H) → p.core.stacks_s ≡ c.stacks_s → (unless_refused refused c h p).core.stacks_s ≡ c.stacks_s
+refused_stacks (Some fault) c h p e = refl
+refused_stacks None c h p e = e
+
 family_stacks : (family : Family) (s : State) (i : Insn) → s.core.run.side ≡ NonSecure → (executed_by family s i).state.core.stacks_s ≡ s.core.stacks_s
 family_stacks Alu s i e = finished_stacks s.core (finish_alu i (local_of s.core)) e
-family_stacks LoadStore s i e = ported_stacks s.core (answers access (reached_in s) (plan_load_store i (local_of s.core))) (finish_load_store i (local_of s.core)) e
+family_stacks LoadStore s i e =
+    refused_stacks (refusal i (local_of s.core)) s.core (reached_in s) _
+    (ported_stacks s.core (answers access (reached_in s) (plan_load_store i (local_of s.core))) (finish_load_store i (local_of s.core)) e)
 family_stacks Branch s i e = ported_stacks s.core (answers access (reached_in s) (plan_branch i (local_of s.core))) (finish_branch i (local_of s.core)) e
 family_stacks System s i e = named_stacks s.core (finish_system (mask_priority s.core.masks) i (named_of s.core)) e
 

@@ -1,5 +1,5 @@
 -- The operation of each instruction that is built (DDI0553, chapter C2), on the state of the machine.
-use Rattle.std.specs.Prelude.{ℕ, List, [], Result, Ok, Err}
+use Rattle.std.specs.Prelude.{ℕ, List, [], Result, Ok, Err, Option, Some, None}
 use Rattle.tz_table.specs.declared.instruction.Insn.{Insn}
 use Rattle.tz_table.specs.declared.instruction.Insn.TheVariants as insns
 use Rattle.tz_model.specs.declared.report.Fault.{Fault}
@@ -15,7 +15,7 @@ use Rattle.tz_exec.specs.declared.family.Family.{Family}
 use Rattle.tz_exec.specs.declared.family.Family.TheVariants.{Alu, LoadStore, Branch, System}
 use Rattle.tz_exec.specs.Local.{Finished, local_of, finished_in, finished_named}
 use Rattle.tz_exec.specs.Alu.{finish_alu}
-use Rattle.tz_exec.specs.LoadStore.{plan_load_store, finish_load_store}
+use Rattle.tz_exec.specs.LoadStore.{refusal, plan_load_store, finish_load_store}
 use Rattle.tz_exec.specs.Branch.{plan_branch, finish_branch}
 use Rattle.tz_exec.specs.System.{finish_system}
 
@@ -39,9 +39,15 @@ after_accesses c (h, Err fault) finish = record { core = c; held = h; outcome = 
 abbrev pub over : {H : Type 0} → Answering H → Core → H → List Access → (List ℕ → Finished) → Ported H
 over one c h plan finish = after_accesses c (answers one h plan) finish
 
+-- one that may be refused before it makes an access
+abbrev pub unless_refused : {H : Type 0} → Option Fault → Core → H → Ported H → Ported H
+unless_refused (Some fault) c h p = record { core = c; held = h; outcome = Err fault }
+unless_refused None c h p = p
+
 -- loads and stores, and branches, over a port
 abbrev pub load_store_over : {H : Type 0} → Answering H → Insn → Core → H → Ported H
-load_store_over one i c h = over one c h (plan_load_store i (local_of c)) (finish_load_store i (local_of c))
+load_store_over one i c h =
+    unless_refused (refusal i (local_of c)) c h (over one c h (plan_load_store i (local_of c)) (finish_load_store i (local_of c)))
 
 abbrev pub branch_over : {H : Type 0} → Answering H → Insn → Core → H → Ported H
 branch_over one i c h = over one c h (plan_branch i (local_of c)) (finish_branch i (local_of c))

@@ -1,20 +1,22 @@
-//! Where loads and stores go.
+//! Where loads and stores go, and the limit that a base keeps.
 
 ghost use Rattle.std.specs.Prelude.{◌≡◌};
 ghost use Rattle.tz_exec.specs.Local.{reg, local_of};
-ghost use Rattle.tz_exec.specs.LoadStore.{literal_at, offset_at};
+ghost use Rattle.tz_exec.specs.LoadStore.{below_limit, literal_at, offset_at, place_of, refusal_of};
 
+use tz_bits::shift_c;
+use tz_model::{Address, Fault, Shift};
 use tz_regs::Core;
 
 /// A register of the running code.
-pub fn reg(core: &Core, index: u8) -> u32
+pub(crate) fn reg(core: &Core, index: u8) -> u32
     ensures { result ≡ reg (local_of core.now) index }
 {
     core.registers.reg(core.stacks(core.run.side), index)
 }
 
 /// The place of a literal.
-pub fn literal(core: &Core, offset: i32) -> u32
+fn literal(core: &Core, offset: i32) -> u32
     ensures { result ≡ literal_at (local_of core.now) offset }
 {
     let base = core.registers.pc.wrapping_add(4) / 4 * 4;
@@ -22,8 +24,47 @@ pub fn literal(core: &Core, offset: i32) -> u32
 }
 
 /// A register plus an offset.
-pub fn at_offset(core: &Core, rn: u8, offset: i32) -> u32
+pub(crate) fn at_offset(core: &Core, rn: u8, offset: i32) -> u32
     ensures { result ≡ offset_at (local_of core.now) rn offset }
 {
     reg(core, rn).wrapping_add(offset.cast_unsigned())
+}
+
+/// Where an access goes.
+pub(crate) fn place(core: &Core, address: &Address) -> u32
+    ensures { result ≡ place_of address.now (local_of core.now) }
+{
+    match *address {
+        Address::Offset { rn, offset } => at_offset(core, rn, offset),
+        Address::Pre { rn, offset } => at_offset(core, rn, offset),
+        Address::Post { rn, .. } => reg(core, rn),
+        Address::Index { rn, rm, amount } => {
+            let (index, _) = shift_c(reg(core, rm), Shift::Lsl, u32::from(amount), false);
+            reg(core, rn).wrapping_add(index)
+        }
+        Address::Literal { offset } => literal(core, offset),
+    }
+}
+
+/// The fault of a base that would get below its limit; only SP has one.
+fn below_limit(core: &Core, rn: u8, value: u32) -> Option<Fault>
+    ensures { result ≡ below_limit rn value (local_of core.now) }
+{
+    let side = core.run.side;
+    if rn == 13 && value < core.stacks(side).limit(core.registers.ipsr) {
+        Some(Fault::StackLimit(side))
+    } else {
+        None
+    }
+}
+
+/// The fault of an address before any access.
+pub(crate) fn refusal(core: &Core, address: &Address) -> Option<Fault>
+    ensures { result ≡ refusal_of address.now (local_of core.now) }
+{
+    match *address {
+        Address::Pre { rn, offset } => below_limit(core, rn, at_offset(core, rn, offset)),
+        Address::Post { rn, offset } => below_limit(core, rn, at_offset(core, rn, offset)),
+        _ => None,
+    }
 }

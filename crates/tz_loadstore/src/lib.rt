@@ -1,23 +1,29 @@
-//! Loads and stores (DDI0553, chapter C2): of words at an offset, and of literals.
+//! Loads and stores of one register and of two (DDI0553, chapter C2).
 //!
-//! An instruction makes its accesses over any port, and leaves the registers of the running code.
+//! An instruction makes its accesses over any port, and leaves the registers of the running code. `execute`
+//! is proved to do what `tz_exec`'s `specs/LoadStore.antt` says: what refuses the instruction, its accesses,
+//! and then its registers, in this order. Multiples and exclusives aren't built.
 #![tactic(auto)]
 
 ghost use Rattle.std.specs.Prelude.{◌≡◌, ◌≤◌, ◌+◌};
 ghost use Rattle.tz_exec.specs.Exec.{load_store_over};
 
 mod addresses;
-mod words;
+mod pairs;
+mod results;
+mod single;
 
-use addresses::{at_offset, literal};
-use tz_model::{Address, Fault, Insn, Outcome, Port, Size};
+use crate::pairs::{load_pair, store_pair};
+use crate::single::{load, load_acquire, store, store_release};
+use tz_model::{Fault, Insn, Outcome, Port};
 use tz_regs::Core;
-use words::{load_word, store_word};
 
-/// Runs an instruction of this family: the fault of its first access that fails, and `Undef` for the
-/// instructions of other families and the forms that aren't built. At a fault the core is as it was, and
-/// the stores before it stand.
-#[tactic(auto, unfolding(tz_model::specs::Ports::answers))]
+/// Runs an instruction of this family.
+///
+/// Faults: `StackLimit` of the running side where the base would get below the limit of SP, before any
+/// access; else the fault of the first access that fails; `Undef` for the instructions of other families and
+/// the forms that aren't built. At a fault the core is as it was, and the stores before it stand.
+#[tactic(auto, using(tz_exec::proofs::Local::core_kept), unfolding(tz_model::specs::Ports::answers))]
 pub fn execute<P: Port>(insn: &Insn, core: &mut Core, port: &mut P) -> Result<Outcome, Fault>
     requires { 14 ≤ P.room port.old }
     ensures executes { load_store_over P.answer insn.now core.old (P.held port.old) ≡ record { core = core.new; held = P.held port.new; outcome = result } }
@@ -26,25 +32,23 @@ pub fn execute<P: Port>(insn: &Insn, core: &mut Core, port: &mut P) -> Result<Ou
 {
     match insn {
         Insn::Load {
-            size: Size::Word,
-            signed: false,
+            size,
+            signed,
             rt,
-            address: Address::Literal { offset },
-            user: false,
-        } => load_word(core, port, *rt, literal(core, *offset)),
-        Insn::Load {
-            size: Size::Word,
-            signed: false,
-            rt,
-            address: Address::Offset { rn, offset },
-            user: false,
-        } => load_word(core, port, *rt, at_offset(core, *rn, *offset)),
+            address,
+            user,
+        } => load(core, port, *size, *signed, *rt, address, *user),
         Insn::Store {
-            size: Size::Word,
+            size,
             rt,
-            address: Address::Offset { rn, offset },
-            user: false,
-        } => store_word(core, port, *rt, at_offset(core, *rn, *offset)),
+            address,
+            user,
+        } => store(core, port, *size, *rt, address, *user),
+        Insn::LoadPair { rt, rt2, address } => load_pair(core, port, *rt, *rt2, address),
+        Insn::StorePair { rt, rt2, address } => store_pair(core, port, *rt, *rt2, address),
+        Insn::LoadAcquire { size, rt, rn } => load_acquire(core, port, *size, *rt, *rn),
+        Insn::StoreRelease { size, rt, rn } => store_release(core, port, *size, *rt, *rn),
+        Insn::Preload => Ok(Outcome::Next),
         _ => Err(Fault::Undef),
     }
 }

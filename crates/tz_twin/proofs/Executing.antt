@@ -1,5 +1,5 @@
 -- An instruction of Non-secure code, and how the step goes on after it: twins stay twins, or both lock.
-use Rattle.std.proofs.Common.{◌≡◌, ℕ, ◌+◌, ◌%◌, ◌==◌, Bool, true, List, [], Result, Ok, Err, refl, sym, subst, ◌&&◌, not}
+use Rattle.std.proofs.Common.{◌≡◌, ℕ, ◌+◌, ◌%◌, ◌==◌, Bool, true, List, [], Result, Ok, Err, refl, sym, subst, ◌&&◌, not, Option, Some, None}
 use Rattle.tz_table.specs.declared.units.Side.TheVariants.{NonSecure}
 use Rattle.tz_table.specs.declared.units.Code.{Code}
 use Rattle.tz_table.specs.declared.decoded.Decoded.{Decoded}
@@ -17,16 +17,16 @@ use Rattle.tz_regs.specs.Special.{Named, named_of}
 use Rattle.tz_state.specs.Memory.{Memory}
 use Rattle.tz_state.specs.State.{State}
 use Rattle.tz_state.specs.Attribution.{map_on}
-use Rattle.tz_state.specs.Access.{Reached}
+use Rattle.tz_state.specs.Access.{Reached, reached_in}
 use Rattle.tz_exec.specs.declared.family.Family.{Family}
 use Rattle.tz_exec.specs.declared.family.Family.TheVariants.{Alu, LoadStore, Branch, System}
 use Rattle.tz_exec.specs.Local.{Local, Finished, FinishedNamed, local_of, finished_in, finished_named}
 use Rattle.tz_exec.specs.Alu.{finish_alu}
-use Rattle.tz_exec.specs.LoadStore.{plan_load_store, finish_load_store}
+use Rattle.tz_exec.specs.LoadStore.{refusal, plan_load_store, finish_load_store}
 use Rattle.tz_exec.specs.Branch.{plan_branch, finish_branch}
 use Rattle.tz_exec.specs.System.{finish_system}
 use Rattle.tz_exec.specs.ItRules.{is_misplaced, is_passed_over, ignores_condition}
-use Rattle.tz_exec.specs.Exec.{after_accesses, ported, alone, through, family_of, executed_by}
+use Rattle.tz_exec.specs.Exec.{Ported, unless_refused, after_accesses, ported, alone, through, family_of, executed_by}
 use Rattle.tz_sem.specs.declared.ending.Ending.{Ending}
 use Rattle.tz_sem.specs.Step.{length_of, locks, is_fnc_return, branch_ns, exchanged, it_after, skips, goes_on, executes, placed, decoded}
 use Rattle.tz_twin.specs.Integrity.{KeepsBytes}
@@ -194,12 +194,21 @@ ported_same o x x' touched code i finish a a' h =
     (subst (λ (b : Reached × Result (List ℕ) Fault). Both (join o x) (join o x') (executes touched code i (through (join o x) (after_accesses (join o x).core (reached o.board h.memory h.stores, a.1) finish))) (executes touched code i (through (join o x') (after_accesses (join o x').core b finish))))
     (sym there) (words_same o x x' h.memory h.memory' h.stores touched code i finish a.1 (record { bytes = h.bytes; kept = h.kept; kept' = h.kept' })))
 
+-- one that may be refused before its accesses
+refused_same : (o : Open) (x x' : Rest) (touched : Bool) (code : Code) (i : Insn) (refused : Option Fault) (p p' : Ported Reached) → SameOpen (map_on o.board) x.memory x'.memory
+    → Both (join o x) (join o x') (executes touched code i (through (join o x) p)) (executes touched code i (through (join o x') p'))
+    → Both (join o x) (join o x') (executes touched code i (through (join o x) (unless_refused refused (join o x).core (reached_in (join o x)) p)))
+      (executes touched code i (through (join o x') (unless_refused refused (join o x').core (reached_in (join o x')) p')))
+refused_same o x x' touched code i (Some fault) p p' same h = both_fault o x x' touched same
+refused_same o x x' touched code i None p p' same h = h
+
 executed_same : (o : Open) (x x' : Rest) (touched : Bool) (code : Code) (i : Insn) (family : Family) → SameOpen (map_on o.board) x.memory x'.memory
     → Both (join o x) (join o x') (executes touched code i (executed_by family (join o x) i)) (executes touched code i (executed_by family (join o x') i))
 executed_same o x x' touched code i Alu same = alone_same o x x' touched code i (finish_alu i (local_of (join o x).core)) same
 executed_same o x x' touched code i LoadStore same =
     let l = local_of (join o x).core in
-    ported_same o x x' touched code i (finish_load_store i l) _ _ (answers_same o.board (plan_load_store i l) x.memory x'.memory [] same)
+    refused_same o x x' touched code i (refusal i l) _ _ same
+    (ported_same o x x' touched code i (finish_load_store i l) _ _ (answers_same o.board (plan_load_store i l) x.memory x'.memory [] same))
 executed_same o x x' touched code i Branch same =
     let l = local_of (join o x).core in
     ported_same o x x' touched code i (finish_branch i l) _ _ (answers_same o.board (plan_branch i l) x.memory x'.memory [] same)

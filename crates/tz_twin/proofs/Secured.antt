@@ -1,6 +1,6 @@
 -- A step of Secure code looks at Secure state, and what is seen after it is fixed by its crossing: one
 -- fact for each stage of the step, of one run alone.
-use Rattle.std.proofs.Common.{◌≡◌, ℕ, ◌+◌, ◌%◌, ◌==◌, Bool, true, false, ◌&&◌, not, cond, List, [], Result, Ok, Err, refl, sym, ap, subst}
+use Rattle.std.proofs.Common.{◌≡◌, ℕ, ◌+◌, ◌%◌, ◌==◌, Bool, true, false, ◌&&◌, not, cond, List, [], Result, Ok, Err, refl, sym, ap, subst, Option, Some, None}
 use Rattle.tz_table.specs.declared.units.Side.{Side}
 use Rattle.tz_table.specs.declared.units.Side.TheVariants.{Secure, NonSecure}
 use Rattle.tz_table.specs.declared.units.Code.{Code}
@@ -19,17 +19,17 @@ use Rattle.tz_regs.specs.Priority.{mask_priority}
 use Rattle.tz_regs.specs.Special.{named_of, with_named}
 use Rattle.tz_state.specs.Attribution.{map_on}
 use Rattle.tz_state.specs.State.{State, side_of, with_core, with_memory, with_pc}
-use Rattle.tz_state.specs.Access.{Reached}
+use Rattle.tz_state.specs.Access.{Reached, reached_in}
 use Rattle.tz_state.specs.Fetch.{fetch, own_fetch}
 use Rattle.tz_exec.specs.declared.family.Family.{Family}
 use Rattle.tz_exec.specs.declared.family.Family.TheVariants.{Alu, LoadStore, Branch, System}
 use Rattle.tz_exec.specs.Local.{Finished, FinishedNamed, local_of, with_local, finished_in, finished_named}
 use Rattle.tz_exec.specs.Alu.{finish_alu}
-use Rattle.tz_exec.specs.LoadStore.{finish_load_store}
+use Rattle.tz_exec.specs.LoadStore.{refusal, finish_load_store}
 use Rattle.tz_exec.specs.Branch.{finish_branch}
 use Rattle.tz_exec.specs.System.{finish_system}
 use Rattle.tz_exec.specs.ItRules.{is_misplaced, is_passed_over, ignores_condition}
-use Rattle.tz_exec.specs.Exec.{after_accesses, ported, alone, through, family_of, executed_by}
+use Rattle.tz_exec.specs.Exec.{Ported, unless_refused, after_accesses, ported, alone, through, family_of, executed_by}
 use Rattle.tz_sem.specs.Ended.{Ended}
 use Rattle.tz_sem.specs.Step.{length_of, ran, is_fnc_return, branched, branch_ns, exchanged, with_it, past, skips, goes_on, executes, placed, decoded, fetched, ended}
 use Rattle.tz_twin.specs.Seen.{Seen, Hidden}
@@ -92,9 +92,16 @@ touching_accesses : (s0 s : State) (before : Seen) (code : Code) (i : Insn) (a :
 touching_accesses s0 s before code i (h, Ok words) finish e = touching_ported s0 s before code i h (finish words) e
 touching_accesses s0 s before code i (h, Err fault) finish e = touching_locks s0 (with_memory (secured s) h.memory) before h.stores e
 
+touching_refused : (s0 s : State) (before : Seen) (code : Code) (i : Insn) (refused : Option Fault) (p : Ported Reached) → Of before s
+    → Touching s0 before (executes true code i (through (secured s) p)) → Touching s0 before (executes true code i (through (secured s) (unless_refused refused (secured s).core (reached_in (secured s)) p)))
+touching_refused s0 s before code i (Some fault) p e h = touching_locks s0 (secured s) before [] e
+touching_refused s0 s before code i None p e h = h
+
 touching_family : (s0 s : State) (before : Seen) (code : Code) (i : Insn) (family : Family) → Of before s → Touching s0 before (executes true code i (executed_by family (secured s) i))
 touching_family s0 s before code i Alu e = touching_alone s0 s before code i (finish_alu i (local_of (secured s).core)) e
-touching_family s0 s before code i LoadStore e = touching_accesses s0 s before code i _ (finish_load_store i (local_of (secured s).core)) e
+touching_family s0 s before code i LoadStore e =
+    let l = local_of (secured s).core in
+    touching_refused s0 s before code i (refusal i l) _ e (touching_accesses s0 s before code i _ (finish_load_store i l) e)
 touching_family s0 s before code i Branch e = touching_accesses s0 s before code i _ (finish_branch i (local_of (secured s).core)) e
 touching_family s0 s before code i System e = touching_named s0 s before code i (finish_system (mask_priority s.core.masks) i (named_of (secured s).core)) e
 

@@ -1,0 +1,25 @@
+-- Writes of registers in a row.
+use Rattle.std.proofs.Common.{◌≡◌, ℕ, refl}
+use Rattle.tz_table.specs.declared.units.Side.{Side}
+use Rattle.tz_table.specs.declared.units.Side.TheVariants.{Secure, NonSecure}
+use Rattle.tz_regs.specs.declared.parts.Core.{Core}
+use Rattle.tz_regs.specs.declared.parts.Stacks.{Stacks}
+use Rattle.tz_regs.specs.Banks.{of_side, secure_after, nonsecure_after}
+use Rattle.tz_exec.specs.Local.{Local, put, local_of, with_local}
+
+stacks_left : (side : Side) (own s ns : Stacks) → of_side side (secure_after side own s) (nonsecure_after side own ns) ≡ own
+stacks_left Secure own s ns = refl
+stacks_left NonSecure own s ns = refl
+
+secure_again : (side : Side) (later own s : Stacks) → secure_after side later (secure_after side own s) ≡ secure_after side later s
+secure_again Secure later own s = refl
+secure_again NonSecure later own s = refl
+
+nonsecure_again : (side : Side) (later own ns : Stacks) → nonsecure_after side later (nonsecure_after side own ns) ≡ nonsecure_after side later ns
+nonsecure_again Secure later own ns = refl
+nonsecure_again NonSecure later own ns = refl
+
+-- a register that is written after others
+pub put_after : (c : Core) (l : Local) (k value : ℕ) → with_local (with_local c l) (put (local_of (with_local c l)) k value) ≡ with_local c (put l k value)
+put_after c l k value =
+    rw (stacks_left c.run.side l.own c.stacks_s c.stacks_ns, secure_again c.run.side (put l k value).own l.own c.stacks_s, nonsecure_again c.run.side (put l k value).own l.own c.stacks_ns)

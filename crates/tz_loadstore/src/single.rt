@@ -1,0 +1,103 @@
+//! Loads and stores of one register.
+
+ghost use Rattle.std.specs.Prelude.{◌≡◌, ◌≢◌, ◌≤◌, ◌+◌};
+ghost use Rattle.tz_table.specs.declared.instruction.Insn.TheVariants.{Load, Store, LoadAcquire, StoreRelease};
+ghost use Rattle.tz_exec.specs.Exec.{load_store_over};
+
+use crate::addresses::{place, refusal, reg};
+use crate::results::{extend, finish_load, put, write_back};
+use tz_model::{Address, Fault, Outcome, Port, Size};
+use tz_regs::Core;
+
+/// A load, which has to be aligned where it goes to PC.
+#[tactic(auto, unfolding(tz_model::specs::Ports::answers))]
+pub(crate) fn load<P: Port>(
+    core: &mut Core,
+    port: &mut P,
+    size: Size,
+    signed: bool,
+    rt: u8,
+    address: &Address,
+    user: bool,
+) -> Result<Outcome, Fault>
+    ensures executes { load_store_over P.answer (Load size signed rt address.now user) core.old (P.held port.old) ≡ record { core = core.new; held = P.held port.new; outcome = result } }
+    ensures room { P.room port.new ≡ P.room port.old }
+    ensures lent { P.lent port.new ≡ P.lent port.old }
+{
+    if let Some(fault) = refusal(core, address) {
+        return Err(fault);
+    }
+    match port.load(place(core, address), size, rt == 15, user) {
+        Ok(value) => Ok(finish_load(core, address, rt, extend(signed, size, value))),
+        Err(fault) => Err(fault),
+    }
+}
+
+/// A store.
+#[tactic(auto, unfolding(tz_model::specs::Ports::answers))]
+pub(crate) fn store<P: Port>(
+    core: &mut Core,
+    port: &mut P,
+    size: Size,
+    rt: u8,
+    address: &Address,
+    user: bool,
+) -> Result<Outcome, Fault>
+    requires { P.room port.old ≢ 0 }
+    ensures executes { load_store_over P.answer (Store size rt address.now user) core.old (P.held port.old) ≡ record { core = core.new; held = P.held port.new; outcome = result } }
+    ensures room { P.room port.old ≤ P.room port.new + 1 }
+    ensures lent { P.lent port.new ≡ P.lent port.old }
+{
+    if let Some(fault) = refusal(core, address) {
+        return Err(fault);
+    }
+    match port.store(place(core, address), size, reg(core, rt), false, user) {
+        Ok(()) => {
+            write_back(core, address);
+            Ok(Outcome::Next)
+        }
+        Err(fault) => Err(fault),
+    }
+}
+
+/// A load that acquires: it has to be aligned.
+#[tactic(auto, unfolding(tz_model::specs::Ports::answers))]
+pub(crate) fn load_acquire<P: Port>(
+    core: &mut Core,
+    port: &mut P,
+    size: Size,
+    rt: u8,
+    rn: u8,
+) -> Result<Outcome, Fault>
+    ensures executes { load_store_over P.answer (LoadAcquire size rt rn) core.old (P.held port.old) ≡ record { core = core.new; held = P.held port.new; outcome = result } }
+    ensures room { P.room port.new ≡ P.room port.old }
+    ensures lent { P.lent port.new ≡ P.lent port.old }
+{
+    match port.load(reg(core, rn), size, true, false) {
+        Ok(value) => {
+            put(core, rt, value);
+            Ok(Outcome::Next)
+        }
+        Err(fault) => Err(fault),
+    }
+}
+
+/// A store that releases: it has to be aligned.
+#[tactic(auto, using(tz_exec::proofs::Local::core_kept), unfolding(tz_model::specs::Ports::answers))]
+pub(crate) fn store_release<P: Port>(
+    core: &Core,
+    port: &mut P,
+    size: Size,
+    rt: u8,
+    rn: u8,
+) -> Result<Outcome, Fault>
+    requires { P.room port.old ≢ 0 }
+    ensures executes { load_store_over P.answer (StoreRelease size rt rn) core.now (P.held port.old) ≡ record { core = core.now; held = P.held port.new; outcome = result } }
+    ensures room { P.room port.old ≤ P.room port.new + 1 }
+    ensures lent { P.lent port.new ≡ P.lent port.old }
+{
+    match port.store(reg(core, rn), size, reg(core, rt), true, false) {
+        Ok(()) => Ok(Outcome::Next),
+        Err(fault) => Err(fault),
+    }
+}
