@@ -198,7 +198,7 @@ ported_same o x x' touched code i finish a a' h =
 refused_same : (o : Open) (x x' : Rest) (touched : Bool) (code : Code) (i : Insn) (refused : Option Fault) (p p' : Ported Reached) → SameOpen (map_on o.board) x.memory x'.memory
     → Both (join o x) (join o x') (executes touched code i (through (join o x) p)) (executes touched code i (through (join o x') p'))
     → Both (join o x) (join o x') (executes touched code i (through (join o x) (unless_refused refused (join o x).core (reached_in (join o x)) p)))
-      (executes touched code i (through (join o x') (unless_refused refused (join o x').core (reached_in (join o x')) p')))
+    (executes touched code i (through (join o x') (unless_refused refused (join o x').core (reached_in (join o x')) p')))
 refused_same o x x' touched code i (Some fault) p p' same h = both_fault o x x' touched same
 refused_same o x x' touched code i None p p' same h = h
 
