@@ -1,5 +1,5 @@
 -- What instructions keep.
-use Rattle.std.proofs.Common.{◌≡◌, ℕ, List, Result, Ok, Err, refl, Option, Some, None}
+use Rattle.std.proofs.Common.{◌≡◌, ℕ, Bool, true, false, not, cond, List, Result, Ok, Err, refl, Option, Some, None}
 use Rattle.tz_table.specs.declared.units.Side.{Side}
 use Rattle.tz_table.specs.declared.units.Side.TheVariants.{Secure, NonSecure}
 use Rattle.tz_table.specs.declared.instruction.Insn.{Insn}
@@ -11,15 +11,15 @@ use Rattle.tz_regs.specs.Banks.{secure_after}
 use Rattle.tz_regs.specs.Priority.{mask_priority}
 use Rattle.tz_regs.specs.Special.{named_of}
 use Rattle.tz_state.specs.State.{State}
-use Rattle.tz_state.specs.Access.{reached_in, access}
+use Rattle.tz_state.specs.Access.{is_aligned, reached_in, access}
 use Rattle.tz_exec.specs.declared.family.Family.{Family}
 use Rattle.tz_exec.specs.declared.family.Family.TheVariants.{Alu, LoadStore, Branch, System}
-use Rattle.tz_exec.specs.Local.{Finished, FinishedNamed, local_of, finished_in, finished_named}
+use Rattle.tz_exec.specs.Local.{Finished, FinishedNamed, local_of, put, finished_in, finished_named}
 use Rattle.tz_exec.specs.Alu.{finish_alu}
 use Rattle.tz_exec.specs.LoadStore.{refusal, plan_load_store, finish_load_store}
 use Rattle.tz_exec.specs.Branch.{plan_branch, finish_branch}
-use Rattle.tz_exec.specs.System.{finish_system}
-use Rattle.tz_exec.specs.Exec.{Ported, unless_refused, after_accesses, family_of, executed_by, executed}
+use Rattle.tz_exec.specs.System.{finish_system, probe_of}
+use Rattle.tz_exec.specs.Exec.{Ported, unless_refused, after_accesses, probed, Executed, Exclusivity, Free, Marks, Takes, exclusivity, is_held, released, loads_stores, exclusively, family_of, executed_by, executed}
 
 own_alone : (side : Side) (own before : Stacks) → side ≡ NonSecure → secure_after side own before ≡ before
 own_alone Secure own before e = cc
@@ -42,13 +42,30 @@ refused_stacks : {H : Type 0} (refused : Option Fault) (c : Core) (h : H) (p : P
 refused_stacks (Some fault) c h p e = refl
 refused_stacks None c h p e = e
 
-family_stacks : (family : Family) (s : State) (i : Insn) → s.core.run.side ≡ NonSecure → (executed_by family s i).state.core.stacks_s ≡ s.core.stacks_s
-family_stacks Alu s i e = finished_stacks s.core (finish_alu i (local_of s.core)) e
-family_stacks LoadStore s i e =
+loads_stores_stacks : (s : State) (i : Insn) → s.core.run.side ≡ NonSecure → (loads_stores s i).state.core.stacks_s ≡ s.core.stacks_s
+loads_stores_stacks s i e =
     refused_stacks (refusal i (local_of s.core)) s.core (reached_in s) _
     (ported_stacks s.core (answers access (reached_in s) (plan_load_store i (local_of s.core))) (finish_load_store i (local_of s.core)) e)
+
+choice_stacks : (t : Bool) (s : State) (x y : Executed) → x.state.core.stacks_s ≡ s.core.stacks_s → y.state.core.stacks_s ≡ s.core.stacks_s → (cond t x y).state.core.stacks_s ≡ s.core.stacks_s
+choice_stacks true s x y p q = p
+choice_stacks false s x y p q = q
+
+exclusive_stacks : (x : Exclusivity) (s : State) (i : Insn) → s.core.run.side ≡ NonSecure → (exclusively x s i).state.core.stacks_s ≡ s.core.stacks_s
+exclusive_stacks Free s i e = loads_stores_stacks s i e
+exclusive_stacks (Marks x) s i e = loads_stores_stacks s i e
+exclusive_stacks (Takes x rd) s i e =
+    choice_stacks (not (is_aligned x.size x.addr)) s _ _ refl
+    (choice_stacks (is_held s.bus.monitor x) s _ _ (loads_stores_stacks (released s) i e)
+    (own_alone s.core.run.side (put (local_of s.core) rd 1).own s.core.stacks_s e))
+
+family_stacks : (family : Family) (s : State) (i : Insn) → s.core.run.side ≡ NonSecure → (executed_by family s i).state.core.stacks_s ≡ s.core.stacks_s
+family_stacks Alu s i e = finished_stacks s.core (finish_alu i (local_of s.core)) e
+family_stacks LoadStore s i e = exclusive_stacks (exclusivity i (local_of s.core)) s i e
 family_stacks Branch s i e = ported_stacks s.core (answers access (reached_in s) (plan_branch i (local_of s.core))) (finish_branch i (local_of s.core)) e
-family_stacks System s i e = named_stacks s.core (finish_system (mask_priority s.core.masks) i (named_of s.core)) e
+family_stacks System s i e =
+    let p = mask_priority s.core.masks in
+    named_stacks s.core (finish_system p i (named_of s.core) (probed s.bus (probe_of p i (named_of s.core)))) e
 
 pub executed_stacks : (s : State) (i : Insn) → s.core.run.side ≡ NonSecure → (executed s i).state.core.stacks_s ≡ s.core.stacks_s
 executed_stacks s i e = family_stacks (family_of i) s i e

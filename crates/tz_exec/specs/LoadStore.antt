@@ -1,6 +1,6 @@
--- Loads and stores: where they go, and what they leave. Of one register and of two; multiples and exclusives
--- aren't built.
-use Rattle.std.specs.Prelude.{ℕ, ◌+◌, ◌*◌, ◌/◌, ◌==◌, Bool, true, false, ◌&&◌, nat_lt, List, [], ◌∷◌, if◌then◌else◌, slice_index, Option, Some, None, Ok, Err, ℤ}
+-- Loads and stores: where they go, and what they leave. The exclusive monitor is the state's: here a store
+-- exclusive is one whose address the monitor holds.
+use Rattle.std.specs.Prelude.{ℕ, zero, suc, ◌+◌, ◌-◌, ◌*◌, ◌/◌, ◌%◌, ◌^◌, ◌==◌, Bool, true, false, ◌&&◌, nat_lt, List, [], ◌∷◌, length, filter, if◌then◌else◌, slice_index, Option, Some, None, Ok, Err, ℤ}
 use Rattle.tz_table.specs.declared.units.Size.{Size}
 use Rattle.tz_table.specs.declared.units.Size.TheVariants.{Byte, Half, Word}
 use Rattle.tz_table.specs.declared.instruction.Address.{Address}
@@ -62,6 +62,70 @@ extended_to signed size value = value
 abbrev pub loaded : ℕ → Local → ℕ → Finished
 loaded rt l word = if rt == 15 then Ok (l, Exchange word false) else gives l rt word
 
+-- ---- multiples
+
+-- the registers that a list may name beside PC: R0 to R12 and LR
+abbrev pub general_numbers : List ℕ
+general_numbers = 0 ∷ 1 ∷ 2 ∷ 3 ∷ 4 ∷ 5 ∷ 6 ∷ 7 ∷ 8 ∷ 9 ∷ 10 ∷ 11 ∷ 12 ∷ 14 ∷ []
+
+-- a bit of a list names a register
+abbrev pub is_listed : ℕ → ℕ → Bool
+is_listed list k = list / 2 ^ k % 2 == 1
+
+-- the registers of a list, the lowest first
+unfoldable pub listed : ℕ → List ℕ
+listed list = filter (is_listed list) general_numbers
+
+-- how many words a load and a store of a list have; only a load has PC
+abbrev pub words_loaded : ℕ → ℕ
+words_loaded list = length (listed list) + (if is_listed list 15 then 1 else 0)
+
+abbrev pub words_stored : ℕ → ℕ
+words_stored list = length (listed list)
+
+-- a base past so many words, above it or below
+abbrev pub past_words : Bool → ℕ → ℕ → ℕ
+past_words false base count = wrap (base + 4 * count)
+past_words true base count = wrap (base + (2 ^ 32 - 4 * count))
+
+-- the lowest of the addresses
+abbrev pub lowest : Bool → ℕ → ℕ → ℕ
+lowest false base count = base
+lowest true base count = past_words true base count
+
+-- words in ascending order, which have to be aligned
+abbrev pub word_loads : ℕ → ℕ → List Access
+word_loads addr zero = []
+word_loads addr (suc count) = Load Word addr true false ∷ word_loads (wrap (addr + 4)) count
+
+abbrev pub word_stores : Local → ℕ → List ℕ → List Access
+word_stores l addr [] = []
+word_stores l addr (k ∷ more) = Store Word addr (reg l k) true false ∷ word_stores l (wrap (addr + 4)) more
+
+-- the base gets its new value where the instruction says so
+abbrev pub based_past : Bool → ℕ → ℕ → Local → Local
+based_past back rn value l = if back then put l rn value else l
+
+-- SP doesn't get below its limit, in either direction
+abbrev pub refusal_past : Bool → ℕ → ℕ → Local → Option Fault
+refusal_past back rn value l = if back then below_limit rn value l else None
+
+-- registers get words, each its own
+abbrev pub filled : Local → List ℕ → List ℕ → Local
+filled l [] words = l
+filled l (k ∷ more) [] = l
+filled l (k ∷ more) (word ∷ words) = filled (put l k word) more words
+
+-- after the registers of a list, PC gets the last word where the list names it, and exchanges
+abbrev pub filled_all : ℕ → Local → List ℕ → Finished
+filled_all list l words =
+    if is_listed list 15 then Ok (filled l (listed list) words, Exchange (slice_index words (length (listed list))) false)
+    else Ok (filled l (listed list) words, Next)
+
+abbrev pub finish_load_many : ℕ → ℕ → Bool → Bool → Local → List ℕ → Finished
+finish_load_many rn list down back l words =
+    filled_all list (based_past back rn (past_words down (reg l rn) (words_loaded list)) l) words
+
 -- ---- the forms
 
 -- a pair is two words, which have to be aligned
@@ -77,6 +141,8 @@ refusal (insns.Load size signed rt address user) l = refusal_of address l
 refusal (insns.Store size rt address user) l = refusal_of address l
 refusal (insns.LoadPair rt rt2 address) l = refusal_of address l
 refusal (insns.StorePair rt rt2 address) l = refusal_of address l
+refusal (insns.LoadMany rn list down back) l = refusal_past back rn (past_words down (reg l rn) (words_loaded list)) l
+refusal (insns.StoreMany rn list down back) l = refusal_past back rn (past_words down (reg l rn) (words_stored list)) l
 refusal insn l = None
 
 -- the accesses of an instruction of this family; a load of PC has to be aligned
@@ -85,6 +151,11 @@ plan_load_store (insns.Load size signed rt address user) l = Load size (place_of
 plan_load_store (insns.Store size rt address user) l = Store size (place_of address l) (reg l rt) false user ∷ []
 plan_load_store (insns.LoadPair rt rt2 address) l = pair_loads (place_of address l)
 plan_load_store (insns.StorePair rt rt2 address) l = pair_stores (place_of address l) (reg l rt) (reg l rt2)
+plan_load_store (insns.LoadMany rn list down back) l = word_loads (lowest down (reg l rn) (words_loaded list)) (words_loaded list)
+plan_load_store (insns.StoreMany rn list down back) l = word_stores l (lowest down (reg l rn) (words_stored list)) (listed list)
+plan_load_store (insns.LoadExclusive size acquire rt rn offset) l = Load size (offset_at l rn offset) true false ∷ []
+plan_load_store (insns.StoreExclusive size release rd rt rn offset) l =
+    Store size (offset_at l rn offset) (reg l rt) true false ∷ []
 plan_load_store (insns.LoadAcquire size rt rn) l = Load size (reg l rn) true false ∷ []
 plan_load_store (insns.StoreRelease size rt rn) l = Store size (reg l rn) (reg l rt) true false ∷ []
 plan_load_store insn l = []
@@ -96,7 +167,12 @@ finish_load_store (insns.Load size signed rt address user) l words =
 finish_load_store (insns.Store size rt address user) l words = Ok (based address l, Next)
 finish_load_store (insns.LoadPair rt rt2 address) l words = gives (put (based address l) rt (slice_index words 0)) rt2 (slice_index words 1)
 finish_load_store (insns.StorePair rt rt2 address) l words = Ok (based address l, Next)
+finish_load_store (insns.LoadMany rn list down back) l words = finish_load_many rn list down back l words
+finish_load_store (insns.StoreMany rn list down back) l words =
+    Ok (based_past back rn (past_words down (reg l rn) (words_stored list)) l, Next)
 finish_load_store insns.Preload l words = Ok (l, Next)
+finish_load_store (insns.LoadExclusive size acquire rt rn offset) l words = gives l rt (slice_index words 0)
+finish_load_store (insns.StoreExclusive size release rd rt rn offset) l words = gives l rd 0
 finish_load_store (insns.LoadAcquire size rt rn) l words = gives l rt (slice_index words 0)
 finish_load_store (insns.StoreRelease size rt rn) l words = Ok (l, Next)
 finish_load_store insn l words = Err Undef

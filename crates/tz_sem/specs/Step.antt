@@ -19,9 +19,12 @@ use Rattle.tz_model.specs.declared.fetch.FetchAnswer.{FetchAnswer}
 use Rattle.tz_model.specs.Codes.{meaning_of}
 use Rattle.tz_model.specs.Words.{wrap, even_of}
 use Rattle.tz_regs.specs.declared.parts.Before.{Before}
+use Rattle.tz_regs.specs.declared.parts.Core.{Core}
 use Rattle.tz_regs.specs.Registers.{before_in}
 use Rattle.tz_regs.specs.ItState.{it_advanced}
-use Rattle.tz_state.specs.State.{State, map_of, with_run, with_registers, with_pc}
+use Rattle.tz_regs.specs.Priority.{mask_priority}
+use Rattle.tz_state.specs.declared.fetcher.Fetcher.{Fetcher}
+use Rattle.tz_state.specs.State.{State, map_of, is_privileged_in, is_negative_at, with_run, with_registers, with_pc}
 use Rattle.tz_state.specs.Fetch.{fetch, is_own_fetch, wide, sg_half}
 use Rattle.tz_exec.specs.ItRules.{is_misplaced, is_passed_over, ignores_condition}
 use Rattle.tz_exec.specs.Exec.{Executed, executed}
@@ -36,23 +39,23 @@ length_with (Some second) = 4
 abbrev pub length_of : Code → ℕ
 length_of code = length_with code.second
 
--- the machine locks; the stores that were made stand
-abbrev pub locks : State → Bool → List Store → Ended
-locks s touched stores =
+-- the machine locks, by a fault or because it was locked; the stores that were made stand
+abbrev pub locks : State → Bool → Option Fault → List Store → Ended
+locks s touched fault stores =
     record {
       state = with_run s (record s.core.run { locked = true });
       stores = stores;
-      ending = record { touched = touched; cause = Went; ran = None };
+      ending = record { touched = touched; cause = Went; ran = None; fault = fault };
     }
 
 -- a fault locks the machine, whichever it is: its registers are those before the instruction
 abbrev pub faults : State → Bool → Fault → List Store → Ended
-faults s touched fault stores = locks s touched stores
+faults s touched fault stores = locks s touched (Some fault) stores
 
 -- an instruction ran
 abbrev pub ran : State → Bool → Code → List Store → Ended
 ran s touched code stores =
-    record { state = s; stores = stores; ending = record { touched = touched; cause = Went; ran = Some code } }
+    record { state = s; stores = stores; ending = record { touched = touched; cause = Went; ran = Some code; fault = None } }
 
 -- ---- branches between the sides
 
@@ -70,7 +73,7 @@ returned s touched code stores =
     record {
       state = with_run s (record s.core.run { side = NonSecure });
       stores = stores;
-      ending = record { touched = touched; cause = Returned; ran = Some code };
+      ending = record { touched = touched; cause = Returned; ran = Some code; fault = None };
     }
 
 -- BXNS in Secure state: where bit 0 of the target is 0, Non-secure code runs on
@@ -158,9 +161,19 @@ fetched s touched (Ok f) = if f.gateway then enters s else decoded s touched f.c
 abbrev pub fetches : State → FetchAnswer → Ended
 fetches s f = fetched s f.touched f.answer
 
--- the fetch of the running code
+-- the running code as it fetches
+abbrev pub fetcher_in : Core → Fetcher
+fetcher_in c =
+    record {
+      side = c.run.side;
+      privileged = is_privileged_in c.run.side c;
+      secure_privileged = is_privileged_in Secure c;
+      negative = is_negative_at (mask_priority c.masks);
+    }
+
+-- its fetch
 abbrev pub fetch_in : State → FetchAnswer
-fetch_in s = fetch (map_of s) s.core.run.side s.memory s.core.registers.pc
+fetch_in s = fetch s.bus (fetcher_in s.core) s.core.registers.pc
 
 -- a step that fetches nothing looks at Secure state where it starts Secure, or at a Secure address
 abbrev pub looks : Side → State → Bool
@@ -175,7 +188,7 @@ unready looked side = InvState
 -- how a step ends: a locked machine stays so; (own) where T is 0 it faults before anything is fetched
 unfoldable pub ended : State → Ended
 ended s =
-    if s.core.run.locked then locks s true []
+    if s.core.run.locked then locks s true None []
     else if s.core.registers.t then fetches s (fetch_in s)
     else faults s (looks s.core.run.side s) (unready (looks s.core.run.side s) s.core.run.side) []
 

@@ -4,9 +4,9 @@ use Rattle.std.specs.Prelude.{OnErr}
 use Rattle.tz_table.specs.declared.units.Size.{Size}
 use Rattle.tz_model.specs.declared.report.Fault.{Fault}
 use Rattle.tz_model.specs.Ports.{Access, Load, Store, cut_to}
-use Rattle.tz_state.specs.Attribution.{map_on}
+use Rattle.tz_state.specs.declared.request.Kind.TheVariants.{Read, Write}
 use Rattle.tz_state.specs.Memory.{value_at}
-use Rattle.tz_state.specs.Access.{Reached, read_by, write_by, access, load_verdict, store_verdict}
+use Rattle.tz_state.specs.Access.{Reached, read_by, write_by, access, refused}
 
 read_keeps : (v : Option Fault) (r : Reached) (word : ℕ) → OnErr (read_by v r word).1 ((read_by v r word).0 ≡ r)
 read_keeps (Some fault) r word = refl
@@ -19,5 +19,5 @@ write_keeps None r size a value = tt
 -- an access that faults changes nothing
 pub fault_keeps : (r : Reached) (a : Access) → OnErr (access r a).1 ((access r a).0 ≡ r)
 unfolding access
-fault_keeps r (Load size a must_align user) = read_keeps (load_verdict (map_on r.board) r.asker.side size a must_align) r (value_at r.memory size a)
-fault_keeps r (Store size a value must_align user) = write_keeps (store_verdict (map_on r.board) r.asker.side size a must_align) r size a (cut_to size value)
+fault_keeps r (Load size a must_align user) = read_keeps (refused r Read size a must_align user) r (value_at r.bus.memory size a)
+fault_keeps r (Store size a value must_align user) = write_keeps (refused r Write size a must_align user) r size a (cut_to size value)

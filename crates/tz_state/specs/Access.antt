@@ -1,4 +1,4 @@
--- Data accesses: the checks in their order, and how the machine answers.
+-- Data accesses (DDI0553, `MemA`, `MemU`): the checks in their order, and how the machine answers.
 use Rattle.std.specs.Prelude.{ℕ, ◌%◌, ◌==◌, Bool, true, false, ◌&&◌, ◌||◌, not, nat_le, if◌then◌else◌, List, [], ◌∷◌, ◌++◌, Option, Some, None, Result, Ok, Err}
 use Rattle.tz_table.specs.declared.units.Side.{Side}
 use Rattle.tz_table.specs.declared.units.Side.TheVariants.{Secure, NonSecure}
@@ -8,19 +8,52 @@ use Rattle.tz_model.specs.declared.board.Region.{Region}
 use Rattle.tz_model.specs.declared.board.RegionKind.{RegionKind}
 use Rattle.tz_model.specs.declared.board.RegionKind.TheVariants.{Rom, Ram}
 use Rattle.tz_model.specs.declared.report.Fault.{Fault}
-use Rattle.tz_model.specs.declared.report.Fault.TheVariants.{Unaligned, Violation, Precise}
+use Rattle.tz_model.specs.declared.report.Fault.TheVariants.{Unaligned, DataAccess, Violation, Precise}
 use Rattle.tz_model.specs.declared.report.Store as stored
-use Rattle.tz_model.specs.Board.{BoardValue, in_region}
+use Rattle.tz_model.specs.Board.{within, in_region}
 use Rattle.tz_model.specs.Ports.{Answering, Load, Store, cut_to}
 use Rattle.tz_state.specs.declared.asker.Asker.{Asker}
-use Rattle.tz_state.specs.Memory.{Memory, every, value_at, with_value}
-use Rattle.tz_state.specs.Attribution.{MapState, map_on, is_open}
-use Rattle.tz_state.specs.State.{State, asker_of}
+use Rattle.tz_state.specs.declared.request.Kind.{Kind}
+use Rattle.tz_state.specs.declared.request.Kind.TheVariants.{Read, Write, Fetch}
+use Rattle.tz_state.specs.declared.request.Request.{Request}
+use Rattle.tz_state.specs.Memory.{every, value_at, with_value}
+use Rattle.tz_state.specs.Attribution.{MapState, is_open}
+use Rattle.tz_state.specs.Protection.{permits}
+use Rattle.tz_state.specs.State.{Bus, State, map_in, mpu_of, asker_in, with_memory}
+
+-- ---- alignment
 
 abbrev pub is_aligned : Size → ℕ → Bool
 is_aligned Byte a = true
 is_aligned Half a = a % 2 == 0
 is_aligned Word a = a % 4 == 0
+
+-- an access that has to be aligned and isn't: where it is asked for so, and in the private peripheral space
+-- and above
+abbrev pub is_crooked : Size → ℕ → Bool → Bool
+is_crooked size a must_align = (must_align || nat_le 0xE0000000 a) && not (is_aligned size a)
+
+-- ---- attribution
+
+-- code of a side may access each byte
+unfoldable pub may_touch : MapState → Side → Size → ℕ → Bool
+may_touch m Secure size a = true
+may_touch m NonSecure size a = every (is_open m) a size
+
+-- ---- protection
+
+-- the system registers, and what is private beside them
+abbrev pub is_private : ℕ → Bool
+is_private a = within 0xE0000000 0xE00FFFFF a
+
+-- the MPU of the state lets the access have a byte; private space isn't asked of it
+abbrev pub lets : Bus → Request → ℕ → Bool
+lets b q a = is_private a || permits b.board.profile (mpu_of q.side b) a q.kind q.privileged q.negative
+
+unfoldable pub is_let : Bus → Request → Bool
+is_let b q = every (lets b q) q.addr q.size
+
+-- ---- the map
 
 -- some region holds the address
 unfoldable pub is_mapped : List Region → ℕ → Bool
@@ -36,40 +69,56 @@ unfoldable pub is_writable : List Region → ℕ → Bool
 is_writable [] a = false
 is_writable (r ∷ rs) a = if in_region r a then takes_writes r.kind else is_writable rs a
 
--- code of a side may access each byte
-unfoldable pub may_touch : MapState → Side → Size → ℕ → Bool
-may_touch m Secure size a = true
-may_touch m NonSecure size a = every (is_open m) a size
+abbrev pub takes : List Region → Kind → ℕ → Bool
+takes rs Read a = is_mapped rs a
+takes rs Write a = is_writable rs a
+takes rs Fetch a = is_mapped rs a
 
--- an access that has to be aligned and isn't: where its instruction wants it, and in the private
--- peripheral space and above
-abbrev pub is_crooked : Size → ℕ → Bool → Bool
-is_crooked size a must_align = (must_align || nat_le 0xE0000000 a) && not (is_aligned size a)
+-- ---- all checks
 
--- (own) the first check that fails: alignment, attribution, map
-abbrev pub checked : MapState → Side → Size → ℕ → Bool → Bool → Option Fault
-checked m side size a must_align mapped =
-    if is_crooked size a must_align then Some Unaligned
-    else if not (may_touch m side size a) then Some (Violation a)
-    else if not mapped then Some (Precise a)
+-- (own) the first check that fails: alignment, attribution, protection, the map. Each goes over all bytes, and
+-- tells the address of the access. In private space only privileged code goes on, and no map is asked
+unfoldable pub verdict : Bus → Request → Option Fault
+verdict b q =
+    if is_crooked q.size q.addr q.must_align then Some Unaligned
+    else if not (may_touch (map_in b) q.side q.size q.addr) then Some (Violation q.addr)
+    else if not (is_let b q) then Some (DataAccess q.addr q.side)
+    else if is_private q.addr then (if q.privileged then None else Some (Precise q.addr))
+    else if not (every (takes b.board.regions q.kind) q.addr q.size) then Some (Precise q.addr)
     else None
 
-unfoldable pub load_verdict : MapState → Side → Size → ℕ → Bool → Option Fault
-load_verdict m side size a must_align = checked m side size a must_align (every (is_mapped m.board.regions) a size)
+-- ---- the machine's answers
 
-unfoldable pub store_verdict : MapState → Side → Size → ℕ → Bool → Option Fault
-store_verdict m side size a must_align = checked m side size a must_align (every (is_writable m.board.regions) a size)
-
--- what the accesses of an instruction see and change: who asks, and the parts of the state behind the
--- registers, with the stores made so far
+-- what the accesses of an instruction see and change: who asks, and memory with the units that guard it, with
+-- the stores made so far
 pub record Reached : Type 0 where
   pub asker : Asker
-  pub memory : Memory
-  pub board : BoardValue
+  pub bus : Bus
   pub stores : List stored.Store
 
 abbrev pub reached_in : State → Reached
-reached_in s = record { asker = asker_of s; memory = s.memory; board = s.board; stores = [] }
+reached_in s = record { asker = asker_in s.core; bus = s.bus; stores = [] }
+
+-- an access of the code that asks; one that counts as unprivileged is so
+abbrev pub request_by : Asker → Kind → Size → ℕ → Bool → Bool → Request
+request_by k kind size a must_align user =
+    record {
+      addr = a;
+      size = size;
+      kind = kind;
+      side = k.side;
+      privileged = k.privileged && not user;
+      negative = k.negative;
+      must_align = must_align || k.aligned;
+    }
+
+-- (own) the system registers aren't built: an access to them that no check refuses gives a bus fault
+abbrev pub unbuilt : ℕ → Option Fault → Option Fault
+unbuilt a None = if is_private a then Some (Precise a) else None
+unbuilt a (Some fault) = Some fault
+
+abbrev pub refused : Reached → Kind → Size → ℕ → Bool → Bool → Option Fault
+refused r kind size a must_align user = unbuilt a (verdict r.bus (request_by r.asker kind size a must_align user))
 
 -- a read by its verdict
 abbrev pub read_by : Option Fault → Reached → ℕ → Reached × Result ℕ Fault
@@ -79,7 +128,10 @@ read_by None r word = (r, Ok word)
 -- a write of a number that is cut to its size, noted
 abbrev pub written_in : Reached → Size → ℕ → ℕ → Reached
 written_in r size a value =
-    record r { memory = with_value r.memory size a value; stores = r.stores ++ record { addr = a; size = size; value = value } ∷ [] }
+    record r {
+      bus = with_memory r.bus (with_value r.bus.memory size a value);
+      stores = r.stores ++ record { addr = a; size = size; value = value } ∷ [];
+    }
 
 abbrev pub write_by : Option Fault → Reached → Size → ℕ → ℕ → Reached × Result ℕ Fault
 write_by (Some fault) r size a value = (r, Err fault)
@@ -88,6 +140,6 @@ write_by None r size a value = (written_in r size a value, Ok 0)
 -- how the machine answers an access; registers alone decide its verdict, and no byte is read for it
 unfoldable pub access : Answering Reached
 access r (Load size a must_align user) =
-    read_by (load_verdict (map_on r.board) r.asker.side size a must_align) r (value_at r.memory size a)
+    read_by (refused r Read size a must_align user) r (value_at r.bus.memory size a)
 access r (Store size a value must_align user) =
-    write_by (store_verdict (map_on r.board) r.asker.side size a must_align) r size a (cut_to size value)
+    write_by (refused r Write size a must_align user) r size a (cut_to size value)

@@ -1,6 +1,10 @@
 pub mod Memory
 pub mod Zeros
+pub mod Regions
 pub mod Attribution
+pub mod Protection
+pub mod UnitRegisters
 pub mod State
 pub mod Access
 pub mod Fetch
+pub mod Target

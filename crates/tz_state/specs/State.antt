@@ -1,37 +1,79 @@
--- The state of the machine in its parts: the core, memory, and the board.
-use Rattle.std.specs.Prelude.{ℕ}
+-- The state of the machine in its parts: the core, memory with the units that guard it, and the board.
+use Rattle.std.specs.Prelude.{ℕ, ℤ, pos, int_lt, Bool, ◌/◌, ◌%◌, ◌==◌, Option}
 use Rattle.tz_table.specs.declared.units.Side.{Side}
 use Rattle.tz_model.specs.Board.{BoardValue}
 use Rattle.tz_regs.specs.declared.parts.Core.{Core}
 use Rattle.tz_regs.specs.declared.parts.Registers.{Registers}
 use Rattle.tz_regs.specs.declared.parts.Running.{Running}
-use Rattle.tz_regs.specs.Registers.{side_in}
+use Rattle.tz_regs.specs.Banks.{of_side, stacks_of, status_of}
+use Rattle.tz_regs.specs.Priority.{mask_priority}
+use Rattle.tz_regs.specs.Registers.{side_in, is_privileged}
 use Rattle.tz_state.specs.declared.asker.Asker.{Asker}
+use Rattle.tz_state.specs.declared.request.Exclusive.{Exclusive}
 use Rattle.tz_state.specs.Memory.{Memory}
-use Rattle.tz_state.specs.Attribution.{MapState, map_on}
+use Rattle.tz_state.specs.Attribution.{SauState, MapState}
+use Rattle.tz_state.specs.Protection.{MpuState}
 
-pub record State : Type 0 where
-  pub core : Core
+-- memory, what guards it, and the exclusive monitor, which holds one address and size or nothing
+pub record Bus : Type 0 where
+  pub sau : SauState
+  pub mpu_s : MpuState
+  pub mpu_ns : MpuState
+  pub monitor : Option Exclusive
   pub memory : Memory
   pub board : BoardValue
 
+pub record State : Type 0 where
+  pub core : Core
+  pub bus : Bus
+
 -- what decides the attribution of an address
+abbrev pub map_in : Bus → MapState
+map_in b = record { regions = b.board.regions; sau = b.sau }
+
 abbrev pub map_of : State → MapState
-map_of s = map_on s.board
+map_of s = map_in s.bus
+
+abbrev pub mpu_of : Side → Bus → MpuState
+mpu_of side b = of_side side b.mpu_s b.mpu_ns
 
 -- whose code runs; a locked machine counts as Secure
 abbrev pub side_of : State → Side
 side_of s = side_in s.core
 
--- the running code as it asks for accesses
-abbrev pub asker_of : State → Asker
-asker_of s = record { side = s.core.run.side }
+-- code of a side is privileged
+abbrev pub is_privileged_in : Side → Core → Bool
+is_privileged_in side c = is_privileged c.registers.ipsr (stacks_of side c)
 
-abbrev pub with_memory : State → Memory → State
-with_memory s m = record s { memory = m }
+-- the execution priority is negative
+abbrev pub is_negative_at : ℤ → Bool
+is_negative_at priority = int_lt priority (pos 0)
+
+-- CCR.UNALIGN_TRP
+abbrev pub traps_unaligned : ℕ → Bool
+traps_unaligned ccr = ccr / 8 % 2 == 1
+
+-- the running code as it asks for accesses
+abbrev pub asker_in : Core → Asker
+asker_in c =
+    record {
+      side = c.run.side;
+      privileged = is_privileged_in c.run.side c;
+      negative = is_negative_at (mask_priority c.masks);
+      aligned = traps_unaligned (status_of c.run.side c).ccr;
+    }
+
+abbrev pub with_memory : Bus → Memory → Bus
+with_memory b m = record b { memory = m }
+
+abbrev pub with_monitor : Bus → Option Exclusive → Bus
+with_monitor b e = record b { monitor = e }
 
 abbrev pub with_core : State → Core → State
 with_core s c = record s { core = c }
+
+abbrev pub with_bus : State → Bus → State
+with_bus s b = record s { bus = b }
 
 abbrev pub with_run : State → Running → State
 with_run s r = record s { core = record s.core { run = r } }

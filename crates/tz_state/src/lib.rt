@@ -1,4 +1,4 @@
-//! The state of the machine, and how it answers looks: attribution, accesses, fetches.
+//! The state of the machine, and how it answers looks: attribution, protection, accesses, fetches, TT.
 //!
 //! The definitions stand in `specs/`; the core is that of `tz_regs`. The one call is a law.
 #![tactic(auto)]
@@ -8,8 +8,16 @@ ghost use Rattle.tz_model.specs.Ports.{Access};
 ghost use Rattle.tz_state.specs.Access.{Reached, access};
 
 mod asker;
+mod fetcher;
+mod probe;
+mod request;
+mod units;
 
 pub use asker::Asker;
+pub use fetcher::Fetcher;
+pub use probe::Probe;
+pub use request::{Exclusive, Kind, Request};
+pub use units::{Attribute, Bounds, MpuRegister, SauRegister};
 
 /// An access that faults changes nothing.
 pub fn faulting_access_changes_nothing()
