@@ -1,5 +1,5 @@
 -- The state in which the machine starts (DDI0553, `TakeReset`).
-use Rattle.std.specs.Prelude.{ℕ, ◌+◌, Bool, true, false, ◌&&◌, if◌then◌else◌, List, [], ◌∷◌, None}
+use Rattle.std.specs.Prelude.{ℕ, ◌+◌, Bool, true, false, ◌&&◌, if◌then◌else◌, List, [], ◌∷◌}
 use Rattle.tz_table.specs.declared.units.Size.TheVariants.{Word}
 use Rattle.tz_model.specs.Words.{wrap}
 use Rattle.tz_model.specs.Board.{BoardValue}
@@ -8,8 +8,8 @@ use Rattle.tz_state.specs.Memory.{Memory, every, word_at, with_bytes}
 use Rattle.tz_state.specs.Zeros.{zero_memory}
 use Rattle.tz_regs.specs.Reset.{reset_core}
 use Rattle.tz_state.specs.Access.{is_mapped}
-use Rattle.tz_state.specs.State.{Bus, State}
-use Rattle.tz_state.specs.UnitRegisters.{reset_sau, reset_mpu}
+use Rattle.tz_state.specs.State.{State}
+use Rattle.tz_state.specs.UnitRegisters.{reset_bus}
 
 -- the bytes of segments put into memory, one segment after the other
 unfoldable pub with_segments : Memory → List SegmentValue → Memory
@@ -19,18 +19,6 @@ with_segments m (s ∷ more) = with_segments (with_bytes m s.base s.bytes) more
 -- (own) memory is zero but for the two images
 abbrev pub boot_memory : BoardValue → ImageValue → ImageValue → Memory
 boot_memory b secure nonsecure = with_segments (with_segments (zero_memory b.regions) secure.segments) nonsecure.segments
-
--- the units that guard memory as they start: the SAU as the board says, and both MPUs off
-abbrev pub reset_bus : BoardValue → Memory → Bus
-reset_bus b m =
-    record {
-      sau = reset_sau b.sau_regions b.sau;
-      mpu_s = reset_mpu b.mpu_secure;
-      mpu_ns = reset_mpu b.mpu_nonsecure;
-      monitor = None;
-      memory = m;
-      board = b;
-    }
 
 -- the values of a reset, with this memory, stack pointer and start
 abbrev pub reset : BoardValue → Memory → ℕ → ℕ → Bool → State

@@ -3,8 +3,8 @@ pub mod Zeros
 pub mod Regions
 pub mod Attribution
 pub mod Protection
-pub mod UnitRegisters
 pub mod State
+pub mod UnitRegisters
 pub mod Access
 pub mod Fetch
 pub mod Target

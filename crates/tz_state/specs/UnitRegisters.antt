@@ -3,6 +3,7 @@ use Rattle.std.specs.Prelude.{ℕ, ◌+◌, ◌-◌, ◌*◌, ◌/◌, ◌%◌, 
 use Rattle.tz_model.specs.declared.board.Profile.{Profile}
 use Rattle.tz_model.specs.declared.board.Profile.TheVariants.{V80, V81}
 use Rattle.tz_model.specs.declared.board.SauRegion.{SauRegion}
+use Rattle.tz_model.specs.Board.{BoardValue}
 use Rattle.tz_state.specs.declared.units.Bounds.{Bounds}
 use Rattle.tz_state.specs.declared.units.SauRegister.{SauRegister}
 use Rattle.tz_state.specs.declared.units.SauRegister.TheVariants as sau
@@ -11,6 +12,8 @@ use Rattle.tz_state.specs.declared.units.MpuRegister.TheVariants as mpu
 use Rattle.tz_state.specs.Regions.{no_bounds}
 use Rattle.tz_state.specs.Attribution.{SauState}
 use Rattle.tz_state.specs.Protection.{MpuState}
+use Rattle.tz_state.specs.Memory.{Memory}
+use Rattle.tz_state.specs.State.{Bus}
 
 -- ---- regions by number
 
@@ -140,3 +143,15 @@ reset_sau count rs =
 -- an MPU with so many regions is off
 unfoldable pub reset_mpu : ℕ → MpuState
 reset_mpu count = record { ctrl = 0; rnr = 0; mair0 = 0; mair1 = 0; regions = replicate count no_bounds }
+
+-- the units that guard memory as they start: the SAU as the board says, and both MPUs off
+abbrev pub reset_bus : BoardValue → Memory → Bus
+reset_bus b m =
+    record {
+      sau = reset_sau b.sau_regions b.sau;
+      mpu_s = reset_mpu b.mpu_secure;
+      mpu_ns = reset_mpu b.mpu_nonsecure;
+      monitor = None;
+      memory = m;
+      board = b;
+    }
