@@ -153,21 +153,25 @@ impl Machine {
         ran(touched, code)
     }
 
-    /// Goes on after an instruction.
-    fn go_on(&mut self, insn: &Insn, touched: bool, code: &Code, outcome: Outcome) -> Ending
-        ensures { (stores : List Store) → goes_on insn.now self.old touched code.now stores outcome ≡ record { state = self.new; stores = stores; ending = result } }
+    /// Goes on after an instruction, with the core before it.
+    fn go_on(
+        &mut self,
+        before: &Core,
+        insn: &Insn,
+        touched: bool,
+        code: &Code,
+        outcome: Outcome,
+    ) -> Ending
+        ensures { (stores : List Store) → goes_on insn.now before.now self.old touched code.now stores outcome ≡ record { state = self.new; stores = stores; ending = result } }
     {
+        self.pass(insn);
         match outcome {
-            Outcome::Next | Outcome::Sleep { event: _ } => {
-                self.pass(insn);
-                self.go_next(touched, code)
-            }
+            Outcome::Next | Outcome::Sleep { event: _ } => self.go_next(touched, code),
             Outcome::Jump(to) => {
-                self.pass(insn);
                 self.core.registers.pc = to;
                 ran(touched, code)
             }
-            Outcome::Exchange { target, ns } => self.exchange(insn, touched, code, target, ns),
+            Outcome::Exchange { target, ns } => self.exchange(before, touched, code, target, ns),
         }
     }
 
@@ -184,15 +188,21 @@ impl Machine {
         ran(touched, code)
     }
 
-    /// Exchanges to a target.
-    fn exchange(&mut self, insn: &Insn, touched: bool, code: &Code, target: u32, ns: bool) -> Ending
-        ensures { (stores : List Store) → exchanged self.old (past insn.now self.old) touched code.now stores target ns ≡ record { state = self.new; stores = stores; ending = result } }
+    /// Exchanges to a target, with the core before the instruction.
+    fn exchange(
+        &mut self,
+        before: &Core,
+        touched: bool,
+        code: &Code,
+        target: u32,
+        ns: bool,
+    ) -> Ending
+        ensures { (stores : List Store) → exchanged before.now self.old touched code.now stores target ns ≡ record { state = self.new; stores = stores; ending = result } }
     {
         if target == 0xfeff_fffe || target == 0xfeff_ffff {
-            let side = self.core.run.side;
-            return self.fault(true, Fault::InvPc(side));
+            self.core = *before;
+            return self.fault(true, Fault::InvPc(before.run.side));
         }
-        self.pass(insn);
         self.move_to(touched, code, target, ns)
     }
 
@@ -251,8 +261,9 @@ impl Machine {
         if is_passed_over(&self.core.registers) && !ignores_condition(self.core.run.side, insn) {
             return self.skip(touched, code);
         }
+        let before = self.core;
         match self.execute(insn, stores) {
-            Ok(outcome) => self.go_on(insn, touched, code, outcome),
+            Ok(outcome) => self.go_on(&before, insn, touched, code, outcome),
             Err(fault) => self.fault(touched, fault),
         }
     }

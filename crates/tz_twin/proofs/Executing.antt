@@ -50,19 +50,19 @@ pub record Alike (o : Open) (x x' : Rest) (e e' : Executed) : Type 0 where
 
 -- the step goes on alike
 concluded : (o p : Open) (x x' : Rest) (n n' : Memory) (touched : Bool) (code : Code) (i : Insn) (stores : List Store) (out : Result Outcome Fault) → Follows o p → Beside o x x' n n'
-    → Both (join o x) (join o x') (executes touched code i (record { state = left p x n; stores = stores; outcome = out })) (executes touched code i (record { state = left p x' n'; stores = stores; outcome = out }))
+    → Both (join o x) (join o x') (executes (join o x).core touched code i (record { state = left p x n; stores = stores; outcome = out })) (executes (join o x').core touched code i (record { state = left p x' n'; stores = stores; outcome = out }))
 concluded o p x x' n n' touched code i stores (Ok outcome) f h = goes_on_same o p x x' n n' touched code i stores outcome f h
 concluded o p x x' n n' touched code i stores (Err fault) f h = both_lock o p x x' n n' touched (Some fault) stores f h
 
 executes_same : (o : Open) (x x' : Rest) (touched : Bool) (code : Code) (i : Insn) (e e' : Executed) → Alike o x x' e e'
-    → Both (join o x) (join o x') (executes touched code i e) (executes touched code i e')
+    → Both (join o x) (join o x') (executes (join o x).core touched code i e) (executes (join o x').core touched code i e')
 executes_same o x x' touched code i e e' a =
     let here : e ≡ record { state = left a.part x a.memory; stores = e.stores; outcome = e.outcome } =
     λ j. record { state = a.state j; stores = e.stores; outcome = e.outcome } in
     let there : e' ≡ record { state = left a.part x' a.memory'; stores = e.stores; outcome = e.outcome } =
     λ j. record { state = a.state' j; stores = sym a.stores j; outcome = sym a.outcome j } in
-    subst (λ (y : Executed). Both (join o x) (join o x') (executes touched code i y) (executes touched code i e')) (sym here)
-    (subst (λ (y : Executed). Both (join o x) (join o x') (executes touched code i (record { state = left a.part x a.memory; stores = e.stores; outcome = e.outcome })) (executes touched code i y)) (sym there)
+    subst (λ (y : Executed). Both (join o x) (join o x') (executes (join o x).core touched code i y) (executes (join o x').core touched code i e')) (sym here)
+    (subst (λ (y : Executed). Both (join o x) (join o x') (executes (join o x).core touched code i (record { state = left a.part x a.memory; stores = e.stores; outcome = e.outcome })) (executes (join o x').core touched code i y)) (sym there)
     (concluded o a.part x x' a.memory a.memory' touched code i e.stores e.outcome a.follows a.beside))
 
 alike_cond : (o : Open) (x x' : Rest) (t : Bool) (e f e' f' : Executed) → Alike o x x' e e' → Alike o x x' f f' → Alike o x x' (cond t e f) (cond t e' f')

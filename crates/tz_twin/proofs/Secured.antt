@@ -21,7 +21,8 @@ use Rattle.tz_regs.specs.ItState.{it_advanced}
 use Rattle.tz_regs.specs.Priority.{mask_priority}
 use Rattle.tz_regs.specs.Special.{named_of}
 use Rattle.tz_state.specs.declared.request.Exclusive.{Exclusive}
-use Rattle.tz_state.specs.State.{State, side_of, with_pc}
+use Rattle.tz_regs.specs.declared.parts.Core.{Core}
+use Rattle.tz_state.specs.State.{State, side_of, with_core, with_pc}
 use Rattle.tz_state.specs.Access.{is_aligned, Reached, reached_in, read_by, write_by, access}
 use Rattle.tz_state.specs.Fetch.{fetch, own_fetch}
 use Rattle.tz_exec.specs.declared.family.Family.{Family}
@@ -59,18 +60,18 @@ touching_branch s0 s before code stores target e =
     (touching_returned s0 (branched s target true) before code stores e)
     (stays s0 (branched s target true) before code stores e)
 
-touching_exchanged : (s0 s p : State) (before : Seen) (code : Code) (stores : List Store) (target : ℕ) (ns : Bool) → Of before s → Of before p
-    → Touching s0 before (exchanged (secured s) (secured p) true code stores target ns)
-touching_exchanged s0 s p before code stores target ns e f =
-    touching_cond s0 before (is_fnc_return target) _ _ (touching_locks s0 (secured s) before _ stores e)
-    (touching_cond s0 before ns _ _ (touching_branch s0 p before code stores target f)
-    (stays s0 (branched p target (target % 2 == 1)) before code stores f))
+touching_exchanged : (s0 p : State) (before : Seen) (core : Core) (code : Code) (stores : List Store) (target : ℕ) (ns : Bool) → Of before p
+    → Touching s0 before (exchanged core (secured p) true code stores target ns)
+touching_exchanged s0 p before core code stores target ns e =
+    touching_cond s0 before (is_fnc_return target) _ _ (touching_locks s0 (with_core p core) before _ stores e)
+    (touching_cond s0 before ns _ _ (touching_branch s0 p before code stores target e)
+    (stays s0 (branched p target (target % 2 == 1)) before code stores e))
 
-touching_goes_on : (s0 s : State) (before : Seen) (code : Code) (i : Insn) (stores : List Store) (out : Outcome) → Of before s → Touching s0 before (goes_on i (secured s) true code stores out)
-touching_goes_on s0 s before code i stores Next e = stays s0 (with_pc (past i s) (wrap (s.core.registers.pc + length_of code))) before code stores e
-touching_goes_on s0 s before code i stores (Jump to) e = stays s0 (with_pc (past i s) to) before code stores e
-touching_goes_on s0 s before code i stores (Exchange target ns) e = touching_exchanged s0 s (past i s) before code stores target ns e e
-touching_goes_on s0 s before code i stores (Sleep event) e = stays s0 (with_pc (past i s) (wrap (s.core.registers.pc + length_of code))) before code stores e
+touching_goes_on : (s0 s : State) (before : Seen) (core : Core) (code : Code) (i : Insn) (stores : List Store) (out : Outcome) → Of before s → Touching s0 before (goes_on i core (secured s) true code stores out)
+touching_goes_on s0 s before core code i stores Next e = stays s0 (with_pc (past i s) (wrap (s.core.registers.pc + length_of code))) before code stores e
+touching_goes_on s0 s before core code i stores (Jump to) e = stays s0 (with_pc (past i s) to) before code stores e
+touching_goes_on s0 s before core code i stores (Exchange target ns) e = touching_exchanged s0 (past i s) before core code stores target ns e
+touching_goes_on s0 s before core code i stores (Sleep event) e = stays s0 (with_pc (past i s) (wrap (s.core.registers.pc + length_of code))) before code stores e
 
 touching_skips : (s0 s : State) (before : Seen) (code : Code) → Of before s → Touching s0 before (skips (secured s) true code)
 touching_skips s0 s before code e = stays s0 (with_pc (with_it s (it_advanced s.core.registers.it)) (wrap (s.core.registers.pc + length_of code))) before code [] e
@@ -83,16 +84,16 @@ record Stays (s : State) (e : Executed) : Type 0 where
   pub locked : e.state.core.run.locked ≡ false
   pub board : e.state.bus.board ≡ s.bus.board
 
-touching_concludes : (s0 s : State) (before : Seen) (code : Code) (i : Insn) (stores : List Store) (out : Result Outcome Fault) → Of before s → Touching s0 before (concludes i (secured s) true code stores out)
-touching_concludes s0 s before code i stores (Ok outcome) e = touching_goes_on s0 s before code i stores outcome e
-touching_concludes s0 s before code i stores (Err fault) e = touching_locks s0 (secured s) before (Some fault) stores e
+touching_concludes : (s0 s : State) (before : Seen) (core : Core) (code : Code) (i : Insn) (stores : List Store) (out : Result Outcome Fault) → Of before s → Touching s0 before (concludes i core (secured s) true code stores out)
+touching_concludes s0 s before core code i stores (Ok outcome) e = touching_goes_on s0 s before core code i stores outcome e
+touching_concludes s0 s before core code i stores (Err fault) e = touching_locks s0 (secured s) before (Some fault) stores e
 
-touching_executes : (s0 s : State) (before : Seen) (code : Code) (i : Insn) (e : Executed) → Of before s → Stays s e → Touching s0 before (executes true code i e)
-touching_executes s0 s before code i e is h =
+touching_executes : (s0 s : State) (before : Seen) (core : Core) (code : Code) (i : Insn) (e : Executed) → Of before s → Stays s e → Touching s0 before (executes core true code i e)
+touching_executes s0 s before core code i e is h =
     let same : e.state ≡ secured e.state =
     λ j. record e.state { core = record e.state.core { run = record e.state.core.run { side = h.side j; locked = h.locked j } } } in
-    subst (λ (r : State). Touching s0 before (concludes i r true code e.stores e.outcome)) (sym same)
-    (touching_concludes s0 e.state before code i e.stores e.outcome (is ∙ sym h.board))
+    subst (λ (r : State). Touching s0 before (concludes i core r true code e.stores e.outcome)) (sym same)
+    (touching_concludes s0 e.state before core code i e.stores e.outcome (is ∙ sym h.board))
 
 stays_cond : (s : State) (t : Bool) (e f : Executed) → Stays s e → Stays s f → Stays s (cond t e f)
 stays_cond s true e f p q = p
@@ -178,7 +179,7 @@ touching_placed : (s : State) (before : Seen) (code : Code) (i : Insn) → Of be
 touching_placed s before code i e =
     touching_cond (secured s) before (is_misplaced i s.core.registers) _ _ (touching_locks (secured s) (secured s) before (Some Undef) [] e)
     (touching_cond (secured s) before (is_passed_over s.core.registers && not (ignores_condition Secure i)) _ _ (touching_skips (secured s) s before code e)
-    (touching_executes (secured s) s before code i _ e (stays_family s i (family_of i))))
+    (touching_executes (secured s) s before (secured s).core code i _ e (stays_family s i (family_of i))))
 
 touching_decoded : (s : State) (before : Seen) (code : Code) (d : Decoded) → Of before s → Touching (secured s) before (decoded (secured s) true code d)
 touching_decoded s before code (One i width) e = touching_placed s before code i e
