@@ -9,6 +9,8 @@ mod block;
 mod error;
 mod memory;
 mod numbers;
+#[cfg(test)]
+mod tests;
 
 pub use error::{NotMapped, Refused};
 pub use memory::Memory;
