@@ -1,199 +1,185 @@
--- The walk over the blocks.
-use Rattle.std.proofs.Common.{◌≡◌, ◌≢◌, ◌⊎◌, inl, inr, ℕ, zero, suc, ◌+◌, ◌-◌, ◌<◌, ◌≤◌, true, false, cond, List, [], ◌∷◌, ◌++◌, length, get_or, drop, Option, Some, None, slice_get, refl, sym, ap, ◌∙◌, subst, arith, add-one, append_assoc, append-nil}
-use Rattle.std.specs.Prelude.{replicate, unwrap_or}
-use Rattle.std.specs.Option.{is_some}
-use Rattle.std.specs.Ordering.{nat_cmp, eq_by_cmp}
-use Rattle.std.specs.Cmp.{nat_cmp_total}
-use Rattle.std.specs.FinMap.{FinMap, get, insert, find, get-from_entries, get-insert, same_map, nat_cmp-IsAntisymmetric}
-use Rattle.std.proofs.Math.ListN.{set, length-set}
+-- Where bytes stand among blocks.
+use Rattle.std.proofs.Common.{◌≡◌, ◌⊎◌, ℕ, zero, suc, ◌+◌, ◌-◌, ◌^◌, ◌<◌, ◌≤◌, Bool, true, false, List, [], ◌∷◌, length, get_or, Option, Some, None, slice_get, refl, sym, ap, ◌∙◌, subst, arith}
+use Rattle.std.specs.Prelude.{◌&&◌, map}
+use Rattle.std.specs.Option.{is_some, IfSome}
 use Rattle.std.proofs.lemmas.Bool.Decides.{nat_tests}
-use Rattle.std.proofs.lemmas.Bool.{cond_both, cases_eq}
-use Rattle.tz_mem.specs.declared.block.Block.{Block}
-use Rattle.tz_mem.specs.Blocks.{holds, byte_in, IsPlace, entries_of, memory_of}
+use Rattle.tz_table.specs.declared.units.Size.{Size}
+use Rattle.tz_table.specs.declared.units.Size.TheVariants.{Byte, Half, Word}
 use Rattle.tz_model.specs.declared.board.Region.{Region}
-use Rattle.tz_state.specs.Memory.{Memory, byte_at, with_byte}
-use Rattle.tz_model.specs.Image.{entries_from}
-use Rattle.tz_state.specs.Zeros.{zero_entries}
+use Rattle.tz_model.specs.Board.{in_region}
+use Rattle.tz_model.specs.Words.{wrap}
+use Rattle.tz_state.specs.Memory.{every}
+use Rattle.tz_state.specs.Access.{is_mapped, is_writable, takes_writes}
+use Rattle.tz_mem.specs.Blocks.{BlockValue, region_of, holds, byte_in, place_in, IsPlace, is_apart, holds_all, run_in, IsRun}
 
--- none of the first n blocks holds the address
-abbrev pub Passed : List Block → ℕ → ℕ → Type 0
-Passed ks q zero = Unit {0}
-Passed [] q (suc n) = ⊥
-Passed (p ∷ ks) q (suc n) = (holds p q ≡ false) × Passed ks q n
+pub in_of : (k : BlockValue) (a : ℕ) → holds k a ≡ true → (k.base + (a - k.base) ≡ a) × (a - k.base < length k.bytes)
+in_of k a is = grind (arith, nat_tests)
 
-passed_suc : (ks : List Block) (q n : ℕ) (p : Block) → Passed ks q n → n < length ks → p ≡ get_or ks n p → holds p q ≡ false → Passed ks q (suc n)
-passed_suc [] q n p h l is not = absurd (omega arith)
-passed_suc (r ∷ ks) q zero p h l is not = (subst (λ (x : Block). holds x q ≡ false) is not, tt)
-passed_suc (r ∷ ks) q (suc n) p h l is not = (h.0, passed_suc ks q n p h.1 (omega arith) is not)
+pub out_of : (k : BlockValue) (a : ℕ) → holds k a ≡ false → (a < k.base) ⊎ (k.base + length k.bytes ≤ a)
+out_of k a not = grind (arith, nat_tests)
 
-pub passed_more : (ks : List Block) (q n : ℕ) (p : Block) → Passed ks q n → n < length ks → p ≡ get_or ks n p → holds p q ≡ false → Passed ks q (n + 1)
-passed_more ks q n p h l is not = rw add-one (passed_suc ks q n p h l is not)
+pub holds_at : (k : BlockValue) (a j : ℕ) → k.base + j ≡ a → j < length k.bytes → (holds k a ≡ true) × (a - k.base ≡ j)
+holds_at k a j e l = grind (arith, nat_tests)
 
-pub place_past : (ks : List Block) (q n j : ℕ) (p : Block) → Passed ks q n → n < length ks → p ≡ get_or ks n p → p.base + j ≡ q → j < length p.bytes.items → IsPlace ks q n j
-place_past [] q n j p h l is at small = absurd (omega arith)
-place_past (r ∷ ks) q zero j p h l is at small = subst (λ (x : Block). (x.base + j ≡ q) × (j < length x.bytes.items)) is (at, small)
-place_past (r ∷ ks) q (suc n) j p h l is at small = (h.0, place_past ks q n j p h.1 (omega arith) is at small)
+all_of : (k : BlockValue) (a last : ℕ) → a ≤ last → holds_all k a last ≡ true → (k.base + (a - k.base) ≡ a) × (a - k.base + (last - a) < length k.bytes)
+all_of k a last l is = grind (arith, nat_tests)
 
-pub none_after : (ks : List Block) (q n : ℕ) → Passed ks q n → length ks ≤ n → byte_in ks q ≡ None
-none_after [] q n h l = refl
-none_after (p ∷ ks) q zero h l = absurd (omega arith)
-none_after (p ∷ ks) q (suc n) h l = rw h.0 (none_after ks q n h.1 (omega arith))
+apart_at : (k : BlockValue) (a last b : ℕ) → is_apart k a last ≡ true → a ≤ b → b ≤ last → holds k b ≡ false
+apart_at k a last b is l h = grind (arith, nat_tests)
 
-pub not_holds_above : (p : Block) (q : ℕ) → q < p.base → holds p q ≡ false
-not_holds_above p q l = grind (arith, nat_tests)
-
-pub not_holds_past : (p : Block) (q : ℕ) → length p.bytes.items ≤ q - p.base → holds p q ≡ false
-not_holds_past p q l = grind (arith, nat_tests)
-
-tied : (q k : ℕ) → q ≡ k → eq_by_cmp nat_cmp q k ≡ true
-tied q k e = grind (arith, nat_tests)
-
-untied : (q k : ℕ) → q ≢ k → eq_by_cmp nat_cmp q k ≡ false
-untied q k e = grind (arith, nat_tests)
-
-find_here : (base : ℕ) (bs : List ℕ) (es : List (ℕ × ℕ)) (j q : ℕ) → base + j ≡ q → j < length bs → find nat_cmp q (entries_from base bs ++ es) ≡ slice_get bs j
-find_here base [] es j q e l = absurd (omega arith)
-find_here base (b ∷ bs) es zero q e l = rw (tied q base (omega arith)) refl
-find_here base (b ∷ bs) es (suc j) q e l = rw (untied q base (omega arith)) (find_here (base + 1) bs es j q (omega arith) (omega arith))
-
-find_past : (base : ℕ) (bs : List ℕ) (es : List (ℕ × ℕ)) (q : ℕ) → (q < base) ⊎ (base + length bs ≤ q) → find nat_cmp q (entries_from base bs ++ es) ≡ find nat_cmp q es
-find_past base [] es q out = refl
-find_past base (b ∷ bs) es q (inl below) = rw (untied q base (omega arith)) (find_past (base + 1) bs es q (inl (omega arith)))
-find_past base (b ∷ bs) es q (inr above) = rw (untied q base (omega arith)) (find_past (base + 1) bs es q (inr (omega arith)))
-
-out_of : (p : Block) (q : ℕ) → holds p q ≡ false → (q < p.base) ⊎ (p.base + length p.bytes.items ≤ q)
-out_of p q not = grind (arith, nat_tests)
-
-in_of : (p : Block) (q : ℕ) → holds p q ≡ true → (p.base + (q - p.base) ≡ q) × (q - p.base < length p.bytes.items)
-in_of p q is = grind (arith, nat_tests)
-
-holds_at : (p : Block) (q j : ℕ) → p.base + j ≡ q → j < length p.bytes.items → (holds p q ≡ true) × (q - p.base ≡ j)
-holds_at p q j e l = grind (arith, nat_tests)
-
-find_blocks : (ks : List Block) (q : ℕ) → find nat_cmp q (entries_of ks) ≡ byte_in ks q
-find_blocks [] q = refl
-find_blocks (p ∷ ks) q = cond_both (holds p q) (slice_get p.bytes.items (q - p.base)) (byte_in ks q) (λ x. find nat_cmp q (entries_of (p ∷ ks)) ≡ x)
-    (λ is. let h = in_of p q is in find_here p.base p.bytes.items (entries_of ks) (q - p.base) q h.0 h.1)
-    (λ not. find_past p.base p.bytes.items (entries_of ks) q (out_of p q not) ∙ find_blocks ks q)
-
--- what the map has at an address
-pub get-memory_of : (ks : List Block) (q : ℕ) → get (memory_of ks) q ≡ byte_in ks q
-unfolding memory_of
-get-memory_of ks q = get-from_entries nat_cmp_total (entries_of ks) q ∙ find_blocks ks q
-
-pub index_of_place : (ks : List Block) (q i j : ℕ) → IsPlace ks q i j → i < length ks
-index_of_place [] q i j h = absurd h
-index_of_place (p ∷ ks) q zero j h = omega arith
-index_of_place (p ∷ ks) q (suc i) j h = let l = index_of_place ks q i j h.1 in omega (arith, l)
-
-pub offset_of_place : (ks : List Block) (q i j : ℕ) (p : Block) → IsPlace ks q i j → p ≡ get_or ks i p → j < length p.bytes.items
-offset_of_place [] q i j p h is = absurd h
-offset_of_place (r ∷ ks) q zero j p h is = subst (λ (x : Block). j < length x.bytes.items) (sym is) h.1
-offset_of_place (r ∷ ks) q (suc i) j p h is = offset_of_place ks q i j p h.1 is
-
-pub byte_of_place : (ks : List Block) (q i j : ℕ) (p : Block) → IsPlace ks q i j → p ≡ get_or ks i p → byte_in ks q ≡ slice_get p.bytes.items j
-byte_of_place [] q i j p h is = absurd h
-byte_of_place (r ∷ ks) q zero j p h is = let e = holds_at r q j h.0 h.1 in rw (e.0, e.1) (ap (λ (x : Block). slice_get x.bytes.items j) (sym is))
-byte_of_place (r ∷ ks) q (suc i) j p h is = rw h.0 (byte_of_place ks q i j p h.1 is)
-
--- a byte of a list after a write of one
-set_here : (xs : List ℕ) (i b : ℕ) → i < length xs → slice_get (set xs i b) i ≡ Some b
-set_here [] i b l = absurd (omega arith)
-set_here (x ∷ xs) zero b l = refl
-set_here (x ∷ xs) (suc i) b l = set_here xs i b (omega arith)
-
-set_there : (xs : List ℕ) (i k b : ℕ) → k ≢ i → slice_get (set xs i b) k ≡ slice_get xs k
-set_there [] i k b ne = refl
-set_there (x ∷ xs) zero zero b ne = absurd (ne refl)
-set_there (x ∷ xs) zero (suc k) b ne = refl
-set_there (x ∷ xs) (suc i) zero b ne = refl
-set_there (x ∷ xs) (suc i) (suc k) b ne = set_there xs i k b (λ e. ne (ap suc e))
-
--- one piece after a write of one byte
-byte_set : (p p' : Block) (q j b r : ℕ) (other : Option ℕ) → p'.base ≡ p.base → p'.bytes.items ≡ set p.bytes.items j b → p.base + j ≡ q → j < length p.bytes.items → cond (holds p' r) (slice_get p'.bytes.items (r - p'.base)) other ≡ cond (eq_by_cmp nat_cmp r q) (Some b) (cond (holds p r) (slice_get p.bytes.items (r - p.base)) other)
-byte_set p p' q j b r other base bytes at small =
-    let len : length (set p.bytes.items j b) ≡ length p.bytes.items = length-set p.bytes.items j b in
-    rw (base, bytes, len) (elim (cases_eq r q) [
-      | inl same ↦
-          let here = holds_at p r j (omega arith) small in
-          rw (tied r q same, here.0, here.1) (set_here p.bytes.items j b small)
-      | inr other_place ↦
-          let ne : r - p.base ≢ j ⊎ (holds p r ≡ false) = grind (arith, nat_tests) in
-          rw (untied r q other_place) (elim ne [
-            | inl away ↦ ap (λ x. cond (holds p r) x other) (set_there p.bytes.items j (r - p.base) b away)
-            | inr not ↦ rw not refl
-          ])
-    ])
-
-byte_in-set : (ks : List Block) (q i j b r : ℕ) (p p' : Block) → IsPlace ks q i j → p ≡ get_or ks i p → p'.base ≡ p.base → p'.bytes.items ≡ set p.bytes.items j b → byte_in (set ks i p') r ≡ cond (eq_by_cmp nat_cmp r q) (Some b) (byte_in ks r)
-byte_in-set [] q i j b r p p' h is base bytes = absurd h
-byte_in-set (x ∷ ks) q zero j b r p p' h is base bytes =
-    byte_set x p' q j b r (byte_in ks r) (base ∙ ap (λ (y : Block). y.base) is) (bytes ∙ ap (λ (y : Block). set y.bytes.items j b) is) h.0 h.1
-byte_in-set (x ∷ ks) q (suc i) j b r p p' h is base bytes =
-    rw (byte_in-set ks q i j b r p p' h.1 is base bytes) (elim (cases_eq r q) [
-      | inl same ↦ let not : holds x r ≡ false = subst (λ k. holds x k ≡ false) (sym same) h.0 in rw (tied r q same, not) refl
-      | inr away ↦ rw (untied r q away) refl
-    ])
-
--- a write of one byte
-pub memory_of-set : (ks : List Block) (q i j b : ℕ) (p p' : Block) → IsPlace ks q i j → p ≡ get_or ks i p → p'.base ≡ p.base → p'.bytes.items ≡ set p.bytes.items j b → memory_of (set ks i p') ≡ insert (memory_of ks) q b
-memory_of-set ks q i j b p p' h is base bytes =
-    same_map nat_cmp_total nat_cmp-IsAntisymmetric _ _ (λ r.
-    get-memory_of (set ks i p') r ∙ byte_in-set ks q i j b r p p' h is base bytes
-    ∙ ap (λ x. cond (eq_by_cmp nat_cmp r q) (Some b) x) (sym (get-memory_of ks r)) ∙ sym (get-insert nat_cmp_total (memory_of ks) q b r))
-
-pub get_here : (xs : List ℕ) (i x : ℕ) → i < length xs → x ≡ get_or xs i x → slice_get xs i ≡ Some x
-get_here [] i x l is = absurd (omega arith)
-get_here (y ∷ xs) zero x l is = ap Some (sym is)
-get_here (y ∷ xs) (suc i) x l is = get_here xs i x (omega arith) is
-
-slice_get_some : (xs : List ℕ) (j : ℕ) → j < length xs → is_some (slice_get xs j) ≡ true
+pub slice_get_some : (xs : List ℕ) (j : ℕ) → j < length xs → is_some (slice_get xs j) ≡ true
 slice_get_some [] j l = absurd (omega arith)
 slice_get_some (x ∷ xs) zero l = refl
 slice_get_some (x ∷ xs) (suc j) l = slice_get_some xs j (omega arith)
 
--- a byte that has a place is replaced
-pub with_byte-place : (ks : List Block) (m : Memory) (a i j b : ℕ) (k k' : Block) → memory_of ks ≡ m → IsPlace ks a i j → k ≡ get_or ks i k → k'.base ≡ k.base → k'.bytes.items ≡ set k.bytes.items j b
-    → memory_of (set ks i k') ≡ with_byte m a b
-unfolding with_byte
-with_byte-place ks m a i j b k k' view h is base bytes =
-    let there : is_some (get m a) ≡ true =
-    ap (λ x. is_some (get x a)) (sym view) ∙ ap (is_some {T = ℕ}) (get-memory_of ks a ∙ byte_of_place ks a i j k h is)
-    ∙ slice_get_some k.bytes.items j (offset_of_place ks a i j k h is) in
-    rw there (memory_of-set ks a i j b k k' h is base bytes ∙ ap (λ x. insert x a b) view)
+-- ---- what a walk over the blocks finds
 
--- a byte that has none is not
-pub with_byte-none : (ks : List Block) (m : Memory) (a b : ℕ) → memory_of ks ≡ m → byte_in ks a ≡ None → m ≡ with_byte m a b
-unfolding with_byte
-with_byte-none ks m a b view none =
-    let out : is_some (get m a) ≡ false =
-    ap (λ x. is_some (get x a)) (sym view) ∙ ap (is_some {T = ℕ}) (get-memory_of ks a ∙ none) in
-    rw out refl
+pub place_found : (n : ℕ) (ks : List BlockValue) (a : ℕ) (p : ℕ × ℕ) → place_in n ks a ≡ Some p → (m : ℕ) × ((p.0 ≡ n + m) × IsPlace ks a m p.1)
+unfolding place_in
+place_found n [] a p e = absurd cc
+place_found n (k ∷ ks) a p e =
+    elim (holds k a) as (λ b. holds k a ≡ b → (m : ℕ) × ((p.0 ≡ n + m) × IsPlace (k ∷ ks) a m p.1)) [
+      | true ↦ λ is.
+          let e' : Some (n, a - k.base) ≡ Some p = rw is at e in
+          let same : (n, a - k.base) ≡ p = cc in
+          let h = in_of k a is in
+          let at : p.0 ≡ n = ap (λ (x : ℕ × ℕ). x.0) (sym same) in
+          (zero, (omega arith, subst (λ (x : ℕ × ℕ). (k.base + x.1 ≡ a) × (x.1 < length k.bytes)) same h))
+      | false ↦ λ is.
+          let e' : place_in (n + 1) ks a ≡ Some p = rw is at e in
+          let h = place_found (n + 1) ks a p e' in
+          let at : p.0 ≡ n + 1 + h.0 = h.1.0 in
+          (suc h.0, (omega arith, (is, h.1.1)))
+    ] refl
 
--- the byte of an address that has a place
-pub byte_at-place : (ks : List Block) (m : Memory) (a i j x : ℕ) (k : Block) → memory_of ks ≡ m → IsPlace ks a i j → k ≡ get_or ks i k → x ≡ get_or k.bytes.items j x → x ≡ byte_at m a
-byte_at-place ks m a i j x k view h is here =
-    sym (ap (λ y. byte_at y a) (sym view)
-    ∙ ap (λ (o : Option ℕ). unwrap_or o 0) (get-memory_of ks a ∙ byte_of_place ks a i j k h is ∙ get_here k.bytes.items j x (offset_of_place ks a i j k h is) here))
+pub place_at : (ks : List BlockValue) (a : ℕ) (p : ℕ × ℕ) → place_in 0 ks a ≡ Some p → IsPlace ks a p.0 p.1
+place_at ks a p e =
+    let h = place_found 0 ks a p e in
+    let same : h.0 ≡ p.0 = omega (arith, h.1.0) in
+    subst (λ m. IsPlace ks a m p.1) same h.1.1
 
--- and of one that has none
-pub byte_at-none : (ks : List Block) (m : Memory) (a : ℕ) → memory_of ks ≡ m → byte_in ks a ≡ None → 0 ≡ byte_at m a
-byte_at-none ks m a view none = sym (ap (λ y. byte_at y a) (sym view) ∙ ap (λ (o : Option ℕ). unwrap_or o 0) (get-memory_of ks a ∙ none))
+pub place_none : (n : ℕ) (ks : List BlockValue) (a : ℕ) → place_in n ks a ≡ None → byte_in ks a ≡ None
+unfolding place_in
+place_none n [] a e = refl
+place_none n (k ∷ ks) a e =
+    elim (holds k a) as (λ b. holds k a ≡ b → byte_in (k ∷ ks) a ≡ None) [
+      | true ↦ λ is. let e' : Some (n, a - k.base) ≡ None = rw is at e in absurd cc
+      | false ↦ λ is. let e' : place_in (n + 1) ks a ≡ None = rw is at e in rw is (place_none (n + 1) ks a e')
+    ] refl
 
-entries_of-push : (ks : List Block) (k : Block) → entries_of (ks ++ k ∷ []) ≡ entries_of ks ++ entries_from k.base k.bytes.items
-entries_of-push [] k = append-nil (entries_from k.base k.bytes.items)
-entries_of-push (x ∷ ks) k =
-    ap (λ es. entries_from x.base x.bytes.items ++ es) (entries_of-push ks k)
-    ∙ sym (append_assoc (entries_from x.base x.bytes.items) (entries_of ks) (entries_from k.base k.bytes.items))
+pub run_found : (n : ℕ) (ks : List BlockValue) (a last : ℕ) (p : ℕ × ℕ) → a ≤ last → run_in n ks a last ≡ Some p → (m : ℕ) × ((p.0 ≡ n + m) × IsRun ks a last m p.1)
+unfolding run_in
+run_found n [] a last p l e = absurd cc
+run_found n (k ∷ ks) a last p l e =
+    elim (is_apart k a last) as (λ b. is_apart k a last ≡ b → (m : ℕ) × ((p.0 ≡ n + m) × IsRun (k ∷ ks) a last m p.1)) [
+      | true ↦ λ is.
+          let e' : run_in (n + 1) ks a last ≡ Some p = rw is at e in
+          let h = run_found (n + 1) ks a last p l e' in
+          let at : p.0 ≡ n + 1 + h.0 = h.1.0 in
+          (suc h.0, (omega arith, (is, h.1.1)))
+      | false ↦ λ not.
+          elim (holds_all k a last) as (λ b. holds_all k a last ≡ b → (m : ℕ) × ((p.0 ≡ n + m) × IsRun (k ∷ ks) a last m p.1)) [
+            | true ↦ λ is.
+                let e' : Some (n, a - k.base) ≡ Some p = rw (not, is) at e in
+                let same : (n, a - k.base) ≡ p = cc in
+                let h = all_of k a last l is in
+                let at : p.0 ≡ n = ap (λ (x : ℕ × ℕ). x.0) (sym same) in
+                (zero, (omega arith, subst (λ (x : ℕ × ℕ). (k.base + x.1 ≡ a) × (x.1 + (last - a) < length k.bytes)) same h))
+            | false ↦ λ is. let e' : None ≡ Some p = rw (not, is) at e in absurd cc
+          ] refl
+    ] refl
 
-zeros_at : (rs : List Region) (i : ℕ) (r : Region) → i < length rs → zero_entries (drop i rs) ≡ entries_from (get_or rs i r).base (replicate (get_or rs i r).size 0) ++ zero_entries (drop (suc i) rs)
-zeros_at [] i r l = absurd (omega arith)
-zeros_at (q ∷ rs) zero r l = refl
-zeros_at (q ∷ rs) (suc i) r l = zeros_at rs i r (omega arith)
+pub run_at : (ks : List BlockValue) (a last : ℕ) (p : ℕ × ℕ) → a ≤ last → run_in 0 ks a last ≡ Some p → IsRun ks a last p.0 p.1
+run_at ks a last p l e =
+    let h = run_found 0 ks a last p l e in
+    let same : h.0 ≡ p.0 = omega (arith, h.1.0) in
+    subst (λ m. IsRun ks a last m p.1) same h.1.1
 
--- one more block of zeros
-pub zeros_more : (new ks : List Block) (k : Block) (rs : List Region) (i : ℕ) (r : Region) → new ≡ ks ++ k ∷ [] → i < length rs → k.base ≡ (get_or rs i r).base → k.bytes.items ≡ replicate (get_or rs i r).size 0
-    → entries_of new ++ zero_entries (drop (i + 1) rs) ≡ entries_of ks ++ zero_entries (drop i rs)
-zeros_more new ks k rs i r e l base bytes =
-    rw (e, entries_of-push ks k, zeros_at rs i r l, base, bytes, add-one)
-    (append_assoc (entries_of ks) (entries_from (get_or rs i r).base (replicate (get_or rs i r).size 0)) (zero_entries (drop (suc i) rs)))
+pub whole_if : (ks : List BlockValue) (a more last : ℕ) (o : Option (ℕ × ℕ)) → a + more < 2 ^ 32 → last ≡ a + more → o ≡ run_in 0 ks a last
+    → IfSome o (λ p. (a + more < 2 ^ 32) × IsRun ks a (a + more) p.0 p.1)
+whole_if ks a more last None l e is = tt
+whole_if ks a more last (Some p) l e is =
+    (l, subst (λ x. IsRun ks a x p.0 p.1) e (run_at ks a last p (omega arith) (sym is)))
+
+-- ---- what a place tells
+
+pub index_of_place : (ks : List BlockValue) (a i j : ℕ) → IsPlace ks a i j → i < length ks
+index_of_place [] a i j h = absurd h
+index_of_place (k ∷ ks) a zero j h = omega arith
+index_of_place (k ∷ ks) a (suc i) j h = let l = index_of_place ks a i j h.1 in omega (arith, l)
+
+pub offset_of_place : (ks : List BlockValue) (a i j : ℕ) (k : BlockValue) → IsPlace ks a i j → k ≡ get_or ks i k → j < length k.bytes
+offset_of_place [] a i j k h is = absurd h
+offset_of_place (r ∷ ks) a zero j k h is = subst (λ (x : BlockValue). j < length x.bytes) (sym is) h.1
+offset_of_place (r ∷ ks) a (suc i) j k h is = offset_of_place ks a i j k h.1 is
+
+pub byte_of_place : (ks : List BlockValue) (a i j : ℕ) (k : BlockValue) → IsPlace ks a i j → k ≡ get_or ks i k → byte_in ks a ≡ slice_get k.bytes j
+byte_of_place [] a i j k h is = absurd h
+byte_of_place (r ∷ ks) a zero j k h is = let e = holds_at r a j h.0 h.1 in rw (e.0, e.1) (ap (λ (x : BlockValue). slice_get x.bytes j) (sym is))
+byte_of_place (r ∷ ks) a (suc i) j k h is = rw h.0 (byte_of_place ks a i j k h.1 is)
+
+pub mapped_of_place : (ks : List BlockValue) (a i j : ℕ) → IsPlace ks a i j → is_mapped (map region_of ks) a ≡ true
+unfolding is_mapped
+mapped_of_place [] a i j h = absurd h
+mapped_of_place (r ∷ ks) a zero j h = let e = holds_at r a j h.0 h.1 in rw e.0 refl
+mapped_of_place (r ∷ ks) a (suc i) j h = rw h.0 (mapped_of_place ks a i j h.1)
+
+pub writable_of_place : (ks : List BlockValue) (a i j : ℕ) (k : BlockValue) → IsPlace ks a i j → k ≡ get_or ks i k → is_writable (map region_of ks) a ≡ takes_writes k.kind
+unfolding is_writable
+writable_of_place [] a i j k h is = absurd h
+writable_of_place (r ∷ ks) a zero j k h is = let e = holds_at r a j h.0 h.1 in rw e.0 (ap (λ (x : BlockValue). takes_writes x.kind) (sym is))
+writable_of_place (r ∷ ks) a (suc i) j k h is = rw h.0 (writable_of_place ks a i j k h.1 is)
+
+-- ---- and none
+
+pub mapped_at : (ks : List BlockValue) (a : ℕ) → is_mapped (map region_of ks) a ≡ is_some (byte_in ks a)
+unfolding is_mapped
+mapped_at [] a = refl
+mapped_at (k ∷ ks) a =
+    elim (holds k a) as (λ b. holds k a ≡ b → is_mapped (map region_of (k ∷ ks)) a ≡ is_some (byte_in (k ∷ ks) a)) [
+      | true ↦ λ is. rw (is, slice_get_some k.bytes (a - k.base) (in_of k a is).1) refl
+      | false ↦ λ is. rw is (mapped_at ks a)
+    ] refl
+
+pub mapped_none : (ks : List BlockValue) (a : ℕ) → byte_in ks a ≡ None → is_mapped (map region_of ks) a ≡ false
+mapped_none ks a e = mapped_at ks a ∙ ap (is_some {T = ℕ}) e
+
+-- what isn't mapped takes no writes
+pub writable_none : (rs : List Region) (a : ℕ) → is_mapped rs a ≡ false → is_writable rs a ≡ false
+unfolding is_mapped is_writable
+writable_none [] a e = refl
+writable_none (r ∷ rs) a e =
+    elim (in_region r a) as (λ b. in_region r a ≡ b → is_writable (r ∷ rs) a ≡ false) [
+      | true ↦ λ is. let e' : true ≡ false = rw is at e in absurd cc
+      | false ↦ λ is. let e' : is_mapped rs a ≡ false = rw is at e in rw is (writable_none rs a e')
+    ] refl
+
+and_none : (p p' q q' : Bool) → (p ≡ false → q ≡ false) → (p' ≡ false → q' ≡ false) → (p && p') ≡ false → (q && q') ≡ false
+and_none false p' q q' one two e = rw (one refl) refl
+and_none true p' true q' one two e = two e
+and_none true p' false q' one two e = refl
+
+pub every_none : (rs : List Region) (a : ℕ) (size : Size) → every (is_mapped rs) a size ≡ false → every (is_writable rs) a size ≡ false
+every_none rs a Byte e = writable_none rs a e
+every_none rs a Half e = and_none _ _ _ _ (writable_none rs a) (writable_none rs (wrap (a + 1))) e
+every_none rs a Word e =
+    and_none _ _ _ _ (writable_none rs a)
+    (and_none _ _ _ _ (writable_none rs (wrap (a + 1))) (and_none _ _ _ _ (writable_none rs (wrap (a + 2))) (writable_none rs (wrap (a + 3)))))
+    e
+
+-- ---- a run is a place of each of its bytes
+
+pub place_of_run : (ks : List BlockValue) (a last i j t : ℕ) → IsRun ks a last i j → a + t ≤ last → IsPlace ks (a + t) i (j + t)
+place_of_run [] a last i j t h l = absurd h
+place_of_run (k ∷ ks) a last zero j t h l = (omega (arith, h.0), omega (arith, h.1))
+place_of_run (k ∷ ks) a last (suc i) j t h l = (apart_at k a last (a + t) h.0 (omega arith) l, place_of_run ks a last i j t h.1 l)
+
+pub end_of_run : (ks : List BlockValue) (a last i j : ℕ) (k : BlockValue) → IsRun ks a last i j → k ≡ get_or ks i k → j + (last - a) < length k.bytes
+end_of_run [] a last i j k h is = absurd h
+end_of_run (r ∷ ks) a last zero j k h is = subst (λ (x : BlockValue). j + (last - a) < length x.bytes) (sym is) h.1
+end_of_run (r ∷ ks) a last (suc i) j k h is = end_of_run ks a last i j k h.1 is
+
+pub index_of_run : (ks : List BlockValue) (a last i j : ℕ) → IsRun ks a last i j → i < length ks
+index_of_run [] a last i j h = absurd h
+index_of_run (k ∷ ks) a last zero j h = omega arith
+index_of_run (k ∷ ks) a last (suc i) j h = let l = index_of_run ks a last i j h.1 in omega (arith, l)
