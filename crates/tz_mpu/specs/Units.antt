@@ -1,0 +1,8 @@
+-- An MPU as a value.
+use Rattle.tz_model.specs.declared.board.Profile.{Profile}
+use Rattle.tz_state.specs.Protection.{MpuState}
+
+-- an MPU and the profile whose rules it follows
+pub record MpuValue : Type 0 where
+  pub profile : Profile
+  pub mpu : MpuState
