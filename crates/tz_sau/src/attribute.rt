@@ -72,6 +72,13 @@ fn side_told(side: RegionSide) -> Side
     }
 }
 
+/// Whether neither the SAU nor the board decides the attribution of an address.
+fn is_fixed(fetch: bool, addr: u32) -> bool
+    ensures { result ≡ is_fixed fetch addr }
+{
+    if fetch { addr >= 0xe000_0000 } else { is_exempt(addr) }
+}
+
 impl Sau {
     ghost use Rattle.tz_state.specs.Attribution.{idau_side, idau_region};
 
@@ -87,7 +94,7 @@ impl Sau {
                 region: None,
             };
         }
-        match look(&self.bounds[..self.bounds_count], addr) {
+        match look(&self.bounds, addr) {
             Holders::One(number, region) => SauWord {
                 side: if region.rlar / 2 % 2 == 1 { RegionSide::Nsc } else { RegionSide::NonSecure },
                 region: Some(number),
@@ -137,6 +144,29 @@ impl Sau {
             own_side(side)
         } else {
             self.mapped_side(addr)
+        }
+    }
+
+    /// The whole word on an address, as code or as data, for code of a side.
+    #[tactic(auto, unfolding(tz_state::specs::Attribution::attribution, tz_state::specs::Attribution::mapped_side, tz_state::specs::Attribution::data_attribution, tz_state::specs::Attribution::fetch_attribution))]
+    pub fn attribute(&self, addr: u32, fetch: bool, side: Side) -> Attribute
+        ensures { result ≡ attribution self.now fetch side addr }
+    {
+        let fixed = is_fixed(fetch, addr);
+        let sau = self.sau_word(addr);
+        let idau = self.idau_word(addr);
+        let attributed = if !fixed {
+            more_secure(sau.side, idau.side)
+        } else if fetch && addr >= 0xf000_0000 {
+            RegionSide::Secure
+        } else {
+            own_side(side)
+        };
+        Attribute {
+            side: side_told(attributed),
+            callable: attributed == RegionSide::Nsc,
+            sregion: if fixed { None } else { sau.region },
+            iregion: idau.region,
         }
     }
 }

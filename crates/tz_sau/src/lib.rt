@@ -6,7 +6,9 @@
 #![tactic(auto)]
 
 mod attribute;
+mod boot;
 mod idau;
+mod registers;
 mod scan;
 mod unit;
 

@@ -30,14 +30,17 @@ pub fn look(bounds: &[Bounds], addr: u32) -> Holders
     requires { length bounds.now ≤ 8 }
     ensures { result ≡ holders_of (holding 0 bounds.now addr) }
 {
-    let mut found = Holders::Nobody;
+    let mut found: Option<(u8, Bounds)> = None;
     for (index, region) in bounds.iter().enumerate() {
         if holds(region, addr) {
-            if matches!(found, Holders::One(_, _)) {
+            if found.is_some() {
                 return Holders::Several;
             }
-            found = Holders::One(index as u8, *region);
+            found = Some((index as u8, *region));
         }
     }
-    found
+    match found {
+        None => Holders::Nobody,
+        Some((number, region)) => Holders::One(number, region),
+    }
 }

@@ -1,5 +1,6 @@
 //! The SAU and the board's regions beside it.
 
+use arrayvec::ArrayVec;
 use std::marker::Model;
 use tz_model::Region;
 use tz_state::Bounds;
@@ -9,8 +10,7 @@ use tz_state::Bounds;
 pub struct Sau {
     pub(crate) regions: [Region; 32],
     pub(crate) region_count: usize,
-    pub(crate) bounds: [Bounds; 8],
-    pub(crate) bounds_count: usize,
+    pub(crate) bounds: ArrayVec<Bounds, 8>,
     pub(crate) ctrl: u32,
     pub(crate) rnr: u32,
 }
@@ -23,8 +23,8 @@ impl Model for Sau {
 
     ghost view = { λ s. record {
       regions = take s.region_count s.regions;
-      sau = record { ctrl = s.ctrl; rnr = s.rnr; regions = take s.bounds_count s.bounds };
+      sau = record { ctrl = s.ctrl; rnr = s.rnr; regions = s.bounds.items };
     } };
 
-    ghost invariant = { λ s. (s.region_count ≤ 32) × (s.bounds_count ≤ 8) };
+    ghost invariant = { λ s. s.region_count ≤ 32 };
 }
