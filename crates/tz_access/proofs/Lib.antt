@@ -1,1 +1,1 @@
-pub mod Blocks
+mod Blocks
