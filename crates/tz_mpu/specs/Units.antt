@@ -6,3 +6,7 @@ use Rattle.tz_state.specs.Protection.{MpuState}
 pub record MpuValue : Type 0 where
   pub profile : Profile
   pub mpu : MpuState
+
+-- the MPU with other registers
+abbrev pub with_registers : MpuValue → MpuState → MpuValue
+with_registers m state = record m { mpu = state }

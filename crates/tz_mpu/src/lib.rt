@@ -6,6 +6,7 @@
 
 mod found;
 mod mpu;
+mod permission;
 mod register;
 
 pub use mpu::{Mpu, MpuFault};
