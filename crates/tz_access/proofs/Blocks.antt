@@ -1,26 +1,27 @@
 -- What is the same at each address of a block of 32 bytes, which an access of at most four bytes meets in
 -- its first byte or in its last.
-use Rattle.std.proofs.Common.{◌≡◌, ℕ, ◌+◌, ◌-◌, ◌*◌, ◌/◌, ◌%◌, ◌^◌, ◌<◌, ◌≤◌, ◌⊎◌, inl, inr, Bool, true, false, ◌&&◌, ◌||◌, cond, List, [], ◌∷◌, refl, sym, ap, ◌∙◌, arith}
-use Rattle.std.specs.Prelude.{nat_le, nat_lt, IsTrue, not}
-use Rattle.std.specs.Option.{is_some}
+use Rattle.std.proofs.Common.{◌≡◌, ℕ, ◌+◌, ◌*◌, ◌/◌, ◌%◌, ◌^◌, ◌<◌, ◌⊎◌, inl, inr, Bool, true, false, ◌&&◌, List, [], ◌∷◌, refl, sym, ap, ◌∙◌, arith}
+use Rattle.std.specs.Prelude.{nat_le, nat_lt, not}
 use Rattle.std.proofs.lemmas.Bool.Decides.{nat_tests}
 use Rattle.tz_table.specs.declared.units.Side.{Side}
 use Rattle.tz_table.specs.declared.units.Side.TheVariants.{Secure, NonSecure}
 use Rattle.tz_table.specs.declared.units.Size.{Size}
 use Rattle.tz_table.specs.declared.units.Size.TheVariants.{Byte, Half, Word}
 use Rattle.tz_model.specs.declared.board.Region.{Region}
-use Rattle.tz_model.specs.Board.{IsBoard, BoardValue, within, in_region, is_region, are_regions, is_nonsecure, is_callable}
+use Rattle.tz_model.specs.Board.{within, in_region, is_region, are_regions, is_nonsecure, is_callable}
 use Rattle.tz_model.specs.Words.{wrap}
 use Rattle.tz_state.specs.declared.units.Bounds.{Bounds}
 use Rattle.tz_state.specs.declared.request.Kind.{Kind}
 use Rattle.tz_state.specs.declared.request.Kind.TheVariants as kinds
 use Rattle.tz_model.specs.declared.board.Profile.{Profile}
-use Rattle.tz_state.specs.Regions.{spans, holds, is_enabled, holding}
+use Rattle.tz_state.specs.Regions.{holds, holding}
 use Rattle.tz_state.specs.Memory.{every}
-use Rattle.tz_state.specs.Attribution.{MapState, SauState, sau_side, is_sau_on, is_all_nonsecure, side_by, idau_side, mapped_side, is_exempt, own_side, data_attribution, fetch_attribution, is_open}
-use Rattle.tz_state.specs.Protection.{MpuState, permission, permission_by, default_permits, is_executable, is_mpu_on, permits}
-use Rattle.tz_state.specs.Access.{is_mapped, is_writable, takes_writes, takes, is_private}
-use Rattle.tz_state.specs.Fetch.{is_own_byte, is_entry}
+use Rattle.tz_state.specs.Attribution.{MapState, SauState, sau_side, idau_side, mapped_side, is_exempt, data_attribution, fetch_attribution, is_open}
+use Rattle.tz_state.specs.Protection.{MpuState, permission, permission_by, default_permits, is_executable}
+use Rattle.tz_state.specs.declared.request.Request.{Request}
+use Rattle.tz_state.specs.State.{Bus, mpu_of}
+use Rattle.tz_state.specs.Access.{is_mapped, is_writable, takes, lets}
+use Rattle.tz_state.specs.Fetch.{is_own_byte, is_entry, lets_run}
 use Rattle.tz_access.specs.Checks.{IsByBlocks, last_of}
 
 -- ---- an access
@@ -49,6 +50,13 @@ every_by_ends p a Word is small =
     let third : (wrap (a + 2) / 32 ≡ a / 32) ⊎ (wrap (a + 2) / 32 ≡ wrap (a + 3) / 32) = grind (arith, nat_tests) in
     and_third (p a) (p (wrap (a + 1))) (p (wrap (a + 3))) (p (wrap (a + 2)))
     (between p a (wrap (a + 1)) (wrap (a + 3)) is second) (between p a (wrap (a + 2)) (wrap (a + 3)) is third)
+
+-- of an instruction in one block both halfwords answer the same
+pub second_in_block : (p : ℕ → Bool) (a : ℕ) → IsByBlocks p → a < 2 ^ 32 → a / 32 ≡ wrap (a + 3) / 32 → every p a Half ≡ true → every p (wrap (a + 2)) Half ≡ true
+second_in_block p a is small one holds =
+    let first : p (wrap (a + 2)) ≡ p a = is.same (wrap (a + 2)) a (omega arith) in
+    let last : p (wrap (wrap (a + 2) + 1)) ≡ p (wrap (a + 1)) = is.same (wrap (wrap (a + 2) + 1)) (wrap (a + 1)) (omega arith) in
+    rw (first, last) holds
 
 -- ---- what is by blocks
 
@@ -115,8 +123,13 @@ side_blocks m a b is e = rw (sau_blocks m.sau a b e, idau_blocks m.regions a b i
 
 exempt_blocks : (a b : ℕ) → a / 32 ≡ b / 32 → is_exempt a ≡ is_exempt b
 exempt_blocks a b e =
-    rw (within_blocks 0xE0000000 0xE0002FFF a b refl refl e, within_blocks 0xE000E000 0xE000EFFF a b refl refl e, within_blocks 0xE002E000 0xE002EFFF a b refl refl e,
-    within_blocks 0xE0040000 0xE0041FFF a b refl refl e, within_blocks 0xE00FF000 0xE00FFFFF a b refl refl e) refl
+    rw (
+      within_blocks 0xE0000000 0xE0002FFF a b refl refl e,
+      within_blocks 0xE000E000 0xE000EFFF a b refl refl e,
+      within_blocks 0xE002E000 0xE002EFFF a b refl refl e,
+      within_blocks 0xE0040000 0xE0041FFF a b refl refl e,
+      within_blocks 0xE00FF000 0xE00FFFFF a b refl refl e,
+    ) refl
 
 pub data_blocks : (m : MapState) (side : Side) (a b : ℕ) → are_regions m.regions ≡ true → a / 32 ≡ b / 32 → data_attribution m side a ≡ data_attribution m side b
 unfolding data_attribution
@@ -126,6 +139,9 @@ pub fetch_blocks : (m : MapState) (side : Side) (a b : ℕ) → are_regions m.re
 unfolding fetch_attribution
 fetch_blocks m side a b is e =
     rw (from_block 0xF0000000 a b refl e, from_block 0xE0000000 a b refl e, side_blocks m a b is e) refl
+
+below_block : (a b : ℕ) → a / 32 ≡ b / 32 → nat_lt a 0xE0000000 ≡ nat_lt b 0xE0000000
+below_block a b e = grind (arith, nat_tests)
 
 executable_blocks : (a b : ℕ) → a / 32 ≡ b / 32 → is_executable a ≡ is_executable b
 executable_blocks a b e = rw (within_blocks 0x40000000 0x5FFFFFFF a b refl refl e, from_block 0xA0000000 a b refl e) refl
@@ -144,3 +160,33 @@ pub permission_blocks : (profile : Profile) (m : MpuState) (a b : ℕ) (kind : K
 unfolding permission
 permission_blocks profile m a b kind privileged negative e =
     rw (holding_blocks 0 m.regions a b e, by_blocks profile m kind privileged a b (holding 0 m.regions b) e, default_blocks kind a b e) refl
+
+-- ---- the tests of an access
+
+pub open_by_blocks : (m : MapState) → are_regions m.regions ≡ true → IsByBlocks (is_open m)
+unfolding is_open
+open_by_blocks m is = record { same = λ a b e. ap is_nonsecure (data_blocks m NonSecure a b is e) }
+
+pub own_by_blocks : (m : MapState) (side : Side) → are_regions m.regions ≡ true → IsByBlocks (is_own_byte m side)
+own_by_blocks m Secure is = record { same = λ a b e. ap (λ r. not (is_nonsecure r)) (fetch_blocks m Secure a b is e) }
+own_by_blocks m NonSecure is = record { same = λ a b e. ap is_nonsecure (fetch_blocks m NonSecure a b is e) }
+
+pub entry_by_blocks : (m : MapState) → are_regions m.regions ≡ true → IsByBlocks (is_entry m)
+entry_by_blocks m is = record { same = λ a b e. ap is_callable (fetch_blocks m NonSecure a b is e) }
+
+pub lets_by_blocks : (b : Bus) (q : Request) → IsByBlocks (lets b q)
+lets_by_blocks b q = record {
+  same = λ x y e.
+      rw (within_blocks 0xE0000000 0xE00FFFFF x y refl refl e, permission_blocks b.board.profile (mpu_of q.side b) x y q.kind q.privileged q.negative e) refl;
+}
+
+pub runs_by_blocks : (b : Bus) (side : Side) (privileged negative : Bool) → IsByBlocks (lets_run b side privileged negative)
+runs_by_blocks b side privileged negative = record {
+  same = λ x y e.
+      rw (below_block x y e, permission_blocks b.board.profile (mpu_of side b) x y kinds.Fetch privileged negative e) refl;
+}
+
+pub takes_by_blocks : (rs : List Region) (kind : Kind) → are_regions rs ≡ true → IsByBlocks (takes rs kind)
+takes_by_blocks rs kinds.Read is = record { same = λ a b e. mapped_blocks rs a b is e }
+takes_by_blocks rs kinds.Write is = record { same = λ a b e. writable_blocks rs a b is e }
+takes_by_blocks rs kinds.Fetch is = record { same = λ a b e. mapped_blocks rs a b is e }

@@ -12,7 +12,7 @@ use Rattle.tz_model.specs.declared.report.Fault.TheVariants.{Precise}
 use Rattle.tz_state.specs.declared.request.Request.{Request}
 use Rattle.tz_state.specs.Memory.{every}
 use Rattle.tz_state.specs.State.{Bus}
-use Rattle.tz_state.specs.Access.{takes, is_private}
+use Rattle.tz_state.specs.Access.{takes}
 use Rattle.tz_access.specs.declared.place.Place.{Place}
 use Rattle.tz_access.specs.declared.place.Place.TheVariants.{Memory, System}
 

@@ -50,11 +50,10 @@ impl Model for Bus {
     } };
 
     ghost invariant = { λ b.
-      (b.memory.regions ≡ b.board.regions)
-      × (b.sau.regions ≡ b.board.regions)
-      × (b.mpu_s.profile ≡ b.board.profile)
-      × (b.mpu_ns.profile ≡ b.board.profile)
-    };
+        (b.memory.regions ≡ b.board.regions)
+        × (b.sau.regions ≡ b.board.regions)
+        × (b.mpu_s.profile ≡ b.board.profile)
+        × (b.mpu_ns.profile ≡ b.board.profile) };
 }
 
 impl Bus {
@@ -85,8 +84,8 @@ impl Bus {
     /// `NotMapped` where no region holds some byte of it.
     pub fn read(&self, addr: u32, size: Size) -> Result<u32, NotMapped>
         ensures { MatchResult result
-          (λ value. (every (is_mapped self.now.board.regions) addr size ≡ true) × (value ≡ value_at self.now.memory size addr))
-          (λ _. every (is_mapped self.now.board.regions) addr size ≡ false) }
+            (λ value. (every (is_mapped self.now.board.regions) addr size ≡ true) × (value ≡ value_at self.now.memory size addr))
+            (λ _. every (is_mapped self.now.board.regions) addr size ≡ false) }
     {
         self.memory.read(addr, size)
     }
@@ -114,8 +113,8 @@ impl Bus {
     /// `NotMapped` where no region holds the address; nothing changes then.
     pub fn place(&mut self, addr: u32, byte: u8) -> Result<(), NotMapped>
         ensures { MatchResult result
-          (λ _. (is_mapped self.old.board.regions addr ≡ true) × (self.new ≡ with_memory self.old (with_byte self.old.memory addr byte)))
-          (λ _. (is_mapped self.old.board.regions addr ≡ false) × (self.new ≡ self.old)) }
+            (λ _. (is_mapped self.old.board.regions addr ≡ true) × (self.new ≡ with_memory self.old (with_byte self.old.memory addr byte)))
+            (λ _. (is_mapped self.old.board.regions addr ≡ false) × (self.new ≡ self.old)) }
     {
         self.memory.place(addr, byte)
     }

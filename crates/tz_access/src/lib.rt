@@ -8,10 +8,13 @@
 #![tactic(auto)]
 
 mod bus;
+mod data;
+mod fetch;
 mod monitor;
 mod place;
 mod registers;
 mod span;
+mod target;
 mod units;
 
 pub use bus::Bus;

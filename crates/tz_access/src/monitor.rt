@@ -1,6 +1,6 @@
 //! The exclusive monitor: one address and size, or nothing.
 
-ghost use Rattle.std.specs.Prelude.{◌≡◌, Some, None};
+ghost use Rattle.std.specs.Prelude.{◌≡◌, MatchOption, Some, None};
 ghost use Rattle.tz_state.specs.State.{with_monitor};
 ghost use Rattle.tz_access.specs.Registers.{holds_exclusive, is_same_size};
 

@@ -76,7 +76,11 @@ fn side_told(side: RegionSide) -> Side
 fn is_fixed(fetch: bool, addr: u32) -> bool
     ensures { result ≡ is_fixed fetch addr }
 {
-    if fetch { addr >= 0xe000_0000 } else { is_exempt(addr) }
+    if fetch {
+        addr >= 0xe000_0000
+    } else {
+        is_exempt(addr)
+    }
 }
 
 impl Sau {
@@ -90,13 +94,21 @@ impl Sau {
     {
         if self.ctrl % 2 == 0 {
             return SauWord {
-                side: if self.ctrl / 2 % 2 == 1 { RegionSide::NonSecure } else { RegionSide::Secure },
+                side: if self.ctrl / 2 % 2 == 1 {
+                    RegionSide::NonSecure
+                } else {
+                    RegionSide::Secure
+                },
                 region: None,
             };
         }
         match look(&self.bounds, addr) {
             Holders::One(number, region) => SauWord {
-                side: if region.rlar / 2 % 2 == 1 { RegionSide::Nsc } else { RegionSide::NonSecure },
+                side: if region.rlar / 2 % 2 == 1 {
+                    RegionSide::Nsc
+                } else {
+                    RegionSide::NonSecure
+                },
                 region: Some(number),
             },
             _ => SauWord {

@@ -25,9 +25,12 @@ impl Sau {
 
     /// RBAR and RLAR of a region by its number; none where there is no such region.
     pub fn region(&self, index: u8) -> Option<(u32, u32)>
-        ensures { MatchOption result (length self.now.sau.regions ≤ index) (λ r. (index < length self.now.sau.regions) × (r.0 ≡ (bounds_at self.now.sau.regions index).rbar) × (r.1 ≡ (bounds_at self.now.sau.regions index).rlar)) }
+        ensures { MatchOption result (length self.now.sau.regions ≤ index)
+            (λ pair. (index < length self.now.sau.regions) × (bounds_at self.now.sau.regions index ≡ record { rbar = pair.0; rlar = pair.1 })) }
     {
-        self.bounds.get(index as usize).map(|bounds| (bounds.rbar, bounds.rlar))
+        self.bounds
+            .get(index as usize)
+            .map(|bounds| (bounds.rbar, bounds.rlar))
     }
 
     /// The register at an address; one that isn't there reads zero, and so do RBAR and RLAR where RNR
@@ -77,11 +80,17 @@ impl Sau {
             Some(SauRegister::Rnr) => self.rnr = value % 256,
             Some(SauRegister::Rbar) => {
                 let bounds = self.selected();
-                self.select(Bounds { rbar: value / 32 * 32, rlar: bounds.rlar });
+                self.select(Bounds {
+                    rbar: value / 32 * 32,
+                    rlar: bounds.rlar,
+                });
             }
             Some(SauRegister::Rlar) => {
                 let bounds = self.selected();
-                self.select(Bounds { rbar: bounds.rbar, rlar: value / 32 * 32 + value % 4 });
+                self.select(Bounds {
+                    rbar: bounds.rbar,
+                    rlar: value / 32 * 32 + value % 4,
+                });
             }
         }
     }

@@ -19,9 +19,7 @@ pub enum Holders {
 fn holds(region: &Bounds, addr: u32) -> bool
     ensures { result ≡ holds region.now addr }
 {
-    region.rlar % 2 == 1
-        && region.rbar / 32 * 32 <= addr
-        && addr <= region.rlar / 32 * 32 + 31
+    region.rlar % 2 == 1 && region.rbar / 32 * 32 <= addr && addr <= region.rlar / 32 * 32 + 31
 }
 
 /// The enabled regions that hold an address. It looks no further than the second of them.

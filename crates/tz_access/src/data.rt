@@ -1,0 +1,204 @@
+//! Data accesses: alignment, attribution, protection, the map, in this order.
+
+ghost use Rattle.std.specs.Prelude.{◌≡◌, MatchResult, None, Some};
+ghost use Rattle.tz_state.specs.declared.request.Kind.TheVariants.{Read, Write};
+ghost use Rattle.tz_state.specs.Memory.{every, value_at, with_value};
+ghost use Rattle.tz_state.specs.Attribution.{is_open};
+ghost use Rattle.tz_state.specs.State.{map_in, with_memory};
+ghost use Rattle.tz_state.specs.Access.{is_aligned, is_crooked, may_touch, is_let, lets, takes, is_private, verdict, request_by, unbuilt};
+ghost use Rattle.tz_access.specs.Checks.{is_system, left_by};
+
+use crate::bus::Bus;
+use crate::place::Place;
+use crate::span::{is_one_block, last_of};
+use crate::units::is_private;
+use tz_model::{Fault, Side, Size};
+use tz_state::{Asker, Kind, Request};
+
+fn is_aligned(size: Size, addr: u32) -> bool
+    ensures { result ≡ is_aligned size addr }
+{
+    match size {
+        Size::Byte => true,
+        Size::Half => addr % 2 == 0,
+        Size::Word => addr % 4 == 0,
+    }
+}
+
+/// Whether an access has to be aligned and isn't.
+fn is_crooked(size: Size, addr: u32, must_align: bool) -> bool
+    ensures { result ≡ is_crooked size addr must_align }
+{
+    (must_align || addr >= 0xe000_0000) && !is_aligned(size, addr)
+}
+
+/// An access of the code that asks.
+fn request_by(
+    asker: &Asker,
+    kind: Kind,
+    size: Size,
+    addr: u32,
+    must_align: bool,
+    user: bool,
+) -> Request
+    ensures { result ≡ request_by asker.now kind size addr must_align user }
+{
+    Request {
+        addr,
+        size,
+        kind,
+        side: asker.side,
+        privileged: asker.privileged && !user,
+        negative: asker.negative,
+        must_align: must_align || asker.aligned,
+    }
+}
+
+impl Bus {
+    /// Whether Non-secure code may access each byte.
+    fn all_open(&self, size: Size, addr: u32) -> bool
+        ensures { result ≡ every (is_open (map_in self.now)) addr size }
+    {
+        let last = last_of(size, addr);
+        self.is_open(addr) && (is_one_block(addr, last) || self.is_open(last))
+    }
+
+    /// Whether attribution lets code of a side access each byte.
+    #[tactic(auto, unfolding(tz_state::specs::Access::may_touch))]
+    fn may_touch(&self, side: Side, size: Size, addr: u32) -> bool
+        ensures { result ≡ may_touch (map_in self.now) side size addr }
+    {
+        match side {
+            Side::Secure => true,
+            Side::NonSecure => self.all_open(size, addr),
+        }
+    }
+
+    /// Whether the MPU lets an access have each byte.
+    #[tactic(auto, using(crate::proofs::Blocks::every_by_ends), unfolding(tz_state::specs::Access::is_let))]
+    fn is_let(&self, request: &Request) -> bool
+        ensures { result ≡ is_let self.now request.now }
+    {
+        let last = last_of(request.size, request.addr);
+        self.lets(request, request.addr)
+            && (is_one_block(request.addr, last) || self.lets(request, last))
+    }
+
+    /// Whether the map takes each byte of an access.
+    fn all_taken(&self, kind: Kind, size: Size, addr: u32) -> bool
+        ensures { result ≡ every (takes self.now.board.regions kind) addr size }
+    {
+        let last = last_of(size, addr);
+        self.takes(kind, addr) && (is_one_block(addr, last) || self.takes(kind, last))
+    }
+
+    /// All checks of an access but the map's.
+    #[tactic(auto, unfolding(tz_state::specs::Access::verdict))]
+    fn guard(&self, request: &Request) -> Result<Place, Fault>
+        ensures { MatchResult result
+            (λ place. (verdict self.now request.now ≡ left_by place self.now request.now) × (is_system place ≡ is_private request.now.addr))
+            (λ fault. verdict self.now request.now ≡ Some fault) }
+    {
+        let addr = request.addr;
+        if is_crooked(request.size, addr, request.must_align) {
+            return Err(Fault::Unaligned);
+        }
+        if !self.may_touch(request.side, request.size, addr) {
+            return Err(Fault::Violation(addr));
+        }
+        if !self.is_let(request) {
+            return Err(Fault::DataAccess(addr, request.side));
+        }
+        if !is_private(addr) {
+            return Ok(Place::Memory);
+        }
+        if request.privileged {
+            return Ok(Place::System);
+        }
+        Err(Fault::Precise(addr))
+    }
+
+    /// All checks of an access (DDI0553, `MemA`, `MemU`), in their order: alignment, attribution, protection,
+    /// the map. Ok tells where its bytes are. It reads and changes nothing.
+    ///
+    /// # Errors
+    ///
+    /// UNALIGNED, AUVIOL, DACCVIOL or PRECISERR, the first check that fails.
+    pub fn check(&mut self, request: &Request) -> Result<Place, Fault>
+        ensures verdict { MatchResult result
+            (λ place. (verdict self.old request.now ≡ None) × (is_system place ≡ is_private request.now.addr))
+            (λ fault. verdict self.old request.now ≡ Some fault) }
+        ensures kept { self.new ≡ self.old }
+    {
+        match self.guard(request) {
+            Err(fault) => Err(fault),
+            Ok(Place::System) => Ok(Place::System),
+            Ok(Place::Memory) => {
+                if self.all_taken(request.kind, request.size, request.addr) {
+                    Ok(Place::Memory)
+                } else {
+                    Err(Fault::Precise(request.addr))
+                }
+            }
+        }
+    }
+
+    /// A load of the code that asks. The system registers aren't built: an access to them that no check
+    /// refuses gives a bus fault.
+    ///
+    /// # Errors
+    ///
+    /// UNALIGNED, AUVIOL, DACCVIOL or PRECISERR, the first check that fails.
+    pub fn load(
+        &self,
+        asker: &Asker,
+        size: Size,
+        addr: u32,
+        must_align: bool,
+        user: bool,
+    ) -> Result<u32, Fault>
+        ensures { MatchResult result
+            (λ value. (unbuilt addr (verdict self.now (request_by asker.now Read size addr must_align user)) ≡ None) × (value ≡ value_at self.now.memory size addr))
+            (λ fault. unbuilt addr (verdict self.now (request_by asker.now Read size addr must_align user)) ≡ Some fault) }
+    {
+        let request = request_by(asker, Kind::Read, size, addr, must_align, user);
+        match self.guard(&request) {
+            Err(fault) => Err(fault),
+            Ok(Place::System) => Err(Fault::Precise(addr)),
+            Ok(Place::Memory) => match self.memory.read(addr, size) {
+                Err(_) => Err(Fault::Precise(addr)),
+                Ok(value) => Ok(value),
+            },
+        }
+    }
+
+    /// A store of the low part of a number by the code that asks, as `load` loads. Nothing changes on an
+    /// error.
+    ///
+    /// # Errors
+    ///
+    /// UNALIGNED, AUVIOL, DACCVIOL or PRECISERR, the first check that fails.
+    pub fn store(
+        &mut self,
+        asker: &Asker,
+        size: Size,
+        addr: u32,
+        value: u32,
+        must_align: bool,
+        user: bool,
+    ) -> Result<(), Fault>
+        ensures { MatchResult result
+            (λ _. (unbuilt addr (verdict self.old (request_by asker.now Write size addr must_align user)) ≡ None) × (self.new ≡ with_memory self.old (with_value self.old.memory size addr value)))
+            (λ fault. (unbuilt addr (verdict self.old (request_by asker.now Write size addr must_align user)) ≡ Some fault) × (self.new ≡ self.old)) }
+    {
+        let request = request_by(asker, Kind::Write, size, addr, must_align, user);
+        match self.guard(&request) {
+            Err(fault) => Err(fault),
+            Ok(Place::System) => Err(Fault::Precise(addr)),
+            Ok(Place::Memory) => match self.memory.write(addr, size, value) {
+                Err(_) => Err(Fault::Precise(addr)),
+                Ok(()) => Ok(()),
+            },
+        }
+    }
+}
