@@ -1,5 +1,5 @@
 -- Memory as a value, and why a write is refused.
-use Rattle.std.specs.Prelude.{◌≡◌, ℕ, Bool, true, false, List, [], ◌∷◌}
+use Rattle.std.specs.Prelude.{◌≡◌, ℕ, true, false, List}
 use Rattle.tz_table.specs.declared.units.Size.{Size}
 use Rattle.tz_model.specs.declared.board.Region.{Region}
 use Rattle.tz_state.specs.Memory as bytes

@@ -8,6 +8,7 @@
 mod block;
 mod error;
 mod memory;
+mod numbers;
 
 pub use error::{NotMapped, Refused};
 pub use memory::Memory;
