@@ -1,12 +1,14 @@
 -- Numbers read from a block.
-use Rattle.std.proofs.Common.{◌≡◌, ℕ, zero, suc, ◌+◌, ◌^◌, ◌<◌, ◌≤◌, Bool, true, false, List, [], ◌∷◌, get_or, Option, slice_get, refl, sym, ap, ◌∙◌, arith}
+use Rattle.std.proofs.Common.{◌≡◌, ℕ, zero, suc, ◌+◌, ◌-◌, ◌^◌, ◌<◌, ◌≤◌, Bool, true, false, List, [], ◌∷◌, get_or, Option, Some, slice_get, refl, sym, ap, ◌∙◌, arith}
 use Rattle.std.specs.Prelude.{◌&&◌, map, unwrap_or, slice_index}
 use Rattle.tz_table.specs.declared.units.Size.{Size}
 use Rattle.tz_table.specs.declared.units.Size.TheVariants.{Byte, Half, Word}
 use Rattle.tz_model.specs.Words.{wrap}
 use Rattle.tz_state.specs.Access.{is_mapped, is_writable, takes_writes}
 use Rattle.tz_state.specs.Memory.{every, byte_at, half_at, word_at, value_at}
-use Rattle.tz_mem.specs.Blocks.{BlockValue, region_of, memory_of, IsPlace, IsRun, more_of, number_in}
+use Rattle.std.proofs.lemmas.Bool.Decides.{nat_tests}
+use Rattle.tz_mem.specs.Blocks.{BlockValue, region_of, memory_of, view_of, IsPlace, IsRun, is_apart, more_of, number_in}
+use Rattle.tz_mem.specs.Values.{IsCode}
 use Rattle.tz_mem.proofs.Places.{place_of_run, byte_of_place, mapped_of_place, writable_of_place}
 use Rattle.tz_mem.proofs.Bytes.{get_memory_of}
 
@@ -63,3 +65,30 @@ run_writable ks a i j Word k l h is =
     let third = writable_in_run ks a 3 i j 2 (wrap (a + 2)) k h is (omega arith) (omega arith) in
     let fourth = writable_in_run ks a 3 i j 3 (wrap (a + 3)) k h is (omega arith) (omega arith) in
     rw (first, second, third, fourth, same_and (takes_writes k.kind), same_and (takes_writes k.kind)) (same_and (takes_writes k.kind))
+
+-- ---- a part of a run
+
+apart_within : (k : BlockValue) (a last b end : ℕ) → is_apart k a last ≡ true → a ≤ b → end ≤ last → is_apart k b end ≡ true
+apart_within k a last b end h low high = grind (arith, nat_tests)
+
+run_within : (ks : List BlockValue) (a last b end i j : ℕ) → IsRun ks a last i j → a ≤ b → b ≤ end → end ≤ last → IsRun ks b end i (j + (b - a))
+run_within [] a last b end i j h low mid high = absurd h
+run_within (k ∷ ks) a last b end zero j h low mid high = (omega (arith, h.0), omega (arith, h.1))
+run_within (k ∷ ks) a last b end (suc i) j h low mid high = (apart_within k a last b end h.0 low high, run_within ks a last b end i j h.1 low mid high)
+
+-- the two halfwords of a run of four bytes
+pub run_code : (ks : List BlockValue) (a i j first second : ℕ) (k : BlockValue) → a + 3 < 2 ^ 32 → IsRun ks a (a + 3) i j → k ≡ get_or ks i k
+    → first ≡ number_in k.bytes j Half → second ≡ number_in k.bytes (j + 2) Half → IsCode (view_of ks) a first (Some second)
+run_code ks a i j first second k l h is at next =
+    let low : IsRun ks a (a + 1) i (j + (a - a)) = run_within ks a (a + 3) a (a + 1) i j h (omega arith) (omega arith) (omega arith) in
+    let high : IsRun ks (a + 2) (a + 2 + 1) i (j + (a + 2 - a)) = run_within ks a (a + 3) (a + 2) (a + 2 + 1) i j h (omega arith) (omega arith) (omega arith) in
+    let here : j + (a - a) ≡ j = omega arith in
+    let after : j + (a + 2 - a) ≡ j + 2 = omega arith in
+    let past : wrap (a + 2) ≡ a + 2 = omega arith in
+    let low_is = run_number ks a i (j + (a - a)) Half k (omega arith) low is in
+    let high_is = run_number ks (a + 2) i (j + (a + 2 - a)) Half k (omega arith) high is in
+    record {
+      mapped = low_is.0;
+      first_is = at ∙ ap (λ o. number_in k.bytes o Half) (sym here) ∙ low_is.1;
+      second_is = rw past (high_is.0, next ∙ ap (λ o. number_in k.bytes o Half) (sym after) ∙ high_is.1);
+    }

@@ -3,6 +3,7 @@
 ghost use Rattle.std.specs.Prelude.{◌≡◌, ◌+◌, ◌<◌, ◌≤◌, length};
 ghost use Rattle.tz_state.specs.Access.{takes_writes};
 ghost use Rattle.tz_mem.specs.Blocks.{holds, place_in, more_of, is_apart, holds_all, run_in, number_in, bytes_of, over, written_over};
+ghost use Rattle.tz_table.specs.declared.units.Size.TheVariants.{Half};
 
 use std::marker::Model;
 use tz_model::{RegionKind, RegionSide, Size};
@@ -90,6 +91,14 @@ pub fn place_of(blocks: &[Block], addr: u32) -> Option<(usize, usize)>
     None
 }
 
+/// The halfword at an offset, its low byte first.
+pub fn half_in(bytes: &[u8], offset: usize) -> u16
+    requires { offset + 1 < length bytes.now }
+    ensures { result ≡ number_in bytes.now offset Half }
+{
+    u16::from_le_bytes([bytes[offset], bytes[offset + 1]])
+}
+
 /// The number of a size at an offset, its low byte first.
 pub fn number_in(bytes: &[u8], offset: usize, size: Size) -> u32
     requires { offset + more_of size < length bytes.now }
@@ -97,7 +106,7 @@ pub fn number_in(bytes: &[u8], offset: usize, size: Size) -> u32
 {
     match size {
         Size::Byte => u32::from(bytes[offset]),
-        Size::Half => u32::from(u16::from_le_bytes([bytes[offset], bytes[offset + 1]])),
+        Size::Half => u32::from(half_in(bytes, offset)),
         Size::Word => u32::from_le_bytes([
             bytes[offset],
             bytes[offset + 1],

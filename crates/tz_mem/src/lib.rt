@@ -6,6 +6,7 @@
 #![tactic(auto)]
 
 mod block;
+mod code;
 mod error;
 mod memory;
 mod numbers;

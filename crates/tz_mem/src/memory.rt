@@ -1,14 +1,16 @@
 //! Memory, by addresses.
 
 ghost use Rattle.std.specs.Prelude.{◌≡◌, true, false, IfOk, IfErr, OnOk, OnErr, MatchResult, map};
+ghost use Rattle.tz_table.specs.declared.units.Size.TheVariants.{Half};
 ghost use Rattle.tz_mem.specs.Blocks.{entries_of, region_of};
-ghost use Rattle.tz_mem.specs.Values.{MemoryValue, with_bytes, IsRefusal};
+ghost use Rattle.tz_mem.specs.Values.{MemoryValue, with_bytes, IsRefusal, IsCode};
 ghost use Rattle.tz_state.specs.Access.{is_mapped, is_writable};
 ghost use Rattle.tz_state.specs.Memory as bytes;
 ghost use Rattle.tz_state.specs.Memory.{every, value_at, with_byte, with_value};
 ghost use Rattle.tz_state.specs.Zeros.{zero_entries, zero_memory};
 
 use crate::block::Block;
+use crate::code::code_at;
 use crate::error::{NotMapped, Refused};
 use crate::numbers::{number_at, put_all, put_byte, write_number};
 use std::alloc::{AllocError, Global};
@@ -96,6 +98,22 @@ impl Memory {
     {
         match number_at(&self.blocks, addr, size) {
             Some(value) => Ok(value),
+            None => Err(NotMapped),
+        }
+    }
+
+    /// What a fetch at an address reads: its halfword, and the one after it, or none where no region holds
+    /// some byte of that.
+    ///
+    /// # Errors
+    ///
+    /// `NotMapped` where no region holds some byte of the first.
+    pub fn read_code(&self, addr: u32) -> Result<(u16, Option<u16>), NotMapped>
+        ensures { MatchResult result (λ code. IsCode self.now addr code.0 code.1)
+            (λ _. every (is_mapped self.now.regions) addr Half ≡ false) }
+    {
+        match code_at(&self.blocks, addr) {
+            Some(code) => Ok(code),
             None => Err(NotMapped),
         }
     }

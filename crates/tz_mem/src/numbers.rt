@@ -15,7 +15,7 @@ use crate::error::Refused;
 use tz_model::{RegionKind, Size};
 
 /// The byte of an address.
-fn byte_of(blocks: &[Block], addr: u32) -> Option<u8>
+pub fn byte_of(blocks: &[Block], addr: u32) -> Option<u8>
     ensures { result ≡ byte_in blocks.now addr }
 {
     match place_of(blocks, addr) {
@@ -60,7 +60,7 @@ fn number_by_bytes(blocks: &[Block], addr: u32, size: Size) -> Option<u32>
 }
 
 /// The block that holds all of an access, and the offset of its first byte, if a block does.
-fn whole_of(blocks: &[Block], addr: u32, size: Size) -> Option<(usize, usize)>
+pub fn whole_of(blocks: &[Block], addr: u32, size: Size) -> Option<(usize, usize)>
     ensures { IfSome result (λ place. (addr + more_of size < 2 ^ 32)
         × IsRun blocks.now addr (addr + more_of size) place.0 place.1) }
 {
