@@ -147,13 +147,9 @@ pub(crate) fn load_many<P: Port>(
     if let Some(fault) = refusal_past(core, back, rn, past) {
         return Err(fault);
     }
-    match load_words(port, lowest(down, base, count), count) {
-        Ok(words) => {
-            write_back_past(core, back, rn, past);
-            Ok(finish_load_many(core, list, &registers, &words))
-        }
-        Err(fault) => Err(fault),
-    }
+    let words = load_words(port, lowest(down, base, count), count)?;
+    write_back_past(core, back, rn, past);
+    Ok(finish_load_many(core, list, &registers, &words))
 }
 
 /// A store of many registers. Where one can't be stored, those before it stand, and the base stays.
@@ -177,11 +173,7 @@ pub(crate) fn store_many<P: Port>(
     if let Some(fault) = refusal_past(core, back, rn, past) {
         return Err(fault);
     }
-    match store_words(core, port, lowest(down, base, count), &registers) {
-        Ok(()) => {
-            write_back_past(core, back, rn, past);
-            Ok(Outcome::Next)
-        }
-        Err(fault) => Err(fault),
-    }
+    store_words(core, port, lowest(down, base, count), &registers)?;
+    write_back_past(core, back, rn, past);
+    Ok(Outcome::Next)
 }
