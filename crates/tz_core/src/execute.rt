@@ -3,28 +3,47 @@
 ghost use Rattle.std.specs.Prelude.{◌≡◌, []};
 ghost use Rattle.arrayvec.specs.ArrayVec.{array_vec_len};
 ghost use Rattle.tz_regs.specs.Priority.{mask_priority};
-ghost use Rattle.tz_regs.specs.Special.{named_of};
-ghost use Rattle.tz_exec.specs.Local.{finished_named};
-ghost use Rattle.tz_exec.specs.System.{finish_system};
+ghost use Rattle.tz_exec.specs.declared.family.Family.TheVariants.{Branch};
+ghost use Rattle.tz_exec.specs.Exec.{system_over, executed_by};
 
+use crate::asking::asker_of;
 use crate::changes::Stores;
+use crate::exclusive::run_load_store;
 use crate::port::CorePort;
 use crate::running::Machine;
+use tz_access::Bus;
 use tz_model::{Fault, Insn, Outcome};
 use tz_regs::Core;
-use tz_state::Asker;
+
+/// A branch, or IT.
+fn run_branch(
+    insn: &Insn,
+    core: &mut Core,
+    bus: &mut Bus,
+    stores: &mut Stores,
+) -> Result<Outcome, Fault>
+    requires { array_vec_len stores.old ≡ 0 }
+    ensures { executed_by Branch (record { core = core.old; bus = bus.old }) insn.now ≡ record { state = record { core = core.new; bus = bus.new }; stores = stores.new.items; outcome = result } }
+{
+    let mut port = CorePort {
+        asker: asker_of(core),
+        bus,
+        stores,
+    };
+    tz_branch::execute(insn, core, &mut port)
+}
 
 /// A system instruction, at the execution priority that the masks give.
-fn run_system(insn: &Insn, core: &mut Core) -> Result<Outcome, Fault>
-    ensures { finished_named core.old (finish_system (mask_priority core.old.masks) insn.now (named_of core.old)) ≡ (core.new, result) }
+fn run_system(insn: &Insn, core: &mut Core, bus: &mut Bus) -> Result<Outcome, Fault>
+    ensures { system_over (mask_priority core.old.masks) insn.now core.old bus.old ≡ record { core = core.new; held = bus.new; outcome = result } }
 {
     let priority = core.masks.priority();
-    tz_system::execute(insn, core, priority)
+    tz_system::execute(insn, core, bus, priority)
 }
 
 impl Machine {
-    ghost use Rattle.tz_exec.specs.declared.family.Family.TheVariants.{Alu, LoadStore, Branch, System};
-    ghost use Rattle.tz_exec.specs.Exec.{executed_by, executed};
+    ghost use Rattle.tz_exec.specs.declared.family.Family.TheVariants.{Alu, LoadStore, System};
+    ghost use Rattle.tz_exec.specs.Exec.{executed};
 
     /// Data processing.
     fn data(&mut self, insn: &Insn) -> Result<Outcome, Fault>
@@ -38,15 +57,7 @@ impl Machine {
         requires { array_vec_len stores.old ≡ 0 }
         ensures { executed_by LoadStore self.old insn.now ≡ record { state = self.new; stores = stores.new.items; outcome = result } }
     {
-        let mut port = CorePort {
-            asker: Asker {
-                side: self.core.run.side,
-            },
-            memory: &mut self.memory,
-            board: &self.board,
-            stores,
-        };
-        tz_loadstore::execute(insn, &mut self.core, &mut port)
+        run_load_store(insn, &mut self.core, &mut self.bus, stores)
     }
 
     /// Branches, and IT.
@@ -54,22 +65,14 @@ impl Machine {
         requires { array_vec_len stores.old ≡ 0 }
         ensures { executed_by Branch self.old insn.now ≡ record { state = self.new; stores = stores.new.items; outcome = result } }
     {
-        let mut port = CorePort {
-            asker: Asker {
-                side: self.core.run.side,
-            },
-            memory: &mut self.memory,
-            board: &self.board,
-            stores,
-        };
-        tz_branch::execute(insn, &mut self.core, &mut port)
+        run_branch(insn, &mut self.core, &mut self.bus, stores)
     }
 
     /// System instructions, which know the execution priority.
     fn system(&mut self, insn: &Insn) -> Result<Outcome, Fault>
         ensures { executed_by System self.old insn.now ≡ record { state = self.new; stores = []; outcome = result } }
     {
-        run_system(insn, &mut self.core)
+        run_system(insn, &mut self.core, &mut self.bus)
     }
 
     /// Runs an instruction up to how it goes on: all but PC and the IT state is as it leaves it, and its

@@ -4,8 +4,10 @@
 //! memory holds, how addresses are attributed and which check fails first is decided below.
 #![tactic(auto)]
 
+mod asking;
 mod changes;
 mod ending;
+mod exclusive;
 mod execute;
 mod it_rules;
 mod port;

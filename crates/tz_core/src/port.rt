@@ -1,28 +1,26 @@
-//! The port of the machine: the accesses of its instructions, to memory.
+//! The port of the machine: the accesses of its instructions, by the bus.
 
 ghost use Rattle.std.specs.Prelude.{◌-◌, ℕ};
 ghost use Rattle.arrayvec.specs.ArrayVec.{array_vec_len};
 ghost use Rattle.tz_state.specs.Access.{access, Reached};
 
 use crate::changes::Stores;
-use tz_access::{load_verdict, store_verdict};
-use tz_mem::Memory;
-use tz_model::{Board, Fault, Port, Size, Store, cut_to};
+use tz_access::Bus;
+use tz_model::{Fault, Port, Size, Store, cut_to};
 use tz_state::Asker;
 
-/// The accesses of one instruction: who asks for them, what they reach, and the stores made.
+/// The accesses of one instruction: who asks for them, the bus, and the stores made.
 #[derive(Drop)]
 pub struct CorePort<'a> {
     pub asker: Asker,
-    pub memory: &'a mut Memory,
-    pub board: &'a Board,
+    pub bus: &'a mut Bus,
     pub stores: &'a mut Stores,
 }
 
 impl Port for CorePort<'_> {
     ghost Held = { Reached };
 
-    ghost held = { λ p. record { asker = p.asker; memory = p.memory.now; board = p.board.now; stores = p.stores.now.items } };
+    ghost held = { λ p. record { asker = p.asker; bus = p.bus.now; stores = p.stores.now.items } };
 
     ghost answer = { access };
 
@@ -30,14 +28,11 @@ impl Port for CorePort<'_> {
 
     ghost Lent = { ℕ × ℕ };
 
-    ghost lent = { λ p. (p.memory.ghost_name, p.stores.ghost_name) };
+    ghost lent = { λ p. (p.bus.ghost_name, p.stores.ghost_name) };
 
     #[tactic(auto, unfolding(tz_state::specs::Access::access))]
-    fn load(&mut self, addr: u32, size: Size, must_align: bool, _user: bool) -> Result<u32, Fault> {
-        match load_verdict(self.board, self.asker.side, size, addr, must_align) {
-            Some(fault) => Err(fault),
-            None => Ok(self.memory.value(size, addr)),
-        }
+    fn load(&mut self, addr: u32, size: Size, must_align: bool, user: bool) -> Result<u32, Fault> {
+        self.bus.load(&self.asker, size, addr, must_align, user)
     }
 
     #[tactic(auto, unfolding(tz_state::specs::Access::access))]
@@ -47,14 +42,18 @@ impl Port for CorePort<'_> {
         size: Size,
         value: u32,
         must_align: bool,
-        _user: bool,
+        user: bool,
     ) -> Result<(), Fault> {
-        if let Some(fault) = store_verdict(self.board, self.asker.side, size, addr, must_align) {
-            return Err(fault);
+        match self.bus.store(&self.asker, size, addr, value, must_align, user) {
+            Err(fault) => Err(fault),
+            Ok(()) => {
+                self.stores.push(Store {
+                    addr,
+                    size,
+                    value: cut_to(size, value),
+                });
+                Ok(())
+            }
         }
-        let value = cut_to(size, value);
-        self.memory.put_value(size, addr, value);
-        self.stores.push(Store { addr, size, value });
-        Ok(())
     }
 }

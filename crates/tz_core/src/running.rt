@@ -3,27 +3,26 @@
 ghost use Rattle.std.specs.Prelude.{◌≡◌, ◌+◌};
 ghost use Rattle.arrayvec.specs.ArrayVec.{array_vec_len};
 ghost use Rattle.tz_model.specs.Words.{wrap};
-ghost use Rattle.std.specs.Prelude.{Some};
+ghost use Rattle.std.specs.Prelude.{Some, None};
 ghost use Rattle.tz_sem.specs.declared.ending.Cause.TheVariants.{Went};
 ghost use Rattle.tz_model.specs.Codes.{second_of};
 ghost use Rattle.tz_sem.specs.Step.{length_of};
 
+use crate::asking::fetcher_of;
 use crate::changes::Stores;
 use crate::it_rules::{ignores_condition, is_misplaced, is_passed_over};
 use std::marker::Model;
-use tz_access::{fetch_at, is_own_fetch};
+use tz_access::Bus;
 use tz_decode::{Decoded, decode};
-use tz_mem::Memory;
 use tz_model::{Board, Code, Fault, Insn, Outcome, Report, ScriptEvent, Side};
 use tz_regs::Core;
 use tz_sem::{Cause, Ending};
 
-/// The machine: the core, its memory and its board.
+/// The machine: the core, and its memory with the units that guard it.
 #[derive(Drop)]
 pub struct Machine {
     pub(crate) core: Core,
-    pub(crate) memory: Memory,
-    pub(crate) board: Board,
+    pub(crate) bus: Bus,
 }
 
 impl Model for Machine {
@@ -36,7 +35,7 @@ impl Model for Machine {
 
     ghost coded = { Prim.hlevel (codes, map.code {R = nat_cmp} coded_ℕ coded_ℕ) };
 
-    ghost view = { λ m. record { core = m.core; memory = m.memory; board = m.board } };
+    ghost view = { λ m. record { core = m.core; bus = m.bus } };
 }
 
 /// The address after an instruction.
@@ -58,17 +57,18 @@ fn second_of(code: &Code) -> u16
 
 /// An instruction ran.
 fn ran(touched: bool, code: &Code) -> Ending
-    ensures { result ≡ record { touched = touched; cause = Went; ran = Some code.now } }
+    ensures { result ≡ record { touched = touched; cause = Went; ran = Some code.now; fault = None } }
 {
     Ending {
         touched,
         cause: Cause::Went,
         ran: Some(*code),
+        fault: None,
     }
 }
 
 impl Machine {
-    ghost use Rattle.std.specs.Prelude.{List, [], Some, None, true};
+    ghost use Rattle.std.specs.Prelude.{List, [], true};
     ghost use Rattle.tz_model.specs.declared.report.Store.{Store};
     ghost use Rattle.tz_model.specs.declared.report.ScriptEvent.{ScriptEvent as DueEvent};
     ghost use Rattle.tz_sem.specs.declared.ending.Cause.TheVariants.{Went};
@@ -93,31 +93,45 @@ impl Machine {
 
     /// The board.
     pub fn board(&self) -> &Board
-        ensures { result.now ≡ self.now.board }
+        ensures { result.now ≡ self.now.bus.board }
     {
-        &self.board
+        self.bus.board()
     }
 
-    /// Locks the machine.
-    fn lock(&mut self, touched: bool) -> Ending
+    /// The core.
+    pub fn core(&self) -> &Core
+        ensures { result.now ≡ self.now.core }
+    {
+        &self.core
+    }
+
+    /// Memory, with the units that guard it.
+    pub fn bus(&self) -> &Bus
+        ensures { result.now ≡ self.now.bus }
+    {
+        &self.bus
+    }
+
+    /// Locks the machine, by a fault or because it was locked.
+    fn lock(&mut self, touched: bool, fault: Option<Fault>) -> Ending
         ensures state { self.new ≡ with_run self.old (record self.old.core.run { locked = true }) }
-        ensures ending { result ≡ record { touched = touched; cause = Went; ran = None } }
+        ensures ending { result ≡ record { touched = touched; cause = Went; ran = None; fault = fault } }
     {
         self.core.run.locked = true;
         Ending {
             touched,
             cause: Cause::Went,
             ran: None,
+            fault,
         }
     }
 
     /// Ends a step that faults, which locks the machine whatever the fault.
     fn fault(&mut self, touched: bool, fault: Fault) -> Ending
         ensures state { self.new ≡ with_run self.old (record self.old.core.run { locked = true }) }
-        ensures ending { result ≡ record { touched = touched; cause = Went; ran = None } }
+        ensures ending { result ≡ record { touched = touched; cause = Went; ran = None; fault = Some fault } }
     {
-        let _fault = fault;
-        self.lock(touched)
+        self.lock(touched, Some(fault))
     }
 
     /// Moves the IT state on past an instruction, which IT does by itself.
@@ -133,7 +147,7 @@ impl Machine {
     /// Goes on to the next instruction.
     fn go_next(&mut self, touched: bool, code: &Code) -> Ending
         ensures state { self.new ≡ with_pc self.old (wrap (self.old.core.registers.pc + length_of code.now)) }
-        ensures ending { result ≡ record { touched = touched; cause = Went; ran = Some code.now } }
+        ensures ending { result ≡ record { touched = touched; cause = Went; ran = Some code.now; fault = None } }
     {
         self.core.registers.pc = next_of(self.core.registers.pc, code);
         ran(touched, code)
@@ -195,6 +209,7 @@ impl Machine {
                 touched,
                 cause: Cause::Returned,
                 ran: Some(*code),
+                fault: None,
             }
         } else {
             ran(touched, code)
@@ -267,7 +282,7 @@ impl Machine {
         match self.core.run.side {
             Side::Secure => true,
             Side::NonSecure => {
-                !is_own_fetch(&self.board, Side::NonSecure, self.core.registers.pc)
+                !self.bus.is_own_fetch(Side::NonSecure, self.core.registers.pc)
             }
         }
     }
@@ -289,15 +304,14 @@ impl Machine {
         ensures { ended self.old ≡ record { state = self.new; stores = stores.new.items; ending = result } }
     {
         if self.core.run.locked {
-            return self.lock(true);
+            return self.lock(true, None);
         }
         if !self.core.registers.t {
             let touched = self.looks();
             let fault = self.unready(touched);
             return self.fault(touched, fault);
         }
-        let pc = self.core.registers.pc;
-        let found = fetch_at(&self.board, self.core.run.side, &self.memory, pc);
+        let found = self.bus.fetch_told(self.core.registers.pc, &fetcher_of(&self.core));
         match found.answer {
             Err(fault) => self.fault(found.touched, fault),
             Ok(fetched) => {

@@ -1,31 +1,40 @@
 //! The machine at its start.
 
-ghost use Rattle.std.specs.Prelude.{◌≡◌, IfOk};
-ghost use Rattle.tz_sem.specs.Boot.{with_segments, boot_memory, has_vectors, boot};
+ghost use Rattle.std.specs.Prelude.{◌≡◌, ◌+◌, true, false, ◌&&◌, IfOk, MatchOption};
+ghost use Rattle.tz_table.specs.declared.units.Size.TheVariants.{Word};
+ghost use Rattle.tz_model.specs.Words.{wrap};
+ghost use Rattle.tz_state.specs.Memory.{every, word_at};
+ghost use Rattle.tz_state.specs.Access.{is_mapped};
+ghost use Rattle.tz_state.specs.State.{with_memory};
+ghost use Rattle.tz_sem.specs.Boot.{with_segments, boot};
 
 use crate::running::Machine;
 use std::alloc::{AllocError, Global};
-use tz_access::is_word_mapped;
-use tz_mem::Memory;
-use tz_model::{Board, Image, Segment};
+use tz_access::Bus;
+use tz_model::{Board, Image, Segment, Size};
 use tz_regs::Core;
 
 /// Puts the bytes of segments into memory.
 #[tactic(auto, unfolding(tz_sem::specs::Boot::with_segments))]
-fn put_segments(memory: &mut Memory, segments: &[Segment])
-    ensures { memory.new ≡ with_segments memory.old segments.now }
+fn put_segments(bus: &mut Bus, segments: &[Segment])
+    ensures { bus.new ≡ with_memory bus.old (with_segments bus.old.memory segments.now) }
 {
     for segment in segments {
-        memory.put_segment(segment);
+        bus.put_segment(segment);
     }
 }
 
-/// Whether both words at the start of the Secure vector table are in memory.
-fn has_vectors(board: &Board) -> bool
-    ensures { result ≡ has_vectors board.now }
+/// Both words at the start of the Secure vector table, where they are in memory.
+fn vectors(bus: &Bus, vtor: u32) -> Option<(u32, u32)>
+    ensures { MatchOption result ((every (is_mapped bus.now.board.regions) vtor Word && every (is_mapped bus.now.board.regions) (wrap (vtor + 4)) Word) ≡ false) (λ words. ((every (is_mapped bus.now.board.regions) vtor Word && every (is_mapped bus.now.board.regions) (wrap (vtor + 4)) Word) ≡ true) × (words ≡ (word_at bus.now.memory vtor, word_at bus.now.memory (wrap (vtor + 4))))) }
 {
-    is_word_mapped(board, board.secure_vtor)
-        && is_word_mapped(board, board.secure_vtor.wrapping_add(4))
+    match bus.read(vtor, Size::Word) {
+        Ok(sp) => match bus.read(vtor.wrapping_add(4), Size::Word) {
+            Ok(start) => Some((sp, start)),
+            Err(_) => None,
+        },
+        Err(_) => None,
+    }
 }
 
 impl Machine {
@@ -40,21 +49,17 @@ impl Machine {
     ) -> Result<Machine, AllocError>
         ensures { IfOk result (λ m. m ≡ boot board.now secure.now nonsecure.now) }
     {
-        let mut memory = Memory::new(alloc, board)?;
-        put_segments(&mut memory, &secure.segments);
-        put_segments(&mut memory, &nonsecure.segments);
-        let board = board.duplicate(alloc)?;
-        let runs = has_vectors(&board);
-        let (sp, start) = if runs {
-            let vtor = board.secure_vtor;
-            (memory.word(vtor), memory.word(vtor.wrapping_add(4)))
-        } else {
-            (0, 0)
+        let mut bus = Bus::new(alloc, board)?;
+        put_segments(&mut bus, &secure.segments);
+        put_segments(&mut bus, &nonsecure.segments);
+        let vtor = board.secure_vtor;
+        let (sp, start, locked) = match vectors(&bus, vtor) {
+            Some((sp, start)) => (sp, start, false),
+            None => (0, 0, true),
         };
         Ok(Machine {
-            core: Core::reset(board.secure_vtor, board.nonsecure_vtor, sp, start, !runs),
-            memory,
-            board,
+            core: Core::reset(vtor, board.nonsecure_vtor, sp, start, locked),
+            bus,
         })
     }
 }

@@ -41,7 +41,7 @@ pub record Locks (s s' : State) (e e' : Ended) : Type 0 where
 pub data Both (s s' : State) (e e' : Ended) : Type 0 where
   Go : Goes s s' e e' → Both s s' e e'
   Lock : Locks s s' e e' → Both s s' e e'
-  Touch : ((before : Seen) → board_seen before ≡ s.board → Touching s before e) → ((before : Seen) → board_seen before ≡ s'.board → Touching s' before e')
+  Touch : ((before : Seen) → board_seen before ≡ s.bus.board → Touching s before e) → ((before : Seen) → board_seen before ≡ s'.bus.board → Touching s' before e')
       → Arrives s e → Arrives s' e' → Both s s' e e'
 
 -- one choice in both

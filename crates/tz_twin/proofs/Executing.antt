@@ -1,229 +1,281 @@
--- An instruction of Non-secure code, and how the step goes on after it: twins stay twins, or both lock.
-use Rattle.std.proofs.Common.{◌≡◌, ℕ, ◌+◌, ◌%◌, ◌==◌, Bool, true, List, [], Result, Ok, Err, refl, sym, subst, ◌&&◌, not, Option, Some, None}
-use Rattle.tz_table.specs.declared.units.Side.TheVariants.{NonSecure}
+-- An instruction of Non-secure code: what it leaves is open, and the same in twins.
+use Rattle.std.proofs.Common.{◌≡◌, ℕ, ℤ, Bool, true, false, cond, not, ◌&&◌, List, [], Option, Some, None, Result, Ok, Err, refl, sym, subst}
+use Rattle.std.specs.Prelude.{IfSome}
+use Rattle.tz_table.specs.declared.units.Side.{Side}
+use Rattle.tz_table.specs.declared.units.Side.TheVariants.{Secure, NonSecure}
 use Rattle.tz_table.specs.declared.units.Code.{Code}
 use Rattle.tz_table.specs.declared.decoded.Decoded.{Decoded}
 use Rattle.tz_table.specs.declared.decoded.Decoded.TheVariants.{One, NoCoprocessor, Undefined}
 use Rattle.tz_table.specs.declared.instruction.Insn.{Insn}
+use Rattle.tz_table.specs.declared.instruction.Insn.TheVariants.{TestTarget}
 use Rattle.tz_model.specs.declared.report.Fault.{Fault}
+use Rattle.tz_model.specs.declared.report.Fault.TheVariants.{Undef, NoCp, Unaligned}
 use Rattle.tz_model.specs.declared.report.Outcome.{Outcome}
-use Rattle.tz_model.specs.declared.report.Outcome.TheVariants.{Next, Jump, Exchange, Sleep}
+use Rattle.tz_model.specs.declared.report.Outcome.TheVariants.{Next}
 use Rattle.tz_model.specs.declared.report.Store.{Store}
-use Rattle.tz_model.specs.Words.{wrap, even_of}
-use Rattle.tz_regs.specs.declared.parts.Registers.{Registers}
-use Rattle.tz_regs.specs.ItState.{it_advanced}
 use Rattle.tz_regs.specs.Priority.{mask_priority}
 use Rattle.tz_regs.specs.Special.{Named, named_of}
+use Rattle.tz_state.specs.declared.probe.Probe.{Probe}
+use Rattle.tz_state.specs.declared.request.Exclusive.{Exclusive}
 use Rattle.tz_state.specs.Memory.{Memory}
-use Rattle.tz_state.specs.State.{State}
-use Rattle.tz_state.specs.Attribution.{map_on}
-use Rattle.tz_state.specs.Access.{Reached, reached_in}
+use Rattle.tz_state.specs.Access.{is_aligned, Reached, reached_in}
+use Rattle.tz_state.specs.Target.{target_word}
 use Rattle.tz_exec.specs.declared.family.Family.{Family}
 use Rattle.tz_exec.specs.declared.family.Family.TheVariants.{Alu, LoadStore, Branch, System}
-use Rattle.tz_exec.specs.Local.{Local, Finished, FinishedNamed, local_of, finished_in, finished_named}
+use Rattle.tz_exec.specs.Local.{Local, Finished, FinishedNamed, local_of, put, finished_in, finished_named}
 use Rattle.tz_exec.specs.Alu.{finish_alu}
 use Rattle.tz_exec.specs.LoadStore.{refusal, plan_load_store, finish_load_store}
 use Rattle.tz_exec.specs.Branch.{plan_branch, finish_branch}
-use Rattle.tz_exec.specs.System.{finish_system}
+use Rattle.tz_exec.specs.System.{finish_system, clears_monitor, probe_of}
 use Rattle.tz_exec.specs.ItRules.{is_misplaced, is_passed_over, ignores_condition}
-use Rattle.tz_exec.specs.Exec.{Ported, unless_refused, after_accesses, ported, alone, through, family_of, executed_by}
-use Rattle.tz_sem.specs.declared.ending.Ending.{Ending}
-use Rattle.tz_sem.specs.Step.{length_of, locks, is_fnc_return, branch_ns, exchanged, it_after, skips, goes_on, executes, placed, decoded}
-use Rattle.tz_twin.specs.Integrity.{KeepsBytes}
-use Rattle.tz_twin.proofs.Bytes.{SameOpen, keeps_nothing_changed}
-use Rattle.tz_twin.proofs.Split.{Open, Rest, join, twins_join}
-use Rattle.tz_twin.proofs.Both.{Both, Go, Lock, both_cond}
+use Rattle.tz_exec.specs.Exec.{Ported, ported, unless_refused, after_accesses, probed, cleared_by, Executed, alone, beside, through, Exclusivity, Free, Marks, Takes, exclusivity, is_held, marked_by, marked, loads_stores, stores_exclusive, exclusively, family_of, executed_by}
+use Rattle.tz_sem.specs.Step.{executes, placed, decoded}
+use Rattle.tz_twin.proofs.Bytes.{SameOpen}
+use Rattle.tz_twin.proofs.Split.{Open, Rest, open_map, join_bus, join}
+use Rattle.tz_twin.proofs.Both.{Both, both_cond}
 use Rattle.tz_twin.proofs.Accesses.{SameAnswers, reached, answers_same}
+use Rattle.tz_twin.proofs.Leaving.{left, Beside, beside_start, Follows, follows_itself, both_lock, both_fault, goes_on_same, skips_same}
 
--- a state with another memory
-abbrev pub left : Open → Rest → Memory → State
-left o x memory = join o (record x { memory = memory })
+-- what instructions left of twins: one open part, the same stores and outcome, and memories beside each other
+pub record Alike (o : Open) (x x' : Rest) (e e' : Executed) : Type 0 where
+  pub part : Open
+  pub memory : Memory
+  pub memory' : Memory
+  pub state : e.state ≡ left part x memory
+  pub state' : e'.state ≡ left part x' memory'
+  pub stores : e.stores ≡ e'.stores
+  pub outcome : e.outcome ≡ e'.outcome
+  pub follows : Follows o part
+  pub beside : Beside o x x' memory memory'
 
--- two memories after the two that a step began with: they are the same to Non-secure code, and keep all else
-pub record Beside (o : Open) (x x' : Rest) (n n' : Memory) : Type 0 where
-  pub bytes : SameOpen (map_on o.board) n n'
-  pub kept : KeepsBytes (map_on o.board) x.memory n
-  pub kept' : KeepsBytes (map_on o.board) x'.memory n'
+-- the step goes on alike
+concluded : (o p : Open) (x x' : Rest) (n n' : Memory) (touched : Bool) (code : Code) (i : Insn) (stores : List Store) (out : Result Outcome Fault) → Follows o p → Beside o x x' n n'
+    → Both (join o x) (join o x') (executes touched code i (record { state = left p x n; stores = stores; outcome = out })) (executes touched code i (record { state = left p x' n'; stores = stores; outcome = out }))
+concluded o p x x' n n' touched code i stores (Ok outcome) f h = goes_on_same o p x x' n n' touched code i stores outcome f h
+concluded o p x x' n n' touched code i stores (Err fault) f h = both_lock o p x x' n n' touched (Some fault) stores f h
 
-pub beside_start : (o : Open) (x x' : Rest) → SameOpen (map_on o.board) x.memory x'.memory → Beside o x x' x.memory x'.memory
-beside_start o x x' same = record {
-  bytes = same;
-  kept = keeps_nothing_changed (map_on o.board) x.memory;
-  kept' = keeps_nothing_changed (map_on o.board) x'.memory;
+executes_same : (o : Open) (x x' : Rest) (touched : Bool) (code : Code) (i : Insn) (e e' : Executed) → Alike o x x' e e'
+    → Both (join o x) (join o x') (executes touched code i e) (executes touched code i e')
+executes_same o x x' touched code i e e' a =
+    let here : e ≡ record { state = left a.part x a.memory; stores = e.stores; outcome = e.outcome } =
+    λ j. record { state = a.state j; stores = e.stores; outcome = e.outcome } in
+    let there : e' ≡ record { state = left a.part x' a.memory'; stores = e.stores; outcome = e.outcome } =
+    λ j. record { state = a.state' j; stores = sym a.stores j; outcome = sym a.outcome j } in
+    subst (λ (y : Executed). Both (join o x) (join o x') (executes touched code i y) (executes touched code i e')) (sym here)
+    (subst (λ (y : Executed). Both (join o x) (join o x') (executes touched code i (record { state = left a.part x a.memory; stores = e.stores; outcome = e.outcome })) (executes touched code i y)) (sym there)
+    (concluded o a.part x x' a.memory a.memory' touched code i e.stores e.outcome a.follows a.beside))
+
+alike_cond : (o : Open) (x x' : Rest) (t : Bool) (e f e' f' : Executed) → Alike o x x' e e' → Alike o x x' f f' → Alike o x x' (cond t e f) (cond t e' f')
+alike_cond o x x' true e f e' f' p q = p
+alike_cond o x x' false e f e' f' p q = q
+
+-- nothing of memory changed
+alike_open : (o p : Open) (x x' : Rest) (outcome : Result Outcome Fault) → Follows o p → SameOpen (open_map o) x.memory x'.memory
+    → Alike o x x' (record { state = left p x x.memory; stores = []; outcome = outcome }) (record { state = left p x' x'.memory; stores = []; outcome = outcome })
+alike_open o p x x' outcome f same = record {
+  part = p;
+  memory = x.memory;
+  memory' = x'.memory;
+  state = refl;
+  state' = refl;
+  stores = refl;
+  outcome = refl;
+  follows = f;
+  beside = beside_start o x x' same;
 }
 
--- an open part that a step of Non-secure code may leave: on the same board, with the same Secure masks
-pub record Follows (o p : Open) : Type 0 where
-  pub board : p.board ≡ o.board
-  pub masks : p.masks.s ≡ o.masks.s
+-- ---- instructions that make no access
 
-follows_itself : (o : Open) → Follows o o
-follows_itself o = record { board = refl; masks = refl }
-
-abbrev pub on_board : Open → Registers → Open
-on_board o r = record o { registers = r }
-
-on_same_board : (o p : Open) (r : Registers) → Follows o p → Follows o (on_board p r)
-on_same_board o p r f = record { board = f.board; masks = f.masks }
-
--- a step that ends in Non-secure code
-goes : (o p : Open) (x x' : Rest) (n n' : Memory) (stores : List Store) (ending : Ending) → Follows o p → Beside o x x' n n'
-    → Both (join o x) (join o x') (record { state = left p x n; stores = stores; ending = ending }) (record { state = left p x' n'; stores = stores; ending = ending })
-goes o p x x' n n' stores ending f h =
-    Go (record {
-      twins = twins_join p (record x { memory = n }) (record x' { memory = n' }) (subst (λ b. SameOpen (map_on b) n n') (sym f.board) h.bytes);
-      ending = refl;
-      stores = refl;
-      kept = record { bytes = h.kept; stacks = refl; masks = f.masks; status = refl; board = f.board };
-      kept' = record { bytes = h.kept'; stacks = refl; masks = f.masks; status = refl; board = f.board };
-    })
-
--- a step that locks
-pub both_lock : (o p : Open) (x x' : Rest) (n n' : Memory) (touched : Bool) (stores : List Store) → Follows o p → Beside o x x' n n'
-    → Both (join o x) (join o x') (locks (left p x n) touched stores) (locks (left p x' n') touched stores)
-both_lock o p x x' n n' touched stores f h =
-    Lock (record {
-      locked = refl;
-      locked' = refl;
-      kept = record { bytes = h.kept; stacks = refl; masks = f.masks; status = refl; board = f.board };
-      kept' = record { bytes = h.kept'; stacks = refl; masks = f.masks; status = refl; board = f.board };
-    })
-
--- a step that locks before an instruction did anything
-pub both_fault : (o : Open) (x x' : Rest) (touched : Bool) → SameOpen (map_on o.board) x.memory x'.memory → Both (join o x) (join o x') (locks (join o x) touched []) (locks (join o x') touched [])
-both_fault o x x' touched same = both_lock o o x x' x.memory x'.memory touched [] (follows_itself o) (beside_start o x x' same)
-
--- ---- how the step goes on, from an open part that the instruction left
-
--- that part past the instruction
-abbrev pub past_of : Insn → Open → Open
-past_of i p = on_board p (record p.registers { it = it_after i p.registers.it })
-
-branch_ns_same : (o p : Open) (x x' : Rest) (n n' : Memory) (touched : Bool) (code : Code) (stores : List Store) (target : ℕ) → Follows o p → Beside o x x' n n'
-    → Both (join o x) (join o x') (branch_ns (left p x n) touched code stores target) (branch_ns (left p x' n') touched code stores target)
-branch_ns_same o p x x' n n' touched code stores target f h =
-    let r : Registers = record p.registers { pc = even_of target; t = true } in
-    both_cond _ _ (target % 2 == 0) _ _ _ _
-    (goes o (on_board p r) x x' n n' stores _ (on_same_board o p r f) h)
-    (goes o (on_board p r) x x' n n' stores _ (on_same_board o p r f) h)
-
-exchanged_same : (o p q : Open) (x x' : Rest) (n n' : Memory) (touched : Bool) (code : Code) (stores : List Store) (target : ℕ) (ns : Bool) → Follows o p → Follows o q → Beside o x x' n n'
-    → Both (join o x) (join o x') (exchanged (left p x n) (left q x n) touched code stores target ns) (exchanged (left p x' n') (left q x' n') touched code stores target ns)
-exchanged_same o p q x x' n n' touched code stores target ns f g h =
-    let r : Registers = record q.registers { pc = even_of target; t = target % 2 == 1 } in
-    both_cond _ _ (is_fnc_return target) _ _ _ _ (both_lock o p x x' n n' true stores f h)
-    (both_cond _ _ ns _ _ _ _ (branch_ns_same o q x x' n n' touched code stores target g h)
-    (goes o (on_board q r) x x' n n' stores _ (on_same_board o q r g) h))
-
--- a part with PC moved
-at_pc : (o p : Open) (x x' : Rest) (n n' : Memory) (stores : List Store) (ending : Ending) (pc : ℕ) → Follows o p → Beside o x x' n n'
-    → Both (join o x) (join o x') (record { state = left (on_board p (record p.registers { pc = pc })) x n; stores = stores; ending = ending })
-    (record { state = left (on_board p (record p.registers { pc = pc })) x' n'; stores = stores; ending = ending })
-at_pc o p x x' n n' stores ending pc f h =
-    let r : Registers = record p.registers { pc = pc } in goes o (on_board p r) x x' n n' stores ending (on_same_board o p r f) h
-
-goes_on_same : (o p : Open) (x x' : Rest) (n n' : Memory) (touched : Bool) (code : Code) (i : Insn) (stores : List Store) (out : Outcome) → Follows o p → Beside o x x' n n'
-    → Both (join o x) (join o x') (goes_on i (left p x n) touched code stores out) (goes_on i (left p x' n') touched code stores out)
-goes_on_same o p x x' n n' touched code i stores Next f h =
-    at_pc o (past_of i p) x x' n n' stores _ (wrap (p.registers.pc + length_of code)) (on_same_board o p _ f) h
-goes_on_same o p x x' n n' touched code i stores (Jump to) f h = at_pc o (past_of i p) x x' n n' stores _ to (on_same_board o p _ f) h
-goes_on_same o p x x' n n' touched code i stores (Exchange target ns) f h =
-    exchanged_same o p (past_of i p) x x' n n' touched code stores target ns f (on_same_board o p _ f) h
-goes_on_same o p x x' n n' touched code i stores (Sleep event) f h =
-    at_pc o (past_of i p) x x' n n' stores _ (wrap (p.registers.pc + length_of code)) (on_same_board o p _ f) h
-
--- an instruction that is skipped
-skips_same : (o : Open) (x x' : Rest) (touched : Bool) (code : Code) → SameOpen (map_on o.board) x.memory x'.memory
-    → Both (join o x) (join o x') (skips (join o x) touched code) (skips (join o x') touched code)
-skips_same o x x' touched code same =
-    at_pc o (on_board o (record o.registers { it = it_advanced o.registers.it })) x x' x.memory x'.memory [] _ (wrap (o.registers.pc + length_of code))
-    (on_same_board o o _ (follows_itself o)) (beside_start o x x' same)
-
--- ---- the instruction
-
--- what is open after an instruction
 left_open : Open → Local → Open
 left_open o l = record o { registers = l.registers; stacks_ns = l.own }
 
 follows_local : (o : Open) (l : Local) → Follows o (left_open o l)
 unfolding left_open
-follows_local o l = record { board = refl; masks = refl }
+follows_local o l = record { board = refl; sau = refl; masks = refl }
 
-left_named : Open → Named → Open
-left_named o n = record o { registers = n.registers; stacks_ns = n.own; masks = record n.masks { s = o.masks.s } }
-
-follows_named : (o : Open) (n : Named) → Follows o (left_named o n)
-unfolding left_named
-follows_named o n = record { board = refl; masks = refl }
-
--- one that makes no access
-alone_same : (o : Open) (x x' : Rest) (touched : Bool) (code : Code) (i : Insn) (f : Finished) → SameOpen (map_on o.board) x.memory x'.memory
-    → Both (join o x) (join o x') (executes touched code i (alone (join o x) (finished_in (join o x).core f))) (executes touched code i (alone (join o x') (finished_in (join o x').core f)))
+alike_alone : (o : Open) (x x' : Rest) (f : Finished) → SameOpen (open_map o) x.memory x'.memory
+    → Alike o x x' (alone (join o x) (finished_in (join o x).core f)) (alone (join o x') (finished_in (join o x').core f))
 unfolding left_open
-alone_same o x x' touched code i (Ok f) same =
-    goes_on_same o (left_open o f.0) x x' x.memory x'.memory touched code i [] f.1 (follows_local o f.0) (beside_start o x x' same)
-alone_same o x x' touched code i (Err fault) same = both_fault o x x' touched same
+alike_alone o x x' (Ok f) same = alike_open o (left_open o f.0) x x' (Ok f.1) (follows_local o f.0) same
+alike_alone o x x' (Err fault) same = alike_open o o x x' (Err fault) (follows_itself o) same
 
--- one that works on special registers
-named_same : (o : Open) (x x' : Rest) (touched : Bool) (code : Code) (i : Insn) (f : FinishedNamed) → SameOpen (map_on o.board) x.memory x'.memory
-    → Both (join o x) (join o x') (executes touched code i (alone (join o x) (finished_named (join o x).core f))) (executes touched code i (alone (join o x') (finished_named (join o x').core f)))
+-- ---- system instructions
+
+left_named : Open → Named → Option Exclusive → Open
+left_named o n monitor =
+    record o { registers = n.registers; stacks_ns = n.own; masks = record n.masks { s = o.masks.s }; monitor = monitor }
+
+follows_named : (o : Open) (n : Named) (monitor : Option Exclusive) → Follows o (left_named o n monitor)
 unfolding left_named
-named_same o x x' touched code i (Ok f) same =
-    goes_on_same o (left_named o f.0) x x' x.memory x'.memory touched code i [] f.1 (follows_named o f.0) (beside_start o x x' same)
-named_same o x x' touched code i (Err fault) same = both_fault o x x' touched same
+follows_named o n monitor = record { board = refl; sau = refl; masks = refl }
 
--- one that makes accesses, by their words
-words_same : (o : Open) (x x' : Rest) (n n' : Memory) (stores : List Store) (touched : Bool) (code : Code) (i : Insn) (finish : List ℕ → Finished) (words : Result (List ℕ) Fault) → Beside o x x' n n'
-    → Both (join o x) (join o x') (executes touched code i (through (join o x) (after_accesses (join o x).core (reached o.board n stores, words) finish)))
-    (executes touched code i (through (join o x') (after_accesses (join o x').core (reached o.board n' stores, words) finish)))
+-- what TT tells Non-secure code is open
+target_same : (o : Open) (x x' : Rest) (p : Probe) → p.side ≡ NonSecure → target_word (join_bus o x) p ≡ target_word (join_bus o x') p
+unfolding target_word
+target_same o x x' p e = go p.side e where
+  go : (side : Side) → side ≡ NonSecure → target_word (join_bus o x) (record p { side = side }) ≡ target_word (join_bus o x') (record p { side = side })
+  go Secure h = cc
+  go NonSecure h = refl
+
+word_same : (o : Open) (x x' : Rest) (p : Option Probe) → IfSome p (λ q. q.side ≡ NonSecure) → probed (join_bus o x) p ≡ probed (join_bus o x') p
+word_same o x x' None e = refl
+word_same o x x' (Some p) e = target_same o x x' p e
+
+-- Non-secure code asks as such
+asks_open : (priority : ℤ) (i : Insn) (n : Named) → n.side ≡ NonSecure → IfSome (probe_of priority i n) (λ p. p.side ≡ NonSecure)
+asks_open priority (TestTarget a t rd rn) n e = e
+asks_open priority i n e = tt
+
+alike_named : (o : Open) (x x' : Rest) (clears : Bool) (f : FinishedNamed) → SameOpen (open_map o) x.memory x'.memory
+    → Alike o x x' (beside (join o x) (ported (cond clears (record (join_bus o x) { monitor = None }) (join_bus o x)) (finished_named (join o x).core f)))
+    (beside (join o x') (ported (cond clears (record (join_bus o x') { monitor = None }) (join_bus o x')) (finished_named (join o x').core f)))
+unfolding left_named
+alike_named o x x' true (Ok f) same = alike_open o (left_named o f.0 None) x x' (Ok f.1) (follows_named o f.0 None) same
+alike_named o x x' false (Ok f) same = alike_open o (left_named o f.0 o.monitor) x x' (Ok f.1) (follows_named o f.0 o.monitor) same
+alike_named o x x' true (Err fault) same = alike_open o (record o { monitor = None }) x x' (Err fault) (record { board = refl; sau = refl; masks = refl }) same
+alike_named o x x' false (Err fault) same = alike_open o o x x' (Err fault) (follows_itself o) same
+
+alike_system : (o : Open) (x x' : Rest) (i : Insn) → SameOpen (open_map o) x.memory x'.memory → Alike o x x' (executed_by System (join o x) i) (executed_by System (join o x') i)
+alike_system o x x' i same =
+    let n = named_of (join o x).core in
+    let p = mask_priority o.masks in
+    subst (λ w. Alike o x x' (executed_by System (join o x) i) (beside (join o x') (ported (cleared_by i (join_bus o x')) (finished_named (join o x').core (finish_system p i n w)))))
+    (word_same o x x' (probe_of p i n) (asks_open p i n refl))
+    (alike_named o x x' (clears_monitor i) (finish_system p i n (probed (join_bus o x) (probe_of p i n))) same)
+
+-- ---- instructions that make accesses
+
+-- by their words
+alike_words : (o : Open) (x x' : Rest) (n n' : Memory) (stores : List Store) (finish : List ℕ → Finished) (words : Result (List ℕ) Fault) → Beside o x x' n n'
+    → Alike o x x' (through (join o x) (after_accesses (join o x).core (reached o x n stores, words) finish))
+    (through (join o x') (after_accesses (join o x').core (reached o x' n' stores, words) finish))
 unfolding left_open
-words_same o x x' n n' stores touched code i finish (Err fault) h = both_lock o o x x' n n' touched stores (follows_itself o) h
-words_same o x x' n n' stores touched code i finish (Ok words) h = go (finish words) where
-  go : (f : Finished) → Both (join o x) (join o x') (executes touched code i (through (join o x) (ported (reached o.board n stores) (finished_in (join o x).core f))))
-      (executes touched code i (through (join o x') (ported (reached o.board n' stores) (finished_in (join o x').core f))))
-  go (Ok f) = goes_on_same o (left_open o f.0) x x' n n' touched code i stores f.1 (follows_local o f.0) h
-  go (Err fault) = both_lock o o x x' n n' touched stores (follows_itself o) h
+alike_words o x x' n n' stores finish (Err fault) h = record {
+  part = o;
+  memory = n;
+  memory' = n';
+  state = refl;
+  state' = refl;
+  stores = refl;
+  outcome = refl;
+  follows = follows_itself o;
+  beside = h;
+}
+alike_words o x x' n n' stores finish (Ok words) h = go (finish words) where
+  go : (f : Finished) → Alike o x x' (through (join o x) (ported (reached o x n stores) (finished_in (join o x).core f)))
+      (through (join o x') (ported (reached o x' n' stores) (finished_in (join o x').core f)))
+  go (Ok f) = record {
+    part = left_open o f.0;
+    memory = n;
+    memory' = n';
+    state = refl;
+    state' = refl;
+    stores = refl;
+    outcome = refl;
+    follows = follows_local o f.0;
+    beside = h;
+  }
+  go (Err fault) = record {
+    part = o;
+    memory = n;
+    memory' = n';
+    state = refl;
+    state' = refl;
+    stores = refl;
+    outcome = refl;
+    follows = follows_itself o;
+    beside = h;
+  }
 
-ported_same : (o : Open) (x x' : Rest) (touched : Bool) (code : Code) (i : Insn) (finish : List ℕ → Finished) (a a' : Reached × Result (List ℕ) Fault) → SameAnswers o.board x.memory x'.memory a a'
-    → Both (join o x) (join o x') (executes touched code i (through (join o x) (after_accesses (join o x).core a finish))) (executes touched code i (through (join o x') (after_accesses (join o x').core a' finish)))
-ported_same o x x' touched code i finish a a' h =
-    let here : a ≡ (reached o.board h.memory h.stores, a.1) = λ j. (h.held j, a.1) in
-    let there : a' ≡ (reached o.board h.memory' h.stores, a.1) = λ j. (h.held' j, sym h.answer j) in
-    subst (λ (b : Reached × Result (List ℕ) Fault). Both (join o x) (join o x') (executes touched code i (through (join o x) (after_accesses (join o x).core b finish))) (executes touched code i (through (join o x') (after_accesses (join o x').core a' finish))))
-    (sym here)
-    (subst (λ (b : Reached × Result (List ℕ) Fault). Both (join o x) (join o x') (executes touched code i (through (join o x) (after_accesses (join o x).core (reached o.board h.memory h.stores, a.1) finish))) (executes touched code i (through (join o x') (after_accesses (join o x').core b finish))))
-    (sym there) (words_same o x x' h.memory h.memory' h.stores touched code i finish a.1 (record { bytes = h.bytes; kept = h.kept; kept' = h.kept' })))
+alike_ported : (o : Open) (x x' : Rest) (finish : List ℕ → Finished) (a a' : Reached × Result (List ℕ) Fault) → SameAnswers o x x' x.memory x'.memory a a'
+    → Alike o x x' (through (join o x) (after_accesses (join o x).core a finish)) (through (join o x') (after_accesses (join o x').core a' finish))
+alike_ported o x x' finish a a' h =
+    let here : a ≡ (reached o x h.memory h.stores, a.1) = λ j. (h.held j, a.1) in
+    let there : a' ≡ (reached o x' h.memory' h.stores, a.1) = λ j. (h.held' j, sym h.answer j) in
+    subst (λ (b : Reached × Result (List ℕ) Fault). Alike o x x' (through (join o x) (after_accesses (join o x).core b finish)) (through (join o x') (after_accesses (join o x').core a' finish))) (sym here)
+    (subst (λ (b : Reached × Result (List ℕ) Fault). Alike o x x' (through (join o x) (after_accesses (join o x).core (reached o x h.memory h.stores, a.1) finish)) (through (join o x') (after_accesses (join o x').core b finish))) (sym there)
+    (alike_words o x x' h.memory h.memory' h.stores finish a.1 (record { bytes = h.bytes; kept = h.kept; kept' = h.kept' })))
 
 -- one that may be refused before its accesses
-refused_same : (o : Open) (x x' : Rest) (touched : Bool) (code : Code) (i : Insn) (refused : Option Fault) (p p' : Ported Reached) → SameOpen (map_on o.board) x.memory x'.memory
-    → Both (join o x) (join o x') (executes touched code i (through (join o x) p)) (executes touched code i (through (join o x') p'))
-    → Both (join o x) (join o x') (executes touched code i (through (join o x) (unless_refused refused (join o x).core (reached_in (join o x)) p)))
-    (executes touched code i (through (join o x') (unless_refused refused (join o x').core (reached_in (join o x')) p')))
-refused_same o x x' touched code i (Some fault) p p' same h = both_fault o x x' touched same
-refused_same o x x' touched code i None p p' same h = h
+alike_refused : (o : Open) (x x' : Rest) (refused : Option Fault) (p p' : Ported Reached) → SameOpen (open_map o) x.memory x'.memory → Alike o x x' (through (join o x) p) (through (join o x') p')
+    → Alike o x x' (through (join o x) (unless_refused refused (join o x).core (reached_in (join o x)) p)) (through (join o x') (unless_refused refused (join o x').core (reached_in (join o x')) p'))
+alike_refused o x x' (Some fault) p p' same h = alike_open o o x x' (Err fault) (follows_itself o) same
+alike_refused o x x' None p p' same h = h
 
-executed_same : (o : Open) (x x' : Rest) (touched : Bool) (code : Code) (i : Insn) (family : Family) → SameOpen (map_on o.board) x.memory x'.memory
-    → Both (join o x) (join o x') (executes touched code i (executed_by family (join o x) i)) (executes touched code i (executed_by family (join o x') i))
-executed_same o x x' touched code i Alu same = alone_same o x x' touched code i (finish_alu i (local_of (join o x).core)) same
-executed_same o x x' touched code i LoadStore same =
+alike_loads : (o : Open) (x x' : Rest) (i : Insn) → SameOpen (open_map o) x.memory x'.memory → Alike o x x' (loads_stores (join o x) i) (loads_stores (join o x') i)
+alike_loads o x x' i same =
     let l = local_of (join o x).core in
-    refused_same o x x' touched code i (refusal i l) _ _ same
-    (ported_same o x x' touched code i (finish_load_store i l) _ _ (answers_same o.board (plan_load_store i l) x.memory x'.memory [] same))
-executed_same o x x' touched code i Branch same =
-    let l = local_of (join o x).core in
-    ported_same o x x' touched code i (finish_branch i l) _ _ (answers_same o.board (plan_branch i l) x.memory x'.memory [] same)
-executed_same o x x' touched code i System same = named_same o x x' touched code i (finish_system (mask_priority o.masks) i (named_of (join o x).core)) same
+    alike_refused o x x' (refusal i l) _ _ same
+    (alike_ported o x x' (finish_load_store i l) _ _ (answers_same o x x' (plan_load_store i l) x.memory x'.memory [] same))
 
-placed_same : (o : Open) (x x' : Rest) (touched : Bool) (code : Code) (i : Insn) → SameOpen (map_on o.board) x.memory x'.memory
+-- ---- the exclusive monitor
+
+alike_marked : (o : Open) (x x' : Rest) (m : Exclusive) (e e' : Executed) → Alike o x x' e e' → Alike o x x' (marked m e) (marked m e')
+alike_marked o x x' m e e' a = record {
+  part = record a.part { monitor = marked_by e.outcome m a.part.monitor };
+  memory = a.memory;
+  memory' = a.memory';
+  state = λ j. record (a.state j) { bus = record (a.state j).bus { monitor = marked_by e.outcome m (a.state j).bus.monitor } };
+  state' = λ j. record (a.state' j) { bus = record (a.state' j).bus { monitor = marked_by (sym a.outcome j) m (a.state' j).bus.monitor } };
+  stores = a.stores;
+  outcome = a.outcome;
+  follows = record { board = a.follows.board; sau = a.follows.sau; masks = a.follows.masks };
+  beside = a.beside;
+}
+
+-- with the monitor cleared before
+unmonitored : Open → Open
+unmonitored o = record o { monitor = None }
+
+alike_before : (o : Open) (x x' : Rest) (e e' : Executed) → Alike (unmonitored o) x x' e e' → Alike o x x' e e'
+unfolding unmonitored
+alike_before o x x' e e' a = record {
+  part = a.part;
+  memory = a.memory;
+  memory' = a.memory';
+  state = a.state;
+  state' = a.state';
+  stores = a.stores;
+  outcome = a.outcome;
+  follows = record { board = a.follows.board; sau = a.follows.sau; masks = a.follows.masks };
+  beside = record { bytes = a.beside.bytes; kept = a.beside.kept; kept' = a.beside.kept' };
+}
+
+alike_stores : (o : Open) (x x' : Rest) (i : Insn) (m : Exclusive) (rd : ℕ) → SameOpen (open_map o) x.memory x'.memory
+    → Alike o x x' (stores_exclusive (join o x) i m rd) (stores_exclusive (join o x') i m rd)
+unfolding unmonitored left_open
+alike_stores o x x' i m rd same =
+    let q = unmonitored o in
+    let l = put (local_of (join o x).core) rd 1 in
+    alike_cond o x x' (not (is_aligned m.size m.addr)) _ _ _ _ (alike_open o o x x' (Err Unaligned) (follows_itself o) same)
+    (alike_cond o x x' (is_held o.monitor m) _ _ _ _ (alike_before o x x' _ _ (alike_loads q x x' i same))
+    (alike_before o x x' _ _ (alike_open q (left_open q l) x x' (Ok Next) (follows_local q l) same)))
+
+alike_exclusive : (o : Open) (x x' : Rest) (u : Exclusivity) (i : Insn) → SameOpen (open_map o) x.memory x'.memory → Alike o x x' (exclusively u (join o x) i) (exclusively u (join o x') i)
+alike_exclusive o x x' Free i same = alike_loads o x x' i same
+alike_exclusive o x x' (Marks m) i same = alike_marked o x x' m _ _ (alike_loads o x x' i same)
+alike_exclusive o x x' (Takes m rd) i same = alike_stores o x x' i m rd same
+
+-- ---- all
+
+alike_family : (o : Open) (x x' : Rest) (i : Insn) (family : Family) → SameOpen (open_map o) x.memory x'.memory → Alike o x x' (executed_by family (join o x) i) (executed_by family (join o x') i)
+alike_family o x x' i Alu same = alike_alone o x x' (finish_alu i (local_of (join o x).core)) same
+alike_family o x x' i LoadStore same = alike_exclusive o x x' (exclusivity i (local_of (join o x).core)) i same
+alike_family o x x' i Branch same =
+    let l = local_of (join o x).core in
+    alike_ported o x x' (finish_branch i l) _ _ (answers_same o x x' (plan_branch i l) x.memory x'.memory [] same)
+alike_family o x x' i System same = alike_system o x x' i same
+
+placed_same : (o : Open) (x x' : Rest) (touched : Bool) (code : Code) (i : Insn) → SameOpen (open_map o) x.memory x'.memory
     → Both (join o x) (join o x') (placed (join o x) touched code i) (placed (join o x') touched code i)
 placed_same o x x' touched code i same =
-    both_cond _ _ (is_misplaced i o.registers) _ _ _ _ (both_fault o x x' touched same)
+    both_cond _ _ (is_misplaced i o.registers) _ _ _ _ (both_fault o x x' touched (Some Undef) same)
     (both_cond _ _ (is_passed_over o.registers && not (ignores_condition NonSecure i)) _ _ _ _ (skips_same o x x' touched code same)
-    (executed_same o x x' touched code i (family_of i) same))
+    (executes_same o x x' touched code i _ _ (alike_family o x x' i (family_of i) same)))
 
-pub decoded_same : (o : Open) (x x' : Rest) (touched : Bool) (code : Code) (d : Decoded) → SameOpen (map_on o.board) x.memory x'.memory
+pub decoded_same : (o : Open) (x x' : Rest) (touched : Bool) (code : Code) (d : Decoded) → SameOpen (open_map o) x.memory x'.memory
     → Both (join o x) (join o x') (decoded (join o x) touched code d) (decoded (join o x') touched code d)
 decoded_same o x x' touched code (One i width) same = placed_same o x x' touched code i same
 decoded_same o x x' touched code NoCoprocessor same =
-    both_cond _ _ (is_passed_over o.registers) _ _ _ _ (skips_same o x x' touched code same) (both_fault o x x' touched same)
-decoded_same o x x' touched code (Undefined width) same = both_fault o x x' touched same
+    both_cond _ _ (is_passed_over o.registers) _ _ _ _ (skips_same o x x' touched code same) (both_fault o x x' touched (Some NoCp) same)
+decoded_same o x x' touched code (Undefined width) same = both_fault o x x' touched (Some Undef) same

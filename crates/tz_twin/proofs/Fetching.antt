@@ -1,16 +1,21 @@
 -- Fetches of Non-secure code that begin in Non-secure memory give the same code.
 use Rattle.std.proofs.Common.{◌≡◌, ℕ, ◌+◌, ◌<◌, Bool, true, false, not, cond, Option, Some, None, Ok, refl, ap, ◌∙◌, arith}
-use Rattle.std.specs.Prelude.{nat_le}
+use Rattle.std.specs.Prelude.{nat_le, nat_lt}
 use Rattle.std.proofs.lemmas.Bool.Decides.{nat_tests}
 use Rattle.tz_table.specs.declared.units.Side.TheVariants.{NonSecure}
 use Rattle.tz_model.specs.declared.report.Fault.{Fault}
 use Rattle.tz_model.specs.declared.report.Fault.TheVariants.{EntryPoint, Exec, ExecBus}
 use Rattle.tz_model.specs.Words.{wrap}
 use Rattle.tz_model.specs.Board.{is_nonsecure}
-use Rattle.tz_state.specs.Memory.{Memory, half_at}
+use Rattle.tz_regs.specs.Priority.{mask_priority}
+use Rattle.tz_regs.specs.Registers.{is_privileged}
+use Rattle.tz_state.specs.declared.fetcher.Fetcher.{Fetcher}
+use Rattle.tz_state.specs.Memory.{half_at}
+use Rattle.tz_state.specs.State.{Bus, is_negative_at}
 use Rattle.tz_state.specs.Attribution.{MapState, mapped_side, fetch_attribution, data_attribution, is_open, is_exempt}
-use Rattle.tz_state.specs.Fetch.{is_executable, needs_second, is_half_mapped, is_own_byte, is_own_fetch, half_verdict, narrow, with_second, with_first, own_fetch}
+use Rattle.tz_state.specs.Fetch.{needs_second, lets_run, is_runnable, is_half_mapped, is_own_byte, is_own_fetch, half_verdict, narrow, with_second, with_first, own_fetch}
 use Rattle.tz_twin.proofs.Bytes.{SameOpen, and_first, and_second, half_same}
+use Rattle.tz_twin.proofs.Split.{Open, Rest, open_map, join_bus}
 
 -- below the private peripheral space code and data are attributed alike
 open_of_own : (m : MapState) (a : ℕ) → a < 0xE0000000 → is_own_byte m NonSecure a ≡ true → is_open m a ≡ true
@@ -25,39 +30,72 @@ open_of_own m a low own =
     exempt_high : (a : ℕ) → a < 0xE0000000 → is_exempt a ≡ false
     exempt_high a low = grind (arith, nat_tests)
 
-executable_low : (a : ℕ) → is_executable a ≡ true → a < 0xA0000000
-executable_low a e = grind (arith, nat_tests)
-
 own_both : (m : MapState) (a : ℕ) → is_own_fetch m NonSecure a ≡ true → (is_own_byte m NonSecure a ≡ true) × (is_own_byte m NonSecure (wrap (a + 1)) ≡ true)
 unfolding is_own_fetch
 own_both m a e = (and_first _ _ e, and_second _ _ e)
 
+runnable_low : (b : Bus) (privileged negative : Bool) (a : ℕ) → lets_run b NonSecure privileged negative a ≡ true → a < 0xE0000000
+runnable_low b privileged negative a e = let low : nat_lt a 0xE0000000 ≡ true = and_first _ _ e in grind (arith, nat_tests)
+
+runnable_both : (b : Bus) (privileged negative : Bool) (a : ℕ) → is_runnable b NonSecure privileged negative a ≡ true → (a < 0xE0000000) × (wrap (a + 1) < 0xE0000000)
+unfolding is_runnable
+runnable_both b privileged negative a e = (runnable_low b privileged negative a (and_first _ _ e), runnable_low b privileged negative (wrap (a + 1)) (and_second _ _ e))
+
+-- Non-secure code as it fetches; what Secure code would be doesn't count
+abbrev pub open_fetcher : Open → Bool → Fetcher
+open_fetcher o secure_privileged =
+    record {
+      side = NonSecure;
+      privileged = is_privileged o.registers.ipsr o.stacks_ns;
+      secure_privileged = secure_privileged;
+      negative = is_negative_at (mask_priority o.masks);
+    }
+
+-- the check of a halfword is open
+half_verdict_same : (o : Open) (x x' : Rest) (p p' : Bool) (a : ℕ) → half_verdict (join_bus o x) (open_fetcher o p) a ≡ half_verdict (join_bus o x') (open_fetcher o p') a
+unfolding half_verdict is_runnable
+half_verdict_same o x x' p p' a = refl
+
 -- a halfword that Non-secure code may run is the same in both
-own_half_same : (m : MapState) (n n' : Memory) (a : ℕ) → SameOpen m n n' → half_verdict m NonSecure a ≡ None → half_at n a ≡ half_at n' a
+own_half_same : (o : Open) (x x' : Rest) (p : Bool) (a : ℕ) → SameOpen (open_map o) x.memory x'.memory → half_verdict (join_bus o x) (open_fetcher o p) a ≡ None → half_at x.memory a ≡ half_at x'.memory a
 unfolding half_verdict
-own_half_same m n n' a same passes = go (is_own_fetch m NonSecure a) refl (is_executable a) refl passes where
-  go : (own : Bool) → is_own_fetch m NonSecure a ≡ own → (runs : Bool) → is_executable a ≡ runs
-      → cond (not own) (Some EntryPoint) (cond (not runs) (Some (Exec NonSecure)) (cond (not (is_half_mapped m a)) (Some ExecBus) None)) ≡ None → half_at n a ≡ half_at n' a
+own_half_same o x x' p a same passes = go (is_own_fetch m NonSecure a) refl (is_runnable b NonSecure k.privileged k.negative a) refl passes where
+  m : MapState
+  m = open_map o
+
+  b : Bus
+  b = join_bus o x
+
+  k : Fetcher
+  k = open_fetcher o p
+
+  go : (own : Bool) → is_own_fetch m NonSecure a ≡ own → (runs : Bool) → is_runnable b NonSecure k.privileged k.negative a ≡ runs
+      → cond (not own) (Some EntryPoint) (cond (not runs) (Some (Exec NonSecure)) (cond (not (is_half_mapped b a)) (Some ExecBus) None)) ≡ None → half_at x.memory a ≡ half_at x'.memory a
   go false e runs r h = cc
   go true e false r h = cc
   go true e true r h =
       let both = own_both m a e in
-      let low : a < 0xA0000000 = executable_low a r in
-      let next : wrap (a + 1) < 0xE0000000 = omega arith in
-      half_same m n n' a same (open_of_own m a (omega arith) both.0) (open_of_own m (wrap (a + 1)) next both.1)
+      let low = runnable_both b k.privileged k.negative a r in
+      half_same m x.memory x'.memory a same (open_of_own m a low.0 both.0) (open_of_own m (wrap (a + 1)) low.1 both.1)
 
-with_second_same : (m : MapState) (first w w' : ℕ) (v : Option Fault) → (v ≡ None → w ≡ w') → with_second first w v ≡ with_second first w' v
-with_second_same m first w w' (Some fault) h = refl
-with_second_same m first w w' None h = ap (λ x. with_second first x None) (h refl)
+with_second_same : (first w w' : ℕ) (v v' : Option Fault) → v ≡ v' → (v ≡ None → w ≡ w') → with_second first w v ≡ with_second first w' v'
+with_second_same first w w' (Some fault) v' e h = ap (λ v. with_second first w v) e ∙ other v' e where
+  other : (v' : Option Fault) → Some fault ≡ v' → with_second first w v' ≡ with_second first w' v'
+  other (Some f) e = refl
+  other None e = cc
+with_second_same first w w' None v' e h = ap (λ y. with_second first y None) (h refl) ∙ ap (λ v. with_second first w' v) e
 
-with_first_same : (m : MapState) (n n' : Memory) (pc : ℕ) (v : Option Fault) → SameOpen m n n' → (v ≡ None → half_at n pc ≡ half_at n' pc) → with_first m NonSecure n pc v ≡ with_first m NonSecure n' pc v
-with_first_same m n n' pc (Some fault) same h = refl
-with_first_same m n n' pc None same h =
-    ap (λ x. cond (needs_second x) (with_second x (half_at n (wrap (pc + 2))) (half_verdict m NonSecure (wrap (pc + 2)))) (Ok (narrow x))) (h refl)
-    ∙ ap (λ y. cond (needs_second (half_at n' pc)) y (Ok (narrow (half_at n' pc))))
-    (with_second_same m (half_at n' pc) _ _ (half_verdict m NonSecure (wrap (pc + 2))) (λ passes. own_half_same m n n' (wrap (pc + 2)) same passes))
+with_first_same : (o : Open) (x x' : Rest) (p p' : Bool) (pc : ℕ) (v : Option Fault) → SameOpen (open_map o) x.memory x'.memory → (v ≡ None → half_at x.memory pc ≡ half_at x'.memory pc)
+    → with_first (join_bus o x) (open_fetcher o p) pc v ≡ with_first (join_bus o x') (open_fetcher o p') pc v
+with_first_same o x x' p p' pc (Some fault) same h = refl
+with_first_same o x x' p p' pc None same h =
+    ap (λ y. cond (needs_second y) (with_second y (half_at x.memory (wrap (pc + 2))) (half_verdict (join_bus o x) (open_fetcher o p) (wrap (pc + 2)))) (Ok (narrow y))) (h refl)
+    ∙ ap (λ y. cond (needs_second (half_at x'.memory pc)) y (Ok (narrow (half_at x'.memory pc))))
+    (with_second_same (half_at x'.memory pc) _ _ _ _ (half_verdict_same o x x' p p' (wrap (pc + 2))) (λ passes. own_half_same o x x' p (wrap (pc + 2)) same passes))
 
 -- an instruction that begins in Non-secure memory is fetched alike
-pub own_fetch_same : (m : MapState) (n n' : Memory) (pc : ℕ) → SameOpen m n n' → own_fetch m NonSecure n pc ≡ own_fetch m NonSecure n' pc
+pub own_fetch_same : (o : Open) (x x' : Rest) (p p' : Bool) (pc : ℕ) → SameOpen (open_map o) x.memory x'.memory → own_fetch (join_bus o x) (open_fetcher o p) pc ≡ own_fetch (join_bus o x') (open_fetcher o p') pc
 unfolding own_fetch
-own_fetch_same m n n' pc same = with_first_same m n n' pc (half_verdict m NonSecure pc) same (λ passes. own_half_same m n n' pc same passes)
+own_fetch_same o x x' p p' pc same =
+    with_first_same o x x' p p' pc (half_verdict (join_bus o x) (open_fetcher o p) pc) same (λ passes. own_half_same o x x' p pc same passes)
+    ∙ ap (λ v. with_first (join_bus o x') (open_fetcher o p') pc v) (half_verdict_same o x x' p p' pc)

@@ -3,6 +3,7 @@ pub mod Fetching
 pub mod Split
 pub mod Both
 pub mod Accesses
+pub mod Leaving
 pub mod Executing
 pub mod Entering
 pub mod Returning

@@ -13,7 +13,7 @@ use Rattle.tz_twin.proofs.Both.{Touching}
 abbrev pub secured : State → State
 secured s = with_run s (record s.core.run { side = Secure; locked = false })
 
-pub touching_returned : (s0 s : State) (before : Seen) (code : Code) (stores : List Store) → board_seen before ≡ s.board
+pub touching_returned : (s0 s : State) (before : Seen) (code : Code) (stores : List Store) → board_seen before ≡ s.bus.board
     → Touching s0 before (returned (secured s) true code stores)
 touching_returned s0 s before code stores e =
     record { touched = refl; seen = ap (λ b. Shown b s.core.registers (public_of s)) (sym e) }

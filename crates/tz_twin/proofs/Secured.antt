@@ -1,37 +1,40 @@
 -- A step of Secure code looks at Secure state, and what is seen after it is fixed by its crossing: one
 -- fact for each stage of the step, of one run alone.
-use Rattle.std.proofs.Common.{◌≡◌, ℕ, ◌+◌, ◌%◌, ◌==◌, Bool, true, false, ◌&&◌, not, cond, List, [], Result, Ok, Err, refl, sym, ap, subst, Option, Some, None}
+use Rattle.std.proofs.Common.{◌≡◌, ℕ, ◌+◌, ◌%◌, ◌==◌, Bool, true, false, ◌&&◌, not, cond, List, [], ◌∷◌, Result, Ok, Err, refl, sym, ap, ◌∙◌, subst, Option, Some, None}
 use Rattle.tz_table.specs.declared.units.Side.{Side}
 use Rattle.tz_table.specs.declared.units.Side.TheVariants.{Secure, NonSecure}
+use Rattle.tz_table.specs.declared.units.Size.{Size}
 use Rattle.tz_table.specs.declared.units.Code.{Code}
 use Rattle.tz_table.specs.declared.decoded.Decoded.{Decoded}
 use Rattle.tz_table.specs.declared.decoded.Decoded.TheVariants.{One, NoCoprocessor, Undefined}
 use Rattle.tz_table.specs.declared.instruction.Insn.{Insn}
 use Rattle.tz_model.specs.declared.report.Fault.{Fault}
+use Rattle.tz_model.specs.declared.report.Fault.TheVariants.{Undef, NoCp, InvState}
 use Rattle.tz_model.specs.declared.report.Outcome.{Outcome}
 use Rattle.tz_model.specs.declared.report.Outcome.TheVariants.{Next, Jump, Exchange, Sleep}
 use Rattle.tz_model.specs.declared.report.Store.{Store}
 use Rattle.tz_model.specs.declared.fetch.Fetched.{Fetched}
 use Rattle.tz_model.specs.Words.{wrap, is_nonsecure_side}
 use Rattle.tz_model.specs.Codes.{meaning_of}
+use Rattle.tz_model.specs.Ports.{Access, Load, Store as Write, after_answer, answers}
 use Rattle.tz_regs.specs.ItState.{it_advanced}
 use Rattle.tz_regs.specs.Priority.{mask_priority}
-use Rattle.tz_regs.specs.Special.{named_of, with_named}
-use Rattle.tz_state.specs.Attribution.{map_on}
-use Rattle.tz_state.specs.State.{State, side_of, with_core, with_memory, with_pc}
-use Rattle.tz_state.specs.Access.{Reached, reached_in}
+use Rattle.tz_regs.specs.Special.{named_of}
+use Rattle.tz_state.specs.declared.request.Exclusive.{Exclusive}
+use Rattle.tz_state.specs.State.{State, side_of, with_pc}
+use Rattle.tz_state.specs.Access.{is_aligned, Reached, reached_in, read_by, write_by, access}
 use Rattle.tz_state.specs.Fetch.{fetch, own_fetch}
 use Rattle.tz_exec.specs.declared.family.Family.{Family}
 use Rattle.tz_exec.specs.declared.family.Family.TheVariants.{Alu, LoadStore, Branch, System}
-use Rattle.tz_exec.specs.Local.{Finished, FinishedNamed, local_of, with_local, finished_in, finished_named}
+use Rattle.tz_exec.specs.Local.{Finished, FinishedNamed, local_of, finished_in, finished_named}
 use Rattle.tz_exec.specs.Alu.{finish_alu}
-use Rattle.tz_exec.specs.LoadStore.{refusal, finish_load_store}
-use Rattle.tz_exec.specs.Branch.{finish_branch}
-use Rattle.tz_exec.specs.System.{finish_system}
+use Rattle.tz_exec.specs.LoadStore.{refusal, plan_load_store, finish_load_store}
+use Rattle.tz_exec.specs.Branch.{plan_branch, finish_branch}
+use Rattle.tz_exec.specs.System.{finish_system, clears_monitor, probe_of}
 use Rattle.tz_exec.specs.ItRules.{is_misplaced, is_passed_over, ignores_condition}
-use Rattle.tz_exec.specs.Exec.{Ported, unless_refused, after_accesses, ported, alone, through, family_of, executed_by}
+use Rattle.tz_exec.specs.Exec.{Ported, ported, unless_refused, after_accesses, probed, Executed, alone, beside, through, Exclusivity, Free, Marks, Takes, exclusivity, is_held, marked, released, loads_stores, exclusively, family_of, executed_by}
 use Rattle.tz_sem.specs.Ended.{Ended}
-use Rattle.tz_sem.specs.Step.{length_of, ran, is_fnc_return, branched, branch_ns, exchanged, with_it, past, skips, goes_on, executes, placed, decoded, fetched, ended}
+use Rattle.tz_sem.specs.Step.{length_of, ran, is_fnc_return, branched, branch_ns, exchanged, with_it, past, skips, goes_on, concludes, executes, placed, decoded, fetched, fetcher_in, ended}
 use Rattle.tz_twin.specs.Seen.{Seen, Hidden}
 use Rattle.tz_twin.proofs.Split.{board_seen}
 use Rattle.tz_twin.proofs.Both.{Touching}
@@ -40,7 +43,7 @@ use Rattle.tz_twin.proofs.Returning.{secured, touching_returned}
 
 -- the board that is seen is that of a state
 abbrev pub Of : Seen → State → Type 0
-Of before s = board_seen before ≡ s.board
+Of before s = board_seen before ≡ s.bus.board
 
 touching_cond : (s0 : State) (before : Seen) (t : Bool) (x y : Ended) → Touching s0 before x → Touching s0 before y → Touching s0 before (cond t x y)
 touching_cond s0 before true x y p q = p
@@ -59,7 +62,7 @@ touching_branch s0 s before code stores target e =
 touching_exchanged : (s0 s p : State) (before : Seen) (code : Code) (stores : List Store) (target : ℕ) (ns : Bool) → Of before s → Of before p
     → Touching s0 before (exchanged (secured s) (secured p) true code stores target ns)
 touching_exchanged s0 s p before code stores target ns e f =
-    touching_cond s0 before (is_fnc_return target) _ _ (touching_locks s0 (secured s) before stores e)
+    touching_cond s0 before (is_fnc_return target) _ _ (touching_locks s0 (secured s) before _ stores e)
     (touching_cond s0 before ns _ _ (touching_branch s0 p before code stores target f)
     (stays s0 (branched p target (target % 2 == 1)) before code stores f))
 
@@ -74,53 +77,119 @@ touching_skips s0 s before code e = stays s0 (with_pc (with_it s (it_advanced s.
 
 -- ---- the instruction
 
-touching_alone : (s0 s : State) (before : Seen) (code : Code) (i : Insn) (f : Finished) → Of before s → Touching s0 before (executes true code i (alone (secured s) (finished_in (secured s).core f)))
-touching_alone s0 s before code i (Ok f) e = touching_goes_on s0 (with_core s (with_local (secured s).core f.0)) before code i [] f.1 e
-touching_alone s0 s before code i (Err fault) e = touching_locks s0 (secured s) before [] e
+-- an instruction after which Secure code still runs, on the same board
+record Stays (s : State) (e : Executed) : Type 0 where
+  pub side : e.state.core.run.side ≡ Secure
+  pub locked : e.state.core.run.locked ≡ false
+  pub board : e.state.bus.board ≡ s.bus.board
 
-touching_named : (s0 s : State) (before : Seen) (code : Code) (i : Insn) (f : FinishedNamed) → Of before s → Touching s0 before (executes true code i (alone (secured s) (finished_named (secured s).core f)))
-touching_named s0 s before code i (Ok f) e = touching_goes_on s0 (with_core s (with_named (secured s).core f.0)) before code i [] f.1 e
-touching_named s0 s before code i (Err fault) e = touching_locks s0 (secured s) before [] e
+touching_concludes : (s0 s : State) (before : Seen) (code : Code) (i : Insn) (stores : List Store) (out : Result Outcome Fault) → Of before s → Touching s0 before (concludes i (secured s) true code stores out)
+touching_concludes s0 s before code i stores (Ok outcome) e = touching_goes_on s0 s before code i stores outcome e
+touching_concludes s0 s before code i stores (Err fault) e = touching_locks s0 (secured s) before (Some fault) stores e
 
-touching_ported : (s0 s : State) (before : Seen) (code : Code) (i : Insn) (h : Reached) (f : Finished) → Of before s
-    → Touching s0 before (executes true code i (through (secured s) (ported h (finished_in (secured s).core f))))
-touching_ported s0 s before code i h (Ok f) e = touching_goes_on s0 (record s { core = with_local (secured s).core f.0; memory = h.memory }) before code i h.stores f.1 e
-touching_ported s0 s before code i h (Err fault) e = touching_locks s0 (with_memory (secured s) h.memory) before h.stores e
+touching_executes : (s0 s : State) (before : Seen) (code : Code) (i : Insn) (e : Executed) → Of before s → Stays s e → Touching s0 before (executes true code i e)
+touching_executes s0 s before code i e is h =
+    let same : e.state ≡ secured e.state =
+    λ j. record e.state { core = record e.state.core { run = record e.state.core.run { side = h.side j; locked = h.locked j } } } in
+    subst (λ (r : State). Touching s0 before (concludes i r true code e.stores e.outcome)) (sym same)
+    (touching_concludes s0 e.state before code i e.stores e.outcome (is ∙ sym h.board))
 
-touching_accesses : (s0 s : State) (before : Seen) (code : Code) (i : Insn) (a : Reached × Result (List ℕ) Fault) (finish : List ℕ → Finished) → Of before s
-    → Touching s0 before (executes true code i (through (secured s) (after_accesses (secured s).core a finish)))
-touching_accesses s0 s before code i (h, Ok words) finish e = touching_ported s0 s before code i h (finish words) e
-touching_accesses s0 s before code i (h, Err fault) finish e = touching_locks s0 (with_memory (secured s) h.memory) before h.stores e
+stays_cond : (s : State) (t : Bool) (e f : Executed) → Stays s e → Stays s f → Stays s (cond t e f)
+stays_cond s true e f p q = p
+stays_cond s false e f p q = q
 
-touching_refused : (s0 s : State) (before : Seen) (code : Code) (i : Insn) (refused : Option Fault) (p : Ported Reached) → Of before s
-    → Touching s0 before (executes true code i (through (secured s) p)) → Touching s0 before (executes true code i (through (secured s) (unless_refused refused (secured s).core (reached_in (secured s)) p)))
-touching_refused s0 s before code i (Some fault) p e h = touching_locks s0 (secured s) before [] e
-touching_refused s0 s before code i None p e h = h
+stays_alone : (s : State) (f : Finished) → Stays s (alone (secured s) (finished_in (secured s).core f))
+stays_alone s (Ok f) = record { side = refl; locked = refl; board = refl }
+stays_alone s (Err fault) = record { side = refl; locked = refl; board = refl }
 
-touching_family : (s0 s : State) (before : Seen) (code : Code) (i : Insn) (family : Family) → Of before s → Touching s0 before (executes true code i (executed_by family (secured s) i))
-touching_family s0 s before code i Alu e = touching_alone s0 s before code i (finish_alu i (local_of (secured s).core)) e
-touching_family s0 s before code i LoadStore e =
+stays_named : (s : State) (clears : Bool) (f : FinishedNamed) → Stays s (beside (secured s) (ported (cond clears (record s.bus { monitor = None }) s.bus) (finished_named (secured s).core f)))
+stays_named s true (Ok f) = record { side = refl; locked = refl; board = refl }
+stays_named s false (Ok f) = record { side = refl; locked = refl; board = refl }
+stays_named s true (Err fault) = record { side = refl; locked = refl; board = refl }
+stays_named s false (Err fault) = record { side = refl; locked = refl; board = refl }
+
+-- accesses leave the board
+read_board : (v : Option Fault) (r : Reached) (word : ℕ) → (read_by v r word).0.bus.board ≡ r.bus.board
+read_board None r word = refl
+read_board (Some fault) r word = refl
+
+write_board : (v : Option Fault) (r : Reached) (size : Size) (a value : ℕ) → (write_by v r size a value).0.bus.board ≡ r.bus.board
+write_board None r size a value = refl
+write_board (Some fault) r size a value = refl
+
+access_board : (r : Reached) (q : Access) → (access r q).0.bus.board ≡ r.bus.board
+unfolding access
+access_board r (Load size a must_align user) = read_board _ r _
+access_board r (Write size a value must_align user) = write_board _ r size a _
+
+after_board : (a : Reached × Result ℕ Fault) (r : Reached) (later : Reached → Reached × Result (List ℕ) Fault) → a.0.bus.board ≡ r.bus.board → ((h : Reached) → (later h).0.bus.board ≡ h.bus.board)
+    → (after_answer a later).0.bus.board ≡ r.bus.board
+after_board (h, Ok word) r later e more = more h ∙ e
+after_board (h, Err fault) r later e more = e
+
+answers_board : (qs : List Access) (r : Reached) → (answers access r qs).0.bus.board ≡ r.bus.board
+unfolding answers
+answers_board [] r = refl
+answers_board (q ∷ more) r = after_board (access r q) r (λ left. answers access left more) (access_board r q) (λ h. answers_board more h)
+
+stays_ported : (s : State) (h : Reached) (f : Finished) → h.bus.board ≡ s.bus.board → Stays s (through (secured s) (ported h (finished_in (secured s).core f)))
+stays_ported s h (Ok f) e = record { side = refl; locked = refl; board = e }
+stays_ported s h (Err fault) e = record { side = refl; locked = refl; board = e }
+
+stays_accesses : (s : State) (a : Reached × Result (List ℕ) Fault) (finish : List ℕ → Finished) → a.0.bus.board ≡ s.bus.board → Stays s (through (secured s) (after_accesses (secured s).core a finish))
+stays_accesses s (h, Ok words) finish e = stays_ported s h (finish words) e
+stays_accesses s (h, Err fault) finish e = record { side = refl; locked = refl; board = e }
+
+stays_refused : (s : State) (refused : Option Fault) (p : Ported Reached) → Stays s (through (secured s) p) → Stays s (through (secured s) (unless_refused refused (secured s).core (reached_in (secured s)) p))
+stays_refused s (Some fault) p h = record { side = refl; locked = refl; board = refl }
+stays_refused s None p h = h
+
+stays_loads : (s : State) (i : Insn) → Stays s (loads_stores (secured s) i)
+stays_loads s i =
     let l = local_of (secured s).core in
-    touching_refused s0 s before code i (refusal i l) _ e (touching_accesses s0 s before code i _ (finish_load_store i l) e)
-touching_family s0 s before code i Branch e = touching_accesses s0 s before code i _ (finish_branch i (local_of (secured s).core)) e
-touching_family s0 s before code i System e = touching_named s0 s before code i (finish_system (mask_priority s.core.masks) i (named_of (secured s).core)) e
+    stays_refused s (refusal i l) _ (stays_accesses s _ (finish_load_store i l) (answers_board (plan_load_store i l) (reached_in (secured s))))
+
+stays_marked : (s : State) (m : Exclusive) (e : Executed) → Stays s e → Stays s (marked m e)
+stays_marked s m e h = record { side = h.side; locked = h.locked; board = h.board }
+
+-- with the monitor cleared before
+stays_before : (s : State) (e : Executed) → Stays (released s) e → Stays s e
+stays_before s e h = record { side = h.side; locked = h.locked; board = h.board }
+
+stays_exclusive : (s : State) (u : Exclusivity) (i : Insn) → Stays s (exclusively u (secured s) i)
+stays_exclusive s Free i = stays_loads s i
+stays_exclusive s (Marks m) i = stays_marked s m _ (stays_loads s i)
+stays_exclusive s (Takes m rd) i =
+    stays_cond s (not (is_aligned m.size m.addr)) _ _ (record { side = refl; locked = refl; board = refl })
+    (stays_cond s (is_held s.bus.monitor m) _ _ (stays_before s _ (stays_loads (released s) i)) (record { side = refl; locked = refl; board = refl }))
+
+stays_family : (s : State) (i : Insn) (family : Family) → Stays s (executed_by family (secured s) i)
+stays_family s i Alu = stays_alone s (finish_alu i (local_of (secured s).core))
+stays_family s i LoadStore = stays_exclusive s (exclusivity i (local_of (secured s).core)) i
+stays_family s i Branch =
+    let l = local_of (secured s).core in
+    stays_accesses s _ (finish_branch i l) (answers_board (plan_branch i l) (reached_in (secured s)))
+stays_family s i System =
+    let p = mask_priority s.core.masks in
+    let n = named_of (secured s).core in
+    stays_named s (clears_monitor i) (finish_system p i n (probed s.bus (probe_of p i n)))
 
 touching_placed : (s : State) (before : Seen) (code : Code) (i : Insn) → Of before s → Touching (secured s) before (placed (secured s) true code i)
 touching_placed s before code i e =
-    touching_cond (secured s) before (is_misplaced i s.core.registers) _ _ (touching_locks (secured s) (secured s) before [] e)
+    touching_cond (secured s) before (is_misplaced i s.core.registers) _ _ (touching_locks (secured s) (secured s) before (Some Undef) [] e)
     (touching_cond (secured s) before (is_passed_over s.core.registers && not (ignores_condition Secure i)) _ _ (touching_skips (secured s) s before code e)
-    (touching_family (secured s) s before code i (family_of i) e))
+    (touching_executes (secured s) s before code i _ e (stays_family s i (family_of i))))
 
 touching_decoded : (s : State) (before : Seen) (code : Code) (d : Decoded) → Of before s → Touching (secured s) before (decoded (secured s) true code d)
 touching_decoded s before code (One i width) e = touching_placed s before code i e
 touching_decoded s before code NoCoprocessor e =
-    touching_cond (secured s) before (is_passed_over s.core.registers) _ _ (touching_skips (secured s) s before code e) (touching_locks (secured s) (secured s) before [] e)
-touching_decoded s before code (Undefined width) e = touching_locks (secured s) (secured s) before [] e
+    touching_cond (secured s) before (is_passed_over s.core.registers) _ _ (touching_skips (secured s) s before code e) (touching_locks (secured s) (secured s) before (Some NoCp) [] e)
+touching_decoded s before code (Undefined width) e = touching_locks (secured s) (secured s) before (Some Undef) [] e
 
 -- ---- the step
 
 touching_fetched : (s : State) (before : Seen) (f : Result Fetched Fault) → Of before s → Touching (secured s) before (fetched (secured s) true f)
-touching_fetched s before (Err fault) e = touching_locks (secured s) (secured s) before [] e
+touching_fetched s before (Err fault) e = touching_locks (secured s) (secured s) before (Some fault) [] e
 touching_fetched s before (Ok f) e =
     touching_cond (secured s) before f.gateway _ _ (touching_enters (secured s) (secured s) before refl e) (touching_decoded s before f.code (meaning_of f.code) e)
 
@@ -129,8 +198,8 @@ touching_secured : (s : State) (before : Seen) → Of before s → Touching (sec
 unfolding ended fetch
 touching_secured s before e =
     touching_cond (secured s) before s.core.registers.t _ _
-    (touching_fetched s before (own_fetch (map_on s.board) Secure s.memory s.core.registers.pc) e)
-    (touching_locks (secured s) (secured s) before [] e)
+    (touching_fetched s before (own_fetch s.bus (fetcher_in (secured s).core) s.core.registers.pc) e)
+    (touching_locks (secured s) (secured s) before (Some InvState) [] e)
 
 runs_secure : (side : Side) → is_nonsecure_side side ≡ false → side ≡ Secure
 runs_secure Secure e = refl
@@ -143,7 +212,7 @@ touching_first s0 before false x y h p = absurd (cc)
 -- a step of a locked machine
 touching_locked : (s : State) (before : Seen) → s.core.run.locked ≡ true → Of before s → Touching s before (ended s)
 unfolding ended
-touching_locked s before is e = touching_first s before s.core.run.locked _ _ is (touching_locks s s before [] e)
+touching_locked s before is e = touching_first s before s.core.run.locked _ _ is (touching_locks s s before None [] e)
 
 -- a step that starts Secure, or locked
 pub touching_step : (s : State) (before : Seen) → is_nonsecure_side (side_of s) ≡ false → Of before s → Touching s before (ended s)

@@ -13,8 +13,10 @@ use Rattle.tz_regs.specs.declared.parts.Masks.{Masks}
 use Rattle.tz_regs.specs.declared.parts.SideStatus.{SideStatus}
 use Rattle.tz_regs.specs.declared.parts.SharedStatus.{SharedStatus}
 use Rattle.tz_state.specs.Memory.{Memory}
-use Rattle.tz_state.specs.Attribution.{map_on}
-use Rattle.tz_state.specs.State.{State, map_of, side_of}
+use Rattle.tz_state.specs.declared.request.Exclusive.{Exclusive}
+use Rattle.tz_state.specs.Attribution.{SauState, MapState}
+use Rattle.tz_state.specs.Protection.{MpuState}
+use Rattle.tz_state.specs.State.{Bus, State, map_of, side_of}
 use Rattle.tz_twin.specs.Seen.{public_of, open_bytes, Seen, Hidden, Shown, seen}
 use Rattle.tz_twin.proofs.Bytes.{SameOpen}
 
@@ -27,29 +29,57 @@ pub record Open : Type 0 where
   pub status_ns : SideStatus
   pub event : Bool
   pub sleep : Sleep
+  pub sau : SauState
+  pub mpu_ns : MpuState
+  pub monitor : Option Exclusive
 
 -- the Secure parts, and all bytes
 pub record Rest : Type 0 where
   pub stacks_s : Stacks
   pub status_s : SideStatus
   pub shared : SharedStatus
+  pub mpu_s : MpuState
   pub memory : Memory
 
 abbrev pub open_of : State → Open
 open_of s =
     record {
-      board = s.board;
+      board = s.bus.board;
       registers = s.core.registers;
       stacks_ns = s.core.stacks_ns;
       masks = s.core.masks;
       status_ns = s.core.status.ns;
       event = s.core.event;
       sleep = s.core.run.sleep;
+      sau = s.bus.sau;
+      mpu_ns = s.bus.mpu_ns;
+      monitor = s.bus.monitor;
     }
 
 abbrev pub rest_of : State → Rest
 rest_of s =
-    record { stacks_s = s.core.stacks_s; status_s = s.core.status.s; shared = s.core.status.shared; memory = s.memory }
+    record {
+      stacks_s = s.core.stacks_s;
+      status_s = s.core.status.s;
+      shared = s.core.status.shared;
+      mpu_s = s.bus.mpu_s;
+      memory = s.bus.memory;
+    }
+
+-- what decides attribution is open
+abbrev pub open_map : Open → MapState
+open_map o = record { regions = o.board.regions; sau = o.sau }
+
+abbrev pub join_bus : Open → Rest → Bus
+join_bus o x =
+    record {
+      sau = o.sau;
+      mpu_s = x.mpu_s;
+      mpu_ns = o.mpu_ns;
+      monitor = o.monitor;
+      memory = x.memory;
+      board = o.board;
+    }
 
 -- the state of the two in which Non-secure code runs
 abbrev pub join : Open → Rest → State
@@ -64,8 +94,7 @@ join o x =
         event = o.event;
         status = record { s = x.status_s; ns = o.status_ns; shared = x.shared };
       };
-      memory = x.memory;
-      board = o.board;
+      bus = join_bus o x;
     }
 
 runs_open : (locked : Bool) (side : Side) → is_nonsecure_side (cond locked Secure side) ≡ true → (locked ≡ false) × (side ≡ NonSecure)
@@ -84,13 +113,13 @@ pub record Twins (s s' : State) : Type 0 where
   pub runs : is_nonsecure_side (side_of s) ≡ true
   pub runs' : is_nonsecure_side (side_of s') ≡ true
   pub opens : open_of s ≡ open_of s'
-  pub bytes : SameOpen (map_of s) s.memory s'.memory
+  pub bytes : SameOpen (map_of s) s.bus.memory s'.bus.memory
 
-pub twins_join : (o : Open) (x x' : Rest) → SameOpen (map_on o.board) x.memory x'.memory → Twins (join o x) (join o x')
+pub twins_join : (o : Open) (x x' : Rest) → SameOpen (open_map o) x.memory x'.memory → Twins (join o x) (join o x')
 twins_join o x x' same = record { runs = refl; runs' = refl; opens = refl; bytes = same }
 
 -- what holds of any two rests beside one open part holds of twins
-pub by_join : (P : State → State → Type 0) → ((o : Open) (x x' : Rest) → SameOpen (map_on o.board) x.memory x'.memory → P (join o x) (join o x'))
+pub by_join : (P : State → State → Type 0) → ((o : Open) (x x' : Rest) → SameOpen (open_map o) x.memory x'.memory → P (join o x) (join o x'))
     → (s s' : State) → Twins s s' → P s s'
 by_join P h s s' t =
     let here : P (join (open_of s) (rest_of s)) (join (open_of s) (rest_of s')) = h (open_of s) (rest_of s) (rest_of s') t.bytes in
@@ -122,23 +151,26 @@ open_seen o (Shown b registers p) =
       status_ns = p.status;
       event = p.event;
       sleep = p.sleep;
+      sau = p.sau;
+      mpu_ns = p.mpu;
+      monitor = p.monitor;
     }
 
 bytes_seen : (ℕ → Option ℕ) → Seen → ℕ → Option ℕ
 bytes_seen none (Hidden b) a = none a
 bytes_seen none (Shown b registers p) a = p.bytes a
 
-pub board_seen-seen : (s : State) → board_seen (seen s) ≡ s.board
+pub board_seen-seen : (s : State) → board_seen (seen s) ≡ s.bus.board
 unfolding board_seen
 board_seen-seen s = go (is_nonsecure_side (side_of s)) where
-  go : (t : Bool) → board_seen (cond t (Shown s.board s.core.registers (public_of s)) (Hidden s.board)) ≡ s.board
+  go : (t : Bool) → board_seen (cond t (Shown s.bus.board s.core.registers (public_of s)) (Hidden s.bus.board)) ≡ s.bus.board
   go true = refl
   go false = refl
 
 is_shown-seen : (s : State) → is_shown (seen s) ≡ is_nonsecure_side (side_of s)
 unfolding is_shown
 is_shown-seen s = go (is_nonsecure_side (side_of s)) where
-  go : (t : Bool) → is_shown (cond t (Shown s.board s.core.registers (public_of s)) (Hidden s.board)) ≡ t
+  go : (t : Bool) → is_shown (cond t (Shown s.bus.board s.core.registers (public_of s)) (Hidden s.bus.board)) ≡ t
   go true = refl
   go false = refl
 
@@ -150,24 +182,24 @@ choose : {A : Type 0} (t : Bool) (x y : A) → t ≡ true → cond t x y ≡ x
 choose true x y e = refl
 choose false x y e = cc
 
-seen-shown : (s : State) → is_nonsecure_side (side_of s) ≡ true → seen s ≡ Shown s.board s.core.registers (public_of s)
-seen-shown s is = choose (is_nonsecure_side (side_of s)) (Shown s.board s.core.registers (public_of s)) (Hidden s.board) is
+seen-shown : (s : State) → is_nonsecure_side (side_of s) ≡ true → seen s ≡ Shown s.bus.board s.core.registers (public_of s)
+seen-shown s is = choose (is_nonsecure_side (side_of s)) (Shown s.bus.board s.core.registers (public_of s)) (Hidden s.bus.board) is
 
 -- states that are seen alike and in which Non-secure code runs are twins
 pub twins_of_seen : (s s' : State) → seen s ≡ seen s' → is_nonsecure_side (side_of s) ≡ true → Twins s s'
 unfolding open_seen bytes_seen
 twins_of_seen s s' e is =
     let is' : is_nonsecure_side (side_of s') ≡ true = sym (sides_alike s s' e) ∙ is in
-    let both : Shown s.board s.core.registers (public_of s) ≡ Shown s'.board s'.core.registers (public_of s') =
+    let both : Shown s.bus.board s.core.registers (public_of s) ≡ Shown s'.bus.board s'.core.registers (public_of s') =
     sym (seen-shown s is) ∙ e ∙ seen-shown s' is' in
     let opens : open_of s ≡ open_of s' = ap (open_seen (open_of s)) both in
-    let none : ℕ → Option ℕ = open_bytes (map_of s) s.memory in
-    let bytes : (a : ℕ) → open_bytes (map_of s) s.memory a ≡ open_bytes (map_of s') s'.memory a = λ a. ap (λ x. bytes_seen none x a) both in
+    let none : ℕ → Option ℕ = open_bytes (map_of s) s.bus.memory in
+    let bytes : (a : ℕ) → open_bytes (map_of s) s.bus.memory a ≡ open_bytes (map_of s') s'.bus.memory a = λ a. ap (λ x. bytes_seen none x a) both in
     record {
       runs = is;
       runs' = is';
       opens = opens;
-      bytes = λ a. bytes a ∙ ap (λ (o : Open). open_bytes (map_on o.board) s'.memory a) (sym opens);
+      bytes = λ a. bytes a ∙ ap (λ (o : Open). open_bytes (open_map o) s'.bus.memory a) (sym opens);
     }
 
 -- and twins are seen alike

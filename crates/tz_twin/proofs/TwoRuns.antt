@@ -67,7 +67,7 @@ locked_side s e = go s.core.run.locked e where
   go true h = refl
   go false h = cc
 
-locked_seen : (s : State) → s.core.run.locked ≡ true → seen s ≡ Hidden s.board
+locked_seen : (s : State) → s.core.run.locked ≡ true → seen s ≡ Hidden s.bus.board
 locked_seen s e = let side = locked_side s e in rw side refl
 
 locked_line : (k : ℕ) (b : Before) (e : Ended) → e.state.core.run.locked ≡ true → line Ns k (report_of b e) ≡ decimal k ++ codes " " ++ codes "S" ++ codes "\n"

@@ -10,7 +10,9 @@ use Rattle.tz_regs.specs.declared.parts.Stacks.{Stacks}
 use Rattle.tz_regs.specs.declared.parts.Masks.{Masks}
 use Rattle.tz_regs.specs.declared.parts.SideStatus.{SideStatus}
 use Rattle.tz_state.specs.Memory.{Memory}
-use Rattle.tz_state.specs.Attribution.{MapState, is_open}
+use Rattle.tz_state.specs.declared.request.Exclusive.{Exclusive}
+use Rattle.tz_state.specs.Attribution.{SauState, MapState, is_open}
+use Rattle.tz_state.specs.Protection.{MpuState}
 use Rattle.tz_state.specs.State.{State, map_of, side_of}
 use Rattle.tz_sem.specs.Step.{Stepped, step}
 use Rattle.tz_sem.specs.Run.{Events}
@@ -20,23 +22,29 @@ abbrev pub open_bytes : MapState → Memory → ℕ → Option ℕ
 open_bytes m memory a = if is_open m a then get memory a else None
 
 -- the public state: the Non-secure bytes; the Non-secure stack pointers with their limits and CONTROL; what
--- masks exceptions, on both sides; VTOR, CCR and the fault registers of the Non-secure side; and what the
--- core waits for
+-- masks exceptions, on both sides; the SAU and the Non-secure MPU; VTOR, CCR and the fault registers of the
+-- Non-secure side; the exclusive monitor, the event flag, and what the core waits for
 pub record Public : Type 0 where
   pub bytes : ℕ → Option ℕ
   pub stacks : Stacks
   pub masks : Masks
+  pub sau : SauState
+  pub mpu : MpuState
   pub status : SideStatus
+  pub monitor : Option Exclusive
   pub event : Bool
   pub sleep : Sleep
 
 abbrev pub public_of : State → Public
 public_of s =
     record {
-      bytes = open_bytes (map_of s) s.memory;
+      bytes = open_bytes (map_of s) s.bus.memory;
       stacks = s.core.stacks_ns;
       masks = s.core.masks;
+      sau = s.bus.sau;
+      mpu = s.bus.mpu_ns;
       status = s.core.status.ns;
+      monitor = s.bus.monitor;
       event = s.core.event;
       sleep = s.core.run.sleep;
     }
@@ -69,4 +77,4 @@ pub data Seen : Type 0 where
   Shown : (board : BoardValue) (registers : Registers) (public : Public) → Seen
 
 abbrev pub seen : State → Seen
-seen s = if is_nonsecure_side (side_of s) then Shown s.board s.core.registers (public_of s) else Hidden s.board
+seen s = if is_nonsecure_side (side_of s) then Shown s.bus.board s.core.registers (public_of s) else Hidden s.bus.board

@@ -1,0 +1,22 @@
+; A Non-secure image: it copies eight words to the last 32 bytes of its RAM, and reads three of them again.
+.org 0x00200040
+        ldr     r0, from
+        ldr     r1, to
+        ldm     r0!, {r2, r3, r4, r5}
+        stm     r1!, {r2, r3, r4, r5}
+        ldm     r0!, {r2, r3, r4, r5}
+        stm     r1!, {r2, r3, r4, r5}   ; R1 now is one past the end, where nothing is accessed
+        ldmdb   r1, {r6, r7, r8}
+stay:   b       stay
+
+.align 4
+from:   .word   words
+to:     .word   0x20007fe0
+words:  .word   0x11111111
+        .word   0x22222222
+        .word   0x33333333
+        .word   0x44444444
+        .word   0x55555555
+        .word   0x66666666
+        .word   0x77777777
+        .word   0x88888888
