@@ -1,13 +1,19 @@
-//! Data accesses: alignment, attribution, map.
+//! Data accesses: alignment, attribution, protection, the map, in this order.
 
-ghost use Rattle.std.specs.Prelude.{◌≡◌};
-ghost use Rattle.tz_table.specs.declared.units.Size.TheVariants.{Word};
-ghost use Rattle.tz_state.specs.Memory.{every};
-ghost use Rattle.tz_state.specs.Attribution.{map_on, is_open};
-ghost use Rattle.tz_state.specs.Access.{is_aligned, is_mapped, is_writable, may_touch, is_crooked, checked, load_verdict, store_verdict};
+ghost use Rattle.std.specs.Prelude.{◌≡◌, MatchResult, None, Some};
+ghost use Rattle.tz_state.specs.declared.request.Kind.TheVariants.{Read, Write};
+ghost use Rattle.tz_state.specs.Memory.{every, value_at, with_value};
+ghost use Rattle.tz_state.specs.Attribution.{is_open};
+ghost use Rattle.tz_state.specs.State.{map_in, with_memory};
+ghost use Rattle.tz_state.specs.Access.{is_aligned, is_crooked, may_touch, is_let, lets, takes, is_private, verdict, request_by, unbuilt};
+ghost use Rattle.tz_access.specs.Checks.{is_system, left_by};
 
-use tz_model::{Board, Fault, Region, RegionKind, Side, Size};
-use tz_sau::{in_region, is_open};
+use crate::bus::Bus;
+use crate::place::Place;
+use crate::span::{is_one_block, last_of};
+use crate::units::is_private;
+use tz_model::{Fault, Side, Size};
+use tz_state::{Asker, Kind, Request};
 
 fn is_aligned(size: Size, addr: u32) -> bool
     ensures { result ≡ is_aligned size addr }
@@ -19,161 +25,180 @@ fn is_aligned(size: Size, addr: u32) -> bool
     }
 }
 
-/// Whether a region holds an address.
-#[tactic(auto, unfolding(tz_state::specs::Access::is_mapped))]
-pub fn is_mapped(regions: &[Region], addr: u32) -> bool
-    ensures { result ≡ is_mapped regions.now addr }
+/// Whether an access has to be aligned and isn't.
+fn is_crooked(size: Size, addr: u32, must_align: bool) -> bool
+    ensures { result ≡ is_crooked size addr must_align }
 {
-    for region in regions {
-        if in_region(region, addr) {
-            return true;
-        }
-    }
-    false
+    (must_align || addr >= 0xe000_0000) && !is_aligned(size, addr)
 }
 
-/// Whether the region that holds an address takes writes.
-#[tactic(auto, unfolding(tz_state::specs::Access::is_writable))]
-fn is_writable(regions: &[Region], addr: u32) -> bool
-    ensures { result ≡ is_writable regions.now addr }
-{
-    for region in regions {
-        if in_region(region, addr) {
-            return region.kind == RegionKind::Ram;
-        }
-    }
-    false
-}
-
-/// Whether regions hold each byte of an access.
-pub fn all_mapped(regions: &[Region], addr: u32, size: Size) -> bool
-    ensures { result ≡ every (is_mapped regions.now) addr size }
-{
-    match size {
-        Size::Byte => is_mapped(regions, addr),
-        Size::Half => is_mapped(regions, addr) && is_mapped(regions, addr.wrapping_add(1)),
-        Size::Word => {
-            is_mapped(regions, addr)
-                && is_mapped(regions, addr.wrapping_add(1))
-                && is_mapped(regions, addr.wrapping_add(2))
-                && is_mapped(regions, addr.wrapping_add(3))
-        }
-    }
-}
-
-/// Whether regions of a board hold each byte of a word.
-pub fn is_word_mapped(board: &Board, addr: u32) -> bool
-    ensures { result ≡ every (is_mapped board.now.regions) addr Word }
-{
-    all_mapped(&board.regions, addr, Size::Word)
-}
-
-/// Whether each byte of an access takes writes.
-fn all_writable(regions: &[Region], addr: u32, size: Size) -> bool
-    ensures { result ≡ every (is_writable regions.now) addr size }
-{
-    match size {
-        Size::Byte => is_writable(regions, addr),
-        Size::Half => is_writable(regions, addr) && is_writable(regions, addr.wrapping_add(1)),
-        Size::Word => {
-            is_writable(regions, addr)
-                && is_writable(regions, addr.wrapping_add(1))
-                && is_writable(regions, addr.wrapping_add(2))
-                && is_writable(regions, addr.wrapping_add(3))
-        }
-    }
-}
-
-/// Whether each byte of an access is Non-secure.
-fn all_open(board: &Board, addr: u32, size: Size) -> bool
-    ensures { result ≡ every (is_open (map_on board.now)) addr size }
-{
-    match size {
-        Size::Byte => is_open(board, addr),
-        Size::Half => is_open(board, addr) && is_open(board, addr.wrapping_add(1)),
-        Size::Word => {
-            is_open(board, addr)
-                && is_open(board, addr.wrapping_add(1))
-                && is_open(board, addr.wrapping_add(2))
-                && is_open(board, addr.wrapping_add(3))
-        }
-    }
-}
-
-/// Whether attribution lets code of a side access each byte.
-#[tactic(auto, unfolding(tz_state::specs::Access::may_touch))]
-fn may_touch(board: &Board, side: Side, size: Size, addr: u32) -> bool
-    ensures { result ≡ may_touch (map_on board.now) side size addr }
-{
-    match side {
-        Side::Secure => true,
-        Side::NonSecure => all_open(board, addr, size),
-    }
-}
-
-/// The first check that fails, where `mapped` tells whether the map takes the access.
-fn checked(
-    board: &Board,
-    side: Side,
+/// An access of the code that asks.
+fn request_by(
+    asker: &Asker,
+    kind: Kind,
     size: Size,
     addr: u32,
     must_align: bool,
-    mapped: bool,
-) -> Option<Fault>
-    ensures { result ≡ checked (map_on board.now) side size addr must_align mapped }
+    user: bool,
+) -> Request
+    ensures { result ≡ request_by asker.now kind size addr must_align user }
 {
-    if (must_align || addr >= 0xe000_0000) && !is_aligned(size, addr) {
-        return Some(Fault::Unaligned);
-    }
-    if !may_touch(board, side, size, addr) {
-        return Some(Fault::Violation(addr));
-    }
-    if !mapped {
-        return Some(Fault::Precise(addr));
-    }
-    None
-}
-
-/// The fault of a load of code of a side, or none: UNALIGNED, AUVIOL or PRECISERR, the first check that
-/// fails. With `must_align` it has to be aligned to its size everywhere.
-#[tactic(auto, unfolding(tz_state::specs::Access::load_verdict))]
-pub fn load_verdict(
-    board: &Board,
-    side: Side,
-    size: Size,
-    addr: u32,
-    must_align: bool,
-) -> Option<Fault>
-    ensures { result ≡ load_verdict (map_on board.now) side size addr must_align }
-{
-    checked(
-        board,
-        side,
-        size,
+    Request {
         addr,
-        must_align,
-        all_mapped(&board.regions, addr, size),
-    )
+        size,
+        kind,
+        side: asker.side,
+        privileged: asker.privileged && !user,
+        negative: asker.negative,
+        must_align: must_align || asker.aligned,
+    }
 }
 
-/// The fault of a store of code of a side, or none: UNALIGNED, AUVIOL or PRECISERR, the first check that
-/// fails. With `must_align` it has to be aligned to its size everywhere.
-#[tactic(auto, unfolding(tz_state::specs::Access::store_verdict))]
-pub fn store_verdict(
-    board: &Board,
-    side: Side,
-    size: Size,
-    addr: u32,
-    must_align: bool,
-) -> Option<Fault>
-    ensures { result ≡ store_verdict (map_on board.now) side size addr must_align }
-{
-    checked(
-        board,
-        side,
-        size,
-        addr,
-        must_align,
-        all_writable(&board.regions, addr, size),
-    )
+impl Bus {
+    /// Whether Non-secure code may access each byte.
+    fn all_open(&self, size: Size, addr: u32) -> bool
+        ensures { result ≡ every (is_open (map_in self.now)) addr size }
+    {
+        let last = last_of(size, addr);
+        self.is_open(addr) && (is_one_block(addr, last) || self.is_open(last))
+    }
+
+    /// Whether attribution lets code of a side access each byte.
+    #[tactic(auto, unfolding(tz_state::specs::Access::may_touch))]
+    fn may_touch(&self, side: Side, size: Size, addr: u32) -> bool
+        ensures { result ≡ may_touch (map_in self.now) side size addr }
+    {
+        match side {
+            Side::Secure => true,
+            Side::NonSecure => self.all_open(size, addr),
+        }
+    }
+
+    /// Whether the MPU lets an access have each byte.
+    #[tactic(auto, using(crate::proofs::Blocks::every_by_ends), unfolding(tz_state::specs::Access::is_let))]
+    fn is_let(&self, request: &Request) -> bool
+        ensures { result ≡ is_let self.now request.now }
+    {
+        let last = last_of(request.size, request.addr);
+        self.lets(request, request.addr)
+            && (is_one_block(request.addr, last) || self.lets(request, last))
+    }
+
+    /// Whether the map takes each byte of an access.
+    fn all_taken(&self, kind: Kind, size: Size, addr: u32) -> bool
+        ensures { result ≡ every (takes self.now.board.regions kind) addr size }
+    {
+        let last = last_of(size, addr);
+        self.takes(kind, addr) && (is_one_block(addr, last) || self.takes(kind, last))
+    }
+
+    /// All checks of an access but the map's.
+    #[tactic(auto, unfolding(tz_state::specs::Access::verdict))]
+    fn guard(&self, request: &Request) -> Result<Place, Fault>
+        ensures { MatchResult result
+            (λ place. (verdict self.now request.now ≡ left_by place self.now request.now) × (is_system place ≡ is_private request.now.addr))
+            (λ fault. verdict self.now request.now ≡ Some fault) }
+    {
+        let addr = request.addr;
+        if is_crooked(request.size, addr, request.must_align) {
+            return Err(Fault::Unaligned);
+        }
+        if !self.may_touch(request.side, request.size, addr) {
+            return Err(Fault::Violation(addr));
+        }
+        if !self.is_let(request) {
+            return Err(Fault::DataAccess(addr, request.side));
+        }
+        if !is_private(addr) {
+            return Ok(Place::Memory);
+        }
+        if request.privileged {
+            return Ok(Place::System);
+        }
+        Err(Fault::Precise(addr))
+    }
+
+    /// All checks of an access (DDI0553, `MemA`, `MemU`), in their order: alignment, attribution, protection,
+    /// the map. Ok tells where its bytes are. It reads and changes nothing.
+    ///
+    /// # Errors
+    ///
+    /// UNALIGNED, AUVIOL, DACCVIOL or PRECISERR, the first check that fails.
+    pub fn check(&mut self, request: &Request) -> Result<Place, Fault>
+        ensures verdict { MatchResult result
+            (λ place. (verdict self.old request.now ≡ None) × (is_system place ≡ is_private request.now.addr))
+            (λ fault. verdict self.old request.now ≡ Some fault) }
+        ensures kept { self.new ≡ self.old }
+    {
+        match self.guard(request) {
+            Err(fault) => Err(fault),
+            Ok(Place::System) => Ok(Place::System),
+            Ok(Place::Memory) => {
+                if self.all_taken(request.kind, request.size, request.addr) {
+                    Ok(Place::Memory)
+                } else {
+                    Err(Fault::Precise(request.addr))
+                }
+            }
+        }
+    }
+
+    /// A load of the code that asks. The system registers aren't built: an access to them that no check
+    /// refuses gives a bus fault.
+    ///
+    /// # Errors
+    ///
+    /// UNALIGNED, AUVIOL, DACCVIOL or PRECISERR, the first check that fails.
+    pub fn load(
+        &self,
+        asker: &Asker,
+        size: Size,
+        addr: u32,
+        must_align: bool,
+        user: bool,
+    ) -> Result<u32, Fault>
+        ensures { MatchResult result
+            (λ value. (unbuilt addr (verdict self.now (request_by asker.now Read size addr must_align user)) ≡ None) × (value ≡ value_at self.now.memory size addr))
+            (λ fault. unbuilt addr (verdict self.now (request_by asker.now Read size addr must_align user)) ≡ Some fault) }
+    {
+        let request = request_by(asker, Kind::Read, size, addr, must_align, user);
+        match self.guard(&request) {
+            Err(fault) => Err(fault),
+            Ok(Place::System) => Err(Fault::Precise(addr)),
+            Ok(Place::Memory) => match self.memory.read(addr, size) {
+                Err(_) => Err(Fault::Precise(addr)),
+                Ok(value) => Ok(value),
+            },
+        }
+    }
+
+    /// A store of the low part of a number by the code that asks, as `load` loads. Nothing changes on an
+    /// error.
+    ///
+    /// # Errors
+    ///
+    /// UNALIGNED, AUVIOL, DACCVIOL or PRECISERR, the first check that fails.
+    pub fn store(
+        &mut self,
+        asker: &Asker,
+        size: Size,
+        addr: u32,
+        value: u32,
+        must_align: bool,
+        user: bool,
+    ) -> Result<(), Fault>
+        ensures { MatchResult result
+            (λ _. (unbuilt addr (verdict self.old (request_by asker.now Write size addr must_align user)) ≡ None) × (self.new ≡ with_memory self.old (with_value self.old.memory size addr value)))
+            (λ fault. (unbuilt addr (verdict self.old (request_by asker.now Write size addr must_align user)) ≡ Some fault) × (self.new ≡ self.old)) }
+    {
+        let request = request_by(asker, Kind::Write, size, addr, must_align, user);
+        match self.guard(&request) {
+            Err(fault) => Err(fault),
+            Ok(Place::System) => Err(Fault::Precise(addr)),
+            Ok(Place::Memory) => match self.memory.write(addr, size, value) {
+                Err(_) => Err(Fault::Precise(addr)),
+                Ok(()) => Ok(()),
+            },
+        }
+    }
 }

@@ -1,47 +1,27 @@
 //! Fetches (DDI0553, `FetchInstr`).
 
-ghost use Rattle.std.specs.Prelude.{◌≡◌, true};
-ghost use Rattle.tz_state.specs.Attribution.{map_on};
-ghost use Rattle.tz_state.specs.Fetch.{is_executable, is_half_mapped, is_own_byte, is_own_fetch, wrong_side, half_verdict, with_first, is_entry, gateway_fetch, is_entry_fault, fetch};
+ghost use Rattle.std.specs.Prelude.{◌≡◌, ◌+◌, true, MatchOption, MatchResult, None, Some};
+ghost use Rattle.tz_table.specs.declared.units.Side.TheVariants.{Secure, NonSecure};
+ghost use Rattle.tz_model.specs.Words.{wrap};
+ghost use Rattle.tz_state.specs.Attribution.{fetch_attribution};
+ghost use Rattle.tz_state.specs.Fetch.{is_own_byte, is_own_fetch, is_runnable, wrong_side, lets_run, own_fetch, is_entry as is_entry_at, gateway_fetch, is_entry_fault, fetch, needs_second, narrow, wide};
+ghost use Rattle.tz_state.specs.State.{map_in};
+ghost use Rattle.tz_access.specs.Checks.{IsByBlocks, is_own};
 
-use crate::data::all_mapped;
-use tz_mem::Memory;
-use tz_model::{Board, Code, Fault, FetchAnswer, Fetched, RegionSide, Side, Size};
-use tz_sau::fetch_attribution;
+use crate::bus::Bus;
+use crate::span::is_one_block;
+use tz_model::{Code, Fault, FetchAnswer, Fetched, RegionSide, Side};
+use tz_state::Fetcher;
 
-/// Whether the default map lets code run at an address.
-fn is_executable(addr: u32) -> bool
-    ensures { result ≡ is_executable addr }
+/// Whether memory of this attribution is of a side.
+fn is_own(side: Side, attributed: RegionSide) -> bool
+    ensures { result ≡ is_own side attributed }
 {
-    !((addr >= 0x4000_0000 && addr <= 0x5fff_ffff) || addr >= 0xa000_0000)
-}
-
-fn is_half_mapped(board: &Board, addr: u32) -> bool
-    ensures { result ≡ is_half_mapped (map_on board.now) addr }
-{
-    all_mapped(&board.regions, addr, Size::Half)
-}
-
-/// Whether an address is of the side that fetches from it.
-fn is_own_byte(board: &Board, side: Side, addr: u32) -> bool
-    ensures { result ≡ is_own_byte (map_on board.now) side addr }
-{
-    let nonsecure = fetch_attribution(board, side, addr) == RegionSide::NonSecure;
+    let nonsecure = attributed == RegionSide::NonSecure;
     match side {
         Side::Secure => !nonsecure,
         Side::NonSecure => nonsecure,
     }
-}
-
-/// Whether both bytes of a halfword are of the side that fetches them. Attribution goes by blocks, so for an
-/// even address one byte tells both.
-#[tactic(auto, unfolding(tz_state::specs::Fetch::is_own_fetch))]
-pub fn is_own_fetch(board: &Board, side: Side, addr: u32) -> bool
-    ensures { result ≡ is_own_fetch (map_on board.now) side addr }
-{
-    let _read = board.interrupts;
-    is_own_byte(board, side, addr)
-        && (addr % 2 == 0 || is_own_byte(board, side, addr.wrapping_add(1)))
 }
 
 fn wrong_side(side: Side) -> Fault
@@ -53,100 +33,30 @@ fn wrong_side(side: Side) -> Fault
     }
 }
 
-/// The fault of the fetch of a halfword that is of the side that fetches it, or none.
-#[tactic(auto, unfolding(tz_state::specs::Fetch::half_verdict))]
-fn own_verdict(board: &Board, side: Side, addr: u32) -> Option<Fault>
-    requires { is_own_fetch (map_on board.now) side addr ≡ true }
-    ensures { result ≡ half_verdict (map_on board.now) side addr }
+/// An instruction of one halfword.
+fn narrow(first: u16) -> Fetched
+    ensures { result ≡ narrow first }
 {
-    if !is_executable(addr) {
-        return Some(Fault::Exec(side));
+    Fetched {
+        code: Code {
+            first,
+            second: None,
+        },
+        gateway: false,
     }
-    if !is_half_mapped(board, addr) {
-        return Some(Fault::ExecBus);
-    }
-    None
 }
 
-/// The fault of the fetch of a halfword, or none.
-#[tactic(auto, unfolding(tz_state::specs::Fetch::half_verdict))]
-fn half_verdict(board: &Board, side: Side, addr: u32) -> Option<Fault>
-    ensures { result ≡ half_verdict (map_on board.now) side addr }
+/// An instruction of two.
+fn wide(first: u16, second: u16, gateway: bool) -> Fetched
+    ensures { result ≡ wide first second gateway }
 {
-    if !is_own_fetch(board, side, addr) {
-        return Some(wrong_side(side));
-    }
-    own_verdict(board, side, addr)
-}
-
-/// The code at PC, where its first halfword has this fault or none.
-fn with_first(
-    board: &Board,
-    side: Side,
-    memory: &Memory,
-    pc: u32,
-    verdict: Option<Fault>,
-) -> Result<Fetched, Fault>
-    ensures { result ≡ with_first (map_on board.now) side memory.now pc verdict }
-{
-    if let Some(fault) = verdict {
-        return Err(fault);
-    }
-    let first = memory.half(pc);
-    if first < 0xe800 {
-        return Ok(Fetched {
-            code: Code {
-                first,
-                second: None,
-            },
-            gateway: false,
-        });
-    }
-    if let Some(fault) = half_verdict(board, side, pc.wrapping_add(2)) {
-        return Err(fault);
-    }
-    let second = memory.half(pc.wrapping_add(2));
-    Ok(Fetched {
+    Fetched {
         code: Code {
             first,
             second: Some(second),
         },
-        gateway: false,
-    })
-}
-
-/// Whether Non-secure code may enter at an address.
-fn is_entry(board: &Board, addr: u32) -> bool
-    ensures { result ≡ is_entry (map_on board.now) addr }
-{
-    fetch_attribution(board, Side::NonSecure, addr) == RegionSide::Nsc
-}
-
-/// SG, where Non-secure code runs into Secure memory: all four bytes have to be callable.
-#[tactic(auto, unfolding(tz_state::specs::Fetch::gateway_fetch))]
-fn gateway_fetch(board: &Board, memory: &Memory, pc: u32) -> Result<Fetched, Fault>
-    ensures { result ≡ gateway_fetch (map_on board.now) memory.now pc }
-{
-    let next = pc.wrapping_add(2);
-    if !(is_entry(board, pc) && is_entry(board, next)) {
-        return Err(Fault::EntryPoint);
+        gateway,
     }
-    if !(is_executable(pc) && is_executable(next)) {
-        return Err(Fault::Exec(Side::Secure));
-    }
-    if !(is_half_mapped(board, pc) && is_half_mapped(board, next)) {
-        return Err(Fault::ExecBus);
-    }
-    if memory.half(pc) == 0xe97f && memory.half(next) == 0xe97f {
-        return Ok(Fetched {
-            code: Code {
-                first: 0xe97f,
-                second: Some(0xe97f),
-            },
-            gateway: true,
-        });
-    }
-    Err(Fault::EntryPoint)
 }
 
 /// Whether a fetch of Non-secure code met Secure memory.
@@ -156,37 +66,227 @@ fn is_entry_fault(answer: &Result<Fetched, Fault>) -> bool
     matches!(answer, Err(Fault::EntryPoint))
 }
 
-/// The instruction at PC for code of a side, or its fault: INVTRAN, INVEP, IACCVIOL or IBUSERR, the
-/// first check that fails.
-#[tactic(auto, unfolding(tz_state::specs::Fetch::fetch, tz_state::specs::Fetch::own_fetch))]
-pub fn fetch_at(board: &Board, side: Side, memory: &Memory, pc: u32) -> FetchAnswer
-    ensures { result ≡ fetch (map_on board.now) side memory.now pc }
-{
-    match side {
-        Side::Secure => FetchAnswer {
-            touched: true,
-            answer: with_first(
-                board,
-                Side::Secure,
-                memory,
-                pc,
-                half_verdict(board, Side::Secure, pc),
-            ),
-        },
-        Side::NonSecure => {
-            if is_own_fetch(board, Side::NonSecure, pc) {
-                let verdict = own_verdict(board, Side::NonSecure, pc);
-                let answer = with_first(board, Side::NonSecure, memory, pc, verdict);
-                FetchAnswer {
-                    touched: is_entry_fault(&answer),
-                    answer,
-                }
-            } else {
-                FetchAnswer {
-                    touched: true,
-                    answer: gateway_fetch(board, memory, pc),
+impl Bus {
+    /// Fetches are of a side by blocks.
+    fn know_own(&self, side: Side)
+        ensures { IsByBlocks (is_own_byte (map_in self.now) side) }
+    {
+        self.know_regions();
+        let _side = side;
+    }
+
+    /// Whether a byte is of the side that fetches it.
+    fn is_own_byte(&self, side: Side, addr: u32) -> bool
+        ensures { result ≡ is_own_byte (map_in self.now) side addr }
+    {
+        is_own(side, self.sau.fetch_attribution(side, addr))
+    }
+
+    /// Whether both bytes of a halfword are of the side that fetches it.
+    #[tactic(auto, unfolding(tz_state::specs::Fetch::is_own_fetch))]
+    pub fn is_own_fetch(&self, side: Side, addr: u32) -> bool
+        ensures { result ≡ is_own_fetch (map_in self.now) side addr }
+    {
+        self.is_own_rest(side, addr, self.sau.fetch_attribution(side, addr))
+    }
+
+    /// Whether both bytes of a halfword are of the side that fetches it, by the attribution of its first.
+    #[tactic(auto, unfolding(tz_state::specs::Fetch::is_own_fetch))]
+    fn is_own_rest(&self, side: Side, addr: u32, attributed: RegionSide) -> bool
+        requires { attributed ≡ fetch_attribution (map_in self.now) side addr }
+        ensures { result ≡ is_own_fetch (map_in self.now) side addr }
+    {
+        self.know_own(side);
+        let last = addr.wrapping_add(1);
+        is_own(side, attributed) && (is_one_block(addr, last) || self.is_own_byte(side, last))
+    }
+
+    /// Whether the second halfword at PC is of the side that fetches it, where the first is.
+    #[tactic(auto, using(crate::proofs::Blocks::second_in_block), unfolding(tz_state::specs::Fetch::is_own_fetch))]
+    fn is_second_own(&self, side: Side, pc: u32) -> bool
+        requires { is_own_fetch (map_in self.now) side pc ≡ true }
+        ensures { result ≡ is_own_fetch (map_in self.now) side (wrap (pc + 2)) }
+    {
+        self.know_own(side);
+        is_one_block(pc, pc.wrapping_add(3)) || self.is_own_fetch(side, pc.wrapping_add(2))
+    }
+
+    /// The MPU of a side lets code run by blocks.
+    #[tactic(auto, using(crate::proofs::Blocks::runs_by_blocks))]
+    fn know_runs(&self, side: Side, privileged: bool, negative: bool)
+        ensures { IsByBlocks (lets_run self.now side privileged negative) }
+    {
+        let _asked = (side, privileged, negative);
+    }
+
+    /// Whether the MPU of a side lets code run at both bytes of a halfword.
+    #[tactic(auto, unfolding(tz_state::specs::Fetch::is_runnable))]
+    fn is_runnable(&self, side: Side, privileged: bool, negative: bool, addr: u32) -> bool
+        ensures { result ≡ is_runnable self.now side privileged negative addr }
+    {
+        let last = addr.wrapping_add(1);
+        self.lets_run(side, privileged, negative, addr)
+            && (is_one_block(addr, last) || self.lets_run(side, privileged, negative, last))
+    }
+
+    /// Whether the MPU lets code run at the second halfword at PC, where it does at the first.
+    #[tactic(auto, using(crate::proofs::Blocks::second_in_block), unfolding(tz_state::specs::Fetch::is_runnable))]
+    fn is_second_runnable(&self, side: Side, privileged: bool, negative: bool, pc: u32) -> bool
+        requires { is_runnable self.now side privileged negative pc ≡ true }
+        ensures { result ≡ is_runnable self.now side privileged negative (wrap (pc + 2)) }
+    {
+        self.know_runs(side, privileged, negative);
+        is_one_block(pc, pc.wrapping_add(3))
+            || self.is_runnable(side, privileged, negative, pc.wrapping_add(2))
+    }
+
+    /// Whether Non-secure code may enter at the second halfword at PC, where it may at the first.
+    fn is_second_entry(&self, pc: u32) -> bool
+        requires { is_entry_at (map_in self.now) pc ≡ true }
+        ensures { result ≡ is_entry_at (map_in self.now) (wrap (pc + 2)) }
+    {
+        self.know_entry();
+        let next = pc.wrapping_add(2);
+        is_one_block(pc, next)
+            || self.sau.fetch_attribution(Side::NonSecure, next) == RegionSide::Nsc
+    }
+
+    /// Entries are by blocks.
+    fn know_entry(&self)
+        ensures { IsByBlocks (is_entry_at (map_in self.now)) }
+    {
+        self.know_regions();
+    }
+
+    /// The instruction at PC, where its first halfword is of the side that fetches it.
+    #[tactic(auto, unfolding(tz_state::specs::Fetch::own_fetch, tz_state::specs::Fetch::half_verdict))]
+    fn own_fetch(&self, fetcher: &Fetcher, pc: u32) -> Result<Fetched, Fault>
+        requires { is_own_fetch (map_in self.now) fetcher.now.side pc ≡ true }
+        ensures { result ≡ own_fetch self.now fetcher.now pc }
+    {
+        let Fetcher {
+            side,
+            privileged,
+            negative,
+            ..
+        } = *fetcher;
+        if !self.is_runnable(side, privileged, negative, pc) {
+            return Err(Fault::Exec(side));
+        }
+        let (first, second) = match self.memory.read_code(pc) {
+            Err(_) => return Err(Fault::ExecBus),
+            Ok(code) => code,
+        };
+        if first < 0xe800 {
+            return Ok(narrow(first));
+        }
+        if !self.is_second_own(side, pc) {
+            return Err(wrong_side(side));
+        }
+        if !self.is_second_runnable(side, privileged, negative, pc) {
+            return Err(Fault::Exec(side));
+        }
+        match second {
+            None => Err(Fault::ExecBus),
+            Some(second) => Ok(wide(first, second, false)),
+        }
+    }
+
+    /// SG, where Non-secure code runs into Secure memory at PC: all four bytes have to be callable.
+    /// `is_entry` tells it of the first two.
+    #[tactic(auto, unfolding(tz_state::specs::Fetch::gateway_fetch))]
+    fn gateway_fetch(&self, fetcher: &Fetcher, pc: u32, is_entry: bool) -> Result<Fetched, Fault>
+        requires { is_entry ≡ is_entry_at (map_in self.now) pc }
+        ensures { result ≡ gateway_fetch self.now fetcher.now pc }
+    {
+        let Fetcher {
+            secure_privileged: privileged,
+            negative,
+            ..
+        } = *fetcher;
+        if !(is_entry && self.is_second_entry(pc)) {
+            return Err(Fault::EntryPoint);
+        }
+        if !(self.is_runnable(Side::Secure, privileged, negative, pc)
+            && self.is_second_runnable(Side::Secure, privileged, negative, pc))
+        {
+            return Err(Fault::Exec(Side::Secure));
+        }
+        match self.memory.read_code(pc) {
+            Err(_) => Err(Fault::ExecBus),
+            Ok((_, None)) => Err(Fault::ExecBus),
+            Ok((first, Some(second))) => {
+                if first == 0xe97f && second == 0xe97f {
+                    Ok(wide(0xe97f, 0xe97f, true))
+                } else {
+                    Err(Fault::EntryPoint)
                 }
             }
         }
+    }
+
+    /// The instruction at PC for Non-secure code.
+    #[tactic(auto, unfolding(tz_state::specs::Fetch::fetch))]
+    fn nonsecure_fetch(&self, fetcher: &Fetcher, pc: u32) -> FetchAnswer
+        requires { fetcher.now.side ≡ NonSecure }
+        ensures { result ≡ fetch self.now fetcher.now pc }
+    {
+        let attributed = self.sau.fetch_attribution(Side::NonSecure, pc);
+        if self.is_own_rest(Side::NonSecure, pc, attributed) {
+            let answer = self.own_fetch(fetcher, pc);
+            return FetchAnswer {
+                touched: is_entry_fault(&answer),
+                answer,
+            };
+        }
+        FetchAnswer {
+            touched: true,
+            answer: self.gateway_fetch(fetcher, pc, attributed == RegionSide::Nsc),
+        }
+    }
+
+    /// The instruction at PC, or its fault, and whether the fetch met Secure memory.
+    #[tactic(auto, unfolding(tz_state::specs::Fetch::fetch, tz_state::specs::Fetch::own_fetch, tz_state::specs::Fetch::half_verdict))]
+    pub fn fetch_told(&self, pc: u32, fetcher: &Fetcher) -> FetchAnswer
+        ensures { result ≡ fetch self.now fetcher.now pc }
+    {
+        match fetcher.side {
+            Side::NonSecure => self.nonsecure_fetch(fetcher, pc),
+            Side::Secure => FetchAnswer {
+                touched: true,
+                answer: if self.is_own_fetch(Side::Secure, pc) {
+                    self.own_fetch(fetcher, pc)
+                } else {
+                    Err(Fault::Transition)
+                },
+            },
+        }
+    }
+
+    /// The instruction at PC for code of a side. `secure_privileged` says that Secure code would be
+    /// privileged, which a gateway asks; `negative` that the execution priority is below 0. It changes
+    /// nothing.
+    ///
+    /// # Errors
+    ///
+    /// INVTRAN, INVEP, IACCVIOL or IBUSERR, the first check that fails.
+    pub fn fetch(
+        &mut self,
+        pc: u32,
+        side: Side,
+        privileged: bool,
+        secure_privileged: bool,
+        negative: bool,
+    ) -> Result<Fetched, Fault>
+        ensures answer { result ≡ (fetch self.old (record { side = side; privileged = privileged; secure_privileged = secure_privileged; negative = negative }) pc).answer }
+        ensures kept { self.new ≡ self.old }
+    {
+        let fetcher = Fetcher {
+            side,
+            privileged,
+            secure_privileged,
+            negative,
+        };
+        self.fetch_told(pc, &fetcher).answer
     }
 }

@@ -1,11 +1,21 @@
-//! The checks of an access in their order, and fetches.
+//! Memory with the units that guard it: the checks of an access in their order, fetches, TT, and the
+//! units' registers.
 //!
-//! The MPUs are off here: the default map permits every read and write, and fetches but from its two
-//! ranges that never execute.
+//! `Bus` stands for the part of the state that accesses see and change. It asks attribution, then the MPU,
+//! then the map, each once for a block of 32 bytes that an access meets: all three go by such blocks, so
+//! the first byte of an access and its last tell all. It knows nothing of the core: who asks, with which
+//! privilege and at which priority, is told with each call.
 #![tactic(auto)]
 
+mod bus;
 mod data;
 mod fetch;
+mod monitor;
+mod place;
+mod registers;
+mod span;
+mod target;
+mod units;
 
-pub use data::{is_word_mapped, load_verdict, store_verdict};
-pub use fetch::{fetch_at, is_own_fetch};
+pub use bus::Bus;
+pub use place::Place;

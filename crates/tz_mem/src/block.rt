@@ -2,11 +2,24 @@
 ghost use Rattle.std.specs.Prelude.{◌≡◌, MatchOption, None};
 ghost use Rattle.tz_mem.specs.Blocks.{IsPlace, byte_in};
 
-/// Bytes from an address on.
+use std::marker::Model;
+use tz_model::{RegionKind, RegionSide};
+
+/// A region and its bytes.
 #[derive(Drop)]
 pub struct Block {
     pub base: u32,
+    pub kind: RegionKind,
+    pub side: RegionSide,
     pub bytes: Vec<u8>,
+}
+
+impl Model for Block {
+    ghost use Rattle.tz_mem.specs.Blocks.{BlockValue};
+
+    ghost Value = { BlockValue };
+
+    ghost view = { λ b. record { base = b.base; kind = b.kind; side = b.side; bytes = b.bytes.items } };
 }
 
 /// Where the byte of an address stands: the block and the offset in it.

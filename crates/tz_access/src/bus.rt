@@ -1,0 +1,160 @@
+//! The bus: memory, the units that guard it, and the exclusive monitor.
+
+ghost use Rattle.std.specs.Prelude.{◌≡◌, IfOk, MatchResult, OnOk, OnErr, IfErr, true, false};
+ghost use Rattle.tz_table.specs.declared.units.Size.TheVariants.{Word};
+ghost use Rattle.tz_mem.specs.Values.{IsRefusal};
+ghost use Rattle.tz_state.specs.Access.{is_mapped, is_writable};
+ghost use Rattle.tz_state.specs.Memory.{every, value_at, with_value, with_byte, with_bytes};
+ghost use Rattle.tz_state.specs.State.{map_in, mpu_of, with_memory};
+ghost use Rattle.tz_state.specs.UnitRegisters.{reset_bus};
+ghost use Rattle.tz_state.specs.Zeros.{zero_memory};
+
+use std::alloc::{AllocError, Global};
+use std::marker::Model;
+use tz_mem::{Memory, NotMapped, Refused};
+use tz_model::{Board, Segment, Side, Size};
+use tz_mpu::Mpu;
+use tz_sau::Sau;
+use tz_state::Exclusive;
+
+/// Memory with what guards it.
+#[derive(Drop)]
+pub struct Bus {
+    pub(crate) board: Board,
+    pub(crate) memory: Memory,
+    pub(crate) sau: Sau,
+    pub(crate) mpu_s: Mpu,
+    pub(crate) mpu_ns: Mpu,
+    pub(crate) monitor: Option<Exclusive>,
+}
+
+impl Model for Bus {
+    ghost use Rattle.std.specs.Prelude.{◌≡◌};
+    ghost use Rattle.std.specs.Coded.{codes, coded_ℕ};
+    ghost use Rattle.std.specs.FinMap as map;
+    ghost use Rattle.std.specs.Ordering.{nat_cmp};
+    ghost use Rattle.tz_model.specs.Board.{IsBoard};
+    ghost use Rattle.tz_state.specs.State as state;
+
+    ghost Value = { state.Bus };
+
+    ghost coded = { Prim.hlevel (codes, map.code {R = nat_cmp} coded_ℕ coded_ℕ) };
+
+    ghost view = { λ b. record {
+      sau = b.sau.sau;
+      mpu_s = b.mpu_s.mpu;
+      mpu_ns = b.mpu_ns.mpu;
+      monitor = b.monitor;
+      memory = b.memory.bytes;
+      board = b.board;
+    } };
+
+    ghost invariant = { λ b.
+        (b.memory.regions ≡ b.board.regions)
+        × (b.sau.regions ≡ b.board.regions)
+        × (b.mpu_s.profile ≡ b.board.profile)
+        × (b.mpu_ns.profile ≡ b.board.profile) };
+}
+
+impl Bus {
+    /// Zeros in all regions of a board, the SAU as the board starts it, and both MPUs off.
+    ///
+    /// # Errors
+    ///
+    /// `AllocError` where memory runs out.
+    pub fn new(alloc: Global, board: &Board) -> Result<Bus, AllocError>
+        ensures { IfOk result (λ b. b ≡ reset_bus board.now (zero_memory board.now.regions)) }
+    {
+        let memory = Memory::new(alloc, board)?;
+        let copy = board.duplicate(alloc)?;
+        Ok(Bus {
+            memory,
+            sau: Sau::new(board),
+            mpu_s: Mpu::new(board.mpu_secure, board.profile),
+            mpu_ns: Mpu::new(board.mpu_nonsecure, board.profile),
+            monitor: None,
+            board: copy,
+        })
+    }
+
+    /// The number of a size at an address, with no check but the map's.
+    ///
+    /// # Errors
+    ///
+    /// `NotMapped` where no region holds some byte of it.
+    pub fn read(&self, addr: u32, size: Size) -> Result<u32, NotMapped>
+        ensures { MatchResult result
+            (λ value. (every (is_mapped self.now.board.regions) addr size ≡ true) × (value ≡ value_at self.now.memory size addr))
+            (λ _. every (is_mapped self.now.board.regions) addr size ≡ false) }
+    {
+        self.memory.read(addr, size)
+    }
+
+    /// Writes the low part of a number, of a size, at an address, with no check but the map's.
+    ///
+    /// # Errors
+    ///
+    /// `NotMapped` where no region holds some byte, `ReadOnly` where regions hold all bytes and that of some
+    /// byte is `rom`; nothing changes then.
+    pub fn write(&mut self, addr: u32, size: Size, value: u32) -> Result<(), Refused>
+        ensures written { OnOk result (self.new ≡ with_memory self.old (with_value self.old.memory size addr value)) }
+        ensures takes { OnOk result (every (is_writable self.old.board.regions) addr size ≡ true) }
+        ensures refused { OnErr result (every (is_writable self.old.board.regions) addr size ≡ false) }
+        ensures cause { IfErr result (λ e. IsRefusal e self.old.board.regions addr size) }
+        ensures kept { OnErr result (self.new ≡ self.old) }
+    {
+        self.memory.write(addr, size, value)
+    }
+
+    /// Puts a byte at an address, whatever the kind of its region.
+    ///
+    /// # Errors
+    ///
+    /// `NotMapped` where no region holds the address; nothing changes then.
+    pub fn place(&mut self, addr: u32, byte: u8) -> Result<(), NotMapped>
+        ensures { MatchResult result
+            (λ _. (is_mapped self.old.board.regions addr ≡ true) × (self.new ≡ with_memory self.old (with_byte self.old.memory addr byte)))
+            (λ _. (is_mapped self.old.board.regions addr ≡ false) × (self.new ≡ self.old)) }
+    {
+        self.memory.place(addr, byte)
+    }
+
+    /// Puts the bytes of a segment of an image, in `rom` too. Bytes that no region holds are left out.
+    pub fn put_segment(&mut self, segment: &Segment)
+        ensures { self.new ≡ with_memory self.old (with_bytes self.old.memory segment.now.base segment.now.bytes) }
+    {
+        self.memory.put_segment(segment);
+    }
+
+    /// Whether regions hold each byte of a word.
+    pub fn is_word_mapped(&self, addr: u32) -> bool
+        ensures { result ≡ every (is_mapped self.now.board.regions) addr Word }
+    {
+        self.memory.read(addr, Size::Word).is_ok()
+    }
+
+    /// The board.
+    pub fn board(&self) -> &Board
+        ensures { result.now ≡ self.now.board }
+    {
+        &self.board
+    }
+
+    /// The SAU, with the board's regions.
+    pub fn sau(&self) -> &Sau
+        ensures { result.now ≡ map_in self.now }
+    {
+        &self.sau
+    }
+
+    /// The MPU of a side.
+    pub fn mpu(&self, side: Side) -> &Mpu
+        ensures profile { result.now.profile ≡ self.now.board.profile }
+        ensures mpu { result.now.mpu ≡ mpu_of side self.now }
+    {
+        match side {
+            Side::Secure => &self.mpu_s,
+            Side::NonSecure => &self.mpu_ns,
+        }
+    }
+}

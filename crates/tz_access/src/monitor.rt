@@ -1,0 +1,62 @@
+//! The exclusive monitor: one address and size, or nothing.
+
+ghost use Rattle.std.specs.Prelude.{◌≡◌, MatchOption, Some, None};
+ghost use Rattle.tz_state.specs.State.{with_monitor};
+ghost use Rattle.tz_access.specs.Registers.{holds_exclusive, is_same_size};
+
+use crate::bus::Bus;
+use tz_model::Size;
+use tz_state::Exclusive;
+
+fn is_same_size(size: Size, other: Size) -> bool
+    ensures { result ≡ is_same_size size other }
+{
+    match size {
+        Size::Byte => matches!(other, Size::Byte),
+        Size::Half => matches!(other, Size::Half),
+        Size::Word => matches!(other, Size::Word),
+    }
+}
+
+/// Whether the monitor holds an address and a size.
+fn holds_exclusive(monitor: &Option<Exclusive>, addr: u32, size: Size) -> bool
+    ensures { result ≡ holds_exclusive monitor.now (record { addr = addr; size = size }) }
+{
+    match monitor {
+        None => false,
+        Some(held) => held.addr == addr && is_same_size(held.size, size),
+    }
+}
+
+impl Bus {
+    /// The monitor holds this address and size.
+    pub fn monitor_set(&mut self, addr: u32, size: Size)
+        ensures { self.new ≡ with_monitor self.old (Some (record { addr = addr; size = size })) }
+    {
+        self.monitor = Some(Exclusive { addr, size });
+    }
+
+    /// Whether the monitor holds this address and size; it holds nothing after.
+    pub fn monitor_take(&mut self, addr: u32, size: Size) -> bool
+        ensures held { result ≡ holds_exclusive self.old.monitor (record { addr = addr; size = size }) }
+        ensures after { self.new ≡ with_monitor self.old None }
+    {
+        let held = holds_exclusive(&self.monitor, addr, size);
+        self.monitor = None;
+        held
+    }
+
+    /// The monitor holds nothing.
+    pub fn monitor_clear(&mut self)
+        ensures { self.new ≡ with_monitor self.old None }
+    {
+        self.monitor = None;
+    }
+
+    /// What the monitor holds.
+    pub fn monitor(&self) -> Option<(u32, Size)>
+        ensures { MatchOption result (self.now.monitor ≡ None) (λ e. self.now.monitor ≡ Some (record { addr = e.0; size = e.1 })) }
+    {
+        self.monitor.map(|held| (held.addr, held.size))
+    }
+}

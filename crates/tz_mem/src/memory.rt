@@ -1,0 +1,117 @@
+//! Memory, by addresses.
+
+ghost use Rattle.std.specs.Prelude.{◌≡◌, true, false, IfOk, IfErr, OnOk, OnErr, MatchResult, map};
+ghost use Rattle.tz_mem.specs.Blocks.{entries_of, region_of};
+ghost use Rattle.tz_mem.specs.Values.{MemoryValue, with_bytes, IsRefusal};
+ghost use Rattle.tz_state.specs.Access.{is_mapped, is_writable};
+ghost use Rattle.tz_state.specs.Memory as bytes;
+ghost use Rattle.tz_state.specs.Memory.{every, value_at, with_byte, with_value};
+ghost use Rattle.tz_state.specs.Zeros.{zero_entries, zero_memory};
+
+use crate::block::Block;
+use crate::error::{NotMapped, Refused};
+use std::alloc::{AllocError, Global};
+use std::marker::Model;
+use tz_model::{Board, Region, Segment, Size};
+
+/// The regions of a board and their bytes.
+#[derive(Drop)]
+pub struct Memory {
+    blocks: Vec<Block>,
+}
+
+impl Model for Memory {
+    ghost use Rattle.std.specs.Coded.{codes, coded_ℕ};
+    ghost use Rattle.std.specs.FinMap as map;
+    ghost use Rattle.std.specs.Ordering.{nat_cmp};
+    ghost use Rattle.tz_mem.specs.Values.{MemoryValue};
+
+    ghost Value = { MemoryValue };
+
+    ghost coded = { Prim.hlevel (codes, map.code {R = nat_cmp} coded_ℕ coded_ℕ) };
+
+    ghost use Rattle.tz_mem.specs.Blocks.{view_of};
+
+    ghost view = { λ m. view_of m.blocks.items };
+}
+
+/// A block of zeros for each region.
+fn zero_blocks(alloc: Global, regions: &[Region]) -> Result<Vec<Block>, AllocError>
+    ensures regions { IfOk result (λ v. map region_of v.items ≡ regions.now) }
+    ensures bytes { IfOk result (λ v. entries_of v.items ≡ zero_entries regions.now) }
+{
+    let mut blocks = Vec::new(alloc);
+    for region in regions {
+        let bytes = vec![in alloc; 0u8; region.size as usize]?;
+        blocks.push(Block {
+            base: region.base,
+            kind: region.kind,
+            side: region.side,
+            bytes,
+        })?;
+    }
+    Ok(blocks)
+}
+
+impl Memory {
+    /// Memory with zeros in all regions of a board.
+    ///
+    /// # Errors
+    ///
+    /// `AllocError` where memory runs out.
+    #[tactic(auto, unfolding(tz_state::specs::Zeros::zero_memory, crate::specs::Blocks::memory_of))]
+    pub fn new(alloc: Global, board: &Board) -> Result<Memory, AllocError>
+        ensures { IfOk result (λ m. m ≡ record { regions = board.now.regions; bytes = zero_memory board.now.regions }) }
+    {
+        let blocks = zero_blocks(alloc, &board.regions)?;
+        Ok(Memory { blocks })
+    }
+
+    /// Puts a byte at an address, whatever the kind of its region.
+    ///
+    /// # Errors
+    ///
+    /// `NotMapped` where no region holds the address; nothing changes then.
+    pub fn place(&mut self, addr: u32, byte: u8) -> Result<(), NotMapped>
+        ensures { MatchResult result
+          (λ _. (is_mapped self.old.regions addr ≡ true) × (self.new ≡ with_bytes self.old (with_byte self.old.bytes addr byte)))
+          (λ _. (is_mapped self.old.regions addr ≡ false) × (self.new ≡ self.old)) }
+    {
+        Err(NotMapped)
+    }
+
+    /// The number of a size at an address, its low byte first.
+    ///
+    /// # Errors
+    ///
+    /// `NotMapped` where no region holds some byte of it.
+    pub fn read(&self, addr: u32, size: Size) -> Result<u32, NotMapped>
+        ensures { MatchResult result
+          (λ value. (every (is_mapped self.now.regions) addr size ≡ true) × (value ≡ value_at self.now.bytes size addr))
+          (λ _. every (is_mapped self.now.regions) addr size ≡ false) }
+    {
+        Err(NotMapped)
+    }
+
+    /// Writes the low part of a number, of a size, at an address, its low byte first.
+    ///
+    /// # Errors
+    ///
+    /// `NotMapped` where no region holds some byte, `ReadOnly` where regions hold all bytes and that of some
+    /// byte is `rom`; nothing changes then.
+    pub fn write(&mut self, addr: u32, size: Size, value: u32) -> Result<(), Refused>
+        ensures written { OnOk result (self.new ≡ with_bytes self.old (with_value self.old.bytes size addr value)) }
+        ensures takes { OnOk result (every (is_writable self.old.regions) addr size ≡ true) }
+        ensures refused { OnErr result (every (is_writable self.old.regions) addr size ≡ false) }
+        ensures cause { IfErr result (λ e. IsRefusal e self.old.regions addr size) }
+        ensures kept { OnErr result (self.new ≡ self.old) }
+    {
+        Err(Refused::NotMapped)
+    }
+
+    /// Puts the bytes of a segment of an image, in `rom` too. Bytes that no region holds are left out.
+    pub fn put_segment(&mut self, segment: &Segment)
+        ensures { self.new ≡ with_bytes self.old (bytes.with_bytes self.old.bytes segment.now.base segment.now.bytes) }
+    {
+    }
+}

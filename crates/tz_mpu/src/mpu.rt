@@ -1,0 +1,276 @@
+//! One MPU.
+
+ghost use Rattle.std.specs.Prelude.{◌≡◌, ◌≤◌, ◌<◌, ◌&&◌, None, Some, MatchOption, MatchResult, length, replicate};
+ghost use Rattle.tz_state.specs.Protection.{permission, permission_by, mpu_region, is_mpu_on, has_privileged_default, default_permits};
+ghost use Rattle.tz_state.specs.Regions.{no_bounds, holding};
+ghost use Rattle.tz_state.specs.UnitRegisters.{bounds_at, selected, mpu_register, mpu_value, mpu_read, with_mpu_value, mpu_written, with_rbar, with_rlar, rlar_bits, reset_mpu};
+ghost use Rattle.tz_mpu.specs.Units.{with_registers};
+
+use crate::found::{Found, look};
+use crate::permission::{default_permits, region_permits};
+use crate::register::register_at;
+use arrayvec::ArrayVec;
+use std::marker::Model;
+use thiserror::Error;
+use tz_model::Profile;
+use tz_state::{Bounds, Kind, MpuRegister};
+
+/// The MPU refuses an access.
+#[derive(Clone, Copy, Debug, Error)]
+#[error("the MPU refuses the access")]
+pub struct MpuFault;
+
+/// The MPU of a state: CTRL, RNR, both MAIRs and RBAR and RLAR of each region.
+#[derive(Drop)]
+pub struct Mpu {
+    profile: Profile,
+    ctrl: u32,
+    rnr: u32,
+    mair0: u32,
+    mair1: u32,
+    regions: ArrayVec<Bounds, 16>,
+}
+
+impl Model for Mpu {
+    ghost use Rattle.tz_mpu.specs.Units.{MpuValue};
+
+    ghost Value = { MpuValue };
+
+    ghost view = { λ m. record {
+      profile = m.profile;
+      mpu = record { ctrl = m.ctrl; rnr = m.rnr; mair0 = m.mair0; mair1 = m.mair1; regions = m.regions.items };
+    } };
+}
+
+/// The bits of RLAR: PXN only on the profile that has it.
+fn rlar_bits(profile: Profile, value: u32) -> u32
+    ensures { result ≡ rlar_bits profile value }
+{
+    match profile {
+        Profile::V80 => value / 32 * 32 + value % 16,
+        Profile::V81 => value,
+    }
+}
+
+/// Regions that aren't enabled.
+fn unset(count: u8) -> ArrayVec<Bounds, 16>
+    requires { count ≤ 16 }
+    ensures { result.items ≡ replicate count no_bounds }
+{
+    let mut regions = ArrayVec::new();
+    for _ in 0..count {
+        regions.push(Bounds { rbar: 0, rlar: 0 });
+    }
+    regions
+}
+
+/// Replaces RBAR of a region, if there is one of this number.
+fn put_rbar(regions: &mut [Bounds], index: usize, value: u32)
+    ensures { regions.new ≡ with_rbar regions.old index value }
+{
+    if index < regions.len() {
+        regions[index].rbar = value;
+    }
+}
+
+/// Replaces RLAR of a region, if there is one of this number.
+fn put_rlar(regions: &mut [Bounds], index: usize, value: u32)
+    ensures { regions.new ≡ with_rlar regions.old index value }
+{
+    if index < regions.len() {
+        regions[index].rlar = value;
+    }
+}
+
+impl Mpu {
+    /// An MPU with so many regions, at most 16: off, with zeros in all registers.
+    #[tactic(auto, unfolding(tz_state::specs::UnitRegisters::reset_mpu))]
+    pub fn new(regions: u8, profile: Profile) -> Mpu
+        requires { regions ≤ 16 }
+        ensures { result ≡ record { profile = profile; mpu = reset_mpu regions } }
+    {
+        Mpu {
+            profile,
+            ctrl: 0,
+            rnr: 0,
+            mair0: 0,
+            mair1: 0,
+            regions: unset(regions),
+        }
+    }
+
+    /// CTRL.ENABLE, and at a negative execution priority CTRL.HFNMIENA too.
+    fn is_on(&self, negative: bool) -> bool
+        ensures { result ≡ is_mpu_on self.now.mpu negative }
+    {
+        self.ctrl % 2 == 1 && (self.ctrl / 2 % 2 == 1 || !negative)
+    }
+
+    /// The default map, where the MPU leaves it to privileged code (CTRL.PRIVDEFENA).
+    fn lets_default(&self, addr: u32, kind: Kind, privileged: bool) -> bool
+        ensures { result ≡ (privileged && has_privileged_default self.now.mpu && default_permits kind addr) }
+    {
+        privileged && self.ctrl / 4 % 2 == 1 && default_permits(kind, addr)
+    }
+
+    /// What the regions of an MPU that is on permit.
+    fn check_regions(&self, addr: u32, kind: Kind, privileged: bool) -> Result<Option<u8>, MpuFault>
+        ensures { MatchResult result
+            (λ region. permission_by self.now.profile self.now.mpu kind privileged addr (holding 0 self.now.mpu.regions addr) ≡ Some region)
+            (λ _. permission_by self.now.profile self.now.mpu kind privileged addr (holding 0 self.now.mpu.regions addr) ≡ None) }
+    {
+        match look(&self.regions, addr) {
+            Found::Nothing => {
+                if self.lets_default(addr, kind, privileged) {
+                    return Ok(None);
+                }
+            }
+            Found::One(index, bounds) => {
+                if region_permits(self.profile, &bounds, kind, privileged) {
+                    return Ok(Some(index));
+                }
+            }
+            Found::Several => (),
+        }
+        Err(MpuFault)
+    }
+
+    /// Whether the MPU permits a byte of an access (DDI0553, `MPUCheck`), and by which region; none is the
+    /// default map. `negative` says that the execution priority is below 0.
+    ///
+    /// # Errors
+    ///
+    /// `MpuFault` where it doesn't: no region holds the address and the default map doesn't count, the region
+    /// doesn't permit the access, or several regions hold the address.
+    #[tactic(auto, unfolding(tz_state::specs::Protection::permission))]
+    pub fn check(
+        &self,
+        addr: u32,
+        kind: Kind,
+        privileged: bool,
+        negative: bool,
+    ) -> Result<Option<u8>, MpuFault>
+        ensures { MatchResult result
+            (λ region. permission self.now.profile self.now.mpu addr kind privileged negative ≡ Some region)
+            (λ _. permission self.now.profile self.now.mpu addr kind privileged negative ≡ None) }
+    {
+        if self.is_on(negative) {
+            return self.check_regions(addr, kind, privileged);
+        }
+        if default_permits(kind, addr) {
+            return Ok(None);
+        }
+        Err(MpuFault)
+    }
+
+    /// The one enabled region that holds an address, where the MPU is on; what TT tells of it.
+    #[tactic(auto, unfolding(tz_state::specs::Protection::mpu_region))]
+    pub fn examine(&self, addr: u32, negative: bool) -> Option<u8>
+        ensures { result ≡ mpu_region self.now.mpu addr negative }
+    {
+        if !self.is_on(negative) {
+            return None;
+        }
+        match look(&self.regions, addr) {
+            Found::One(index, _) => Some(index),
+            _ => None,
+        }
+    }
+
+    /// RBAR and RLAR of a region, or none where there is no such region.
+    pub fn region(&self, index: u8) -> Option<(u32, u32)>
+        ensures { MatchOption result (length self.now.mpu.regions ≤ index)
+            (λ pair. (index < length self.now.mpu.regions)
+            × (bounds_at self.now.mpu.regions index ≡ record { rbar = pair.0; rlar = pair.1 })) }
+    {
+        let bounds = self.regions.get(usize::from(index))?;
+        Some((bounds.rbar, bounds.rlar))
+    }
+
+    /// The number of the region that RNR and an alias select.
+    fn selected(&self, alias: u8) -> usize
+        ensures { result ≡ selected self.now.mpu alias }
+    {
+        if alias == 0 {
+            self.rnr as usize
+        } else {
+            (self.rnr / 4 * 4) as usize + usize::from(alias)
+        }
+    }
+
+    /// The registers of the region that RNR and an alias select, or zeros where there is none.
+    fn selected_bounds(&self, alias: u8) -> Bounds
+        ensures { result ≡ bounds_at self.now.mpu.regions (selected self.now.mpu alias) }
+    {
+        match self.regions.get(self.selected(alias)) {
+            Some(bounds) => *bounds,
+            None => Bounds { rbar: 0, rlar: 0 },
+        }
+    }
+
+    /// The value of a register.
+    fn value(&self, register: MpuRegister) -> u32
+        ensures { result ≡ mpu_value self.now.mpu register }
+    {
+        match register {
+            MpuRegister::Type => self.regions.len() as u32 * 256,
+            MpuRegister::Ctrl => self.ctrl,
+            MpuRegister::Rnr => self.rnr,
+            MpuRegister::Rbar(alias) => self.selected_bounds(alias).rbar,
+            MpuRegister::Rlar(alias) => self.selected_bounds(alias).rlar,
+            MpuRegister::Mair0 => self.mair0,
+            MpuRegister::Mair1 => self.mair1,
+        }
+    }
+
+    /// The register at an address (DDI0553, chapter D1.2), and 0 where there is none.
+    pub fn read(&self, addr: u32) -> u32
+        ensures { result ≡ mpu_read self.now.mpu (mpu_register addr) }
+    {
+        match register_at(addr) {
+            None => 0,
+            Some(register) => self.value(register),
+        }
+    }
+
+    /// Writes RBAR of the region that RNR and an alias select, if there is one.
+    fn set_rbar(&mut self, alias: u8, value: u32)
+        ensures { self.new ≡ with_registers self.old (with_mpu_value self.old.profile self.old.mpu (MpuRegister.Rbar alias) value) }
+    {
+        let index = self.selected(alias);
+        put_rbar(&mut self.regions, index, value);
+    }
+
+    /// Writes RLAR of the region that RNR and an alias select, if there is one.
+    fn set_rlar(&mut self, alias: u8, value: u32)
+        ensures { self.new ≡ with_registers self.old (with_mpu_value self.old.profile self.old.mpu (MpuRegister.Rlar alias) value) }
+    {
+        let index = self.selected(alias);
+        let bits = rlar_bits(self.profile, value);
+        put_rlar(&mut self.regions, index, bits);
+    }
+
+    /// Writes a register.
+    fn set(&mut self, register: MpuRegister, value: u32)
+        ensures { self.new ≡ with_registers self.old (with_mpu_value self.old.profile self.old.mpu register value) }
+    {
+        match register {
+            MpuRegister::Type => (),
+            MpuRegister::Ctrl => self.ctrl = value % 8,
+            MpuRegister::Rnr => self.rnr = value % 256,
+            MpuRegister::Rbar(alias) => self.set_rbar(alias, value),
+            MpuRegister::Rlar(alias) => self.set_rlar(alias, value),
+            MpuRegister::Mair0 => self.mair0 = value,
+            MpuRegister::Mair1 => self.mair1 = value,
+        }
+    }
+
+    /// Writes the register at an address, if there is one: each keeps the bits that it has, TYPE none.
+    pub fn write(&mut self, addr: u32, value: u32)
+        ensures { self.new ≡ with_registers self.old (mpu_written self.old.profile self.old.mpu (mpu_register addr) value) }
+    {
+        if let Some(register) = register_at(addr) {
+            self.set(register, value);
+        }
+    }
+}

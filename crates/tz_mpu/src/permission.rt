@@ -1,0 +1,69 @@
+//! What a region and the default map permit.
+
+ghost use Rattle.std.specs.Prelude.{◌≡◌};
+ghost use Rattle.tz_state.specs.Protection.{is_executable, default_permits, may_read, may_write, has_pxn, may_run, region_permits};
+
+use tz_model::Profile;
+use tz_state::{Bounds, Kind};
+
+/// Whether the default map lets code run at an address.
+fn is_executable(addr: u32) -> bool
+    ensures { result ≡ is_executable addr }
+{
+    !((addr >= 0x4000_0000 && addr <= 0x5fff_ffff) || addr >= 0xa000_0000)
+}
+
+/// Whether the default map permits an access: all but fetches from where devices are.
+pub fn default_permits(kind: Kind, addr: u32) -> bool
+    ensures { result ≡ default_permits kind addr }
+{
+    match kind {
+        Kind::Read => true,
+        Kind::Write => true,
+        Kind::Fetch => is_executable(addr),
+    }
+}
+
+/// RBAR.AP, bit 0: unprivileged code too.
+fn may_read(bounds: &Bounds, privileged: bool) -> bool
+    ensures { result ≡ may_read bounds.now privileged }
+{
+    privileged || bounds.rbar / 2 % 2 == 1
+}
+
+/// RBAR.AP, bit 1: reads alone.
+fn may_write(bounds: &Bounds, privileged: bool) -> bool
+    ensures { result ≡ may_write bounds.now privileged }
+{
+    may_read(bounds, privileged) && bounds.rbar / 4 % 2 == 0
+}
+
+/// RLAR.PXN, which the profile `V80` doesn't have.
+fn has_pxn(profile: Profile, bounds: &Bounds) -> bool
+    ensures { result ≡ has_pxn profile bounds.now }
+{
+    match profile {
+        Profile::V80 => false,
+        Profile::V81 => bounds.rlar / 16 % 2 == 1,
+    }
+}
+
+/// RBAR.XN: no code runs here; RLAR.PXN: no privileged code.
+fn may_run(profile: Profile, bounds: &Bounds, privileged: bool) -> bool
+    ensures { result ≡ may_run profile bounds.now privileged }
+{
+    may_read(bounds, privileged)
+        && bounds.rbar % 2 == 0
+        && !(privileged && has_pxn(profile, bounds))
+}
+
+/// Whether a region permits an access.
+pub fn region_permits(profile: Profile, bounds: &Bounds, kind: Kind, privileged: bool) -> bool
+    ensures { result ≡ region_permits profile bounds.now kind privileged }
+{
+    match kind {
+        Kind::Read => may_read(bounds, privileged),
+        Kind::Write => may_write(bounds, privileged),
+        Kind::Fetch => may_run(profile, bounds, privileged),
+    }
+}

@@ -1,0 +1,184 @@
+//! The attribution of an address (DDI0553, `SecurityCheck`).
+
+ghost use Rattle.std.specs.Prelude.{◌≡◌, ◌≤◌, length};
+ghost use Rattle.tz_model.specs.Board.{within, is_callable};
+ghost use Rattle.tz_state.specs.Attribution.{MapState, more_secure, own_side, side_by, is_exempt, side_told, is_fixed, attributed, attribution, data_attribution, fetch_attribution, mapped_side, sau_side, sau_region};
+ghost use Rattle.tz_state.specs.Regions.{the_only};
+
+use crate::idau::{IdauWord, idau_word};
+use crate::scan::{Holders, look};
+use crate::unit::Sau;
+use tz_model::{RegionSide, Side};
+use tz_state::Attribute;
+
+/// What the SAU says of an address.
+#[derive(Clone, Copy)]
+struct SauWord {
+    side: RegionSide,
+    /// The number of the one region that holds the address.
+    region: Option<u8>,
+}
+
+/// Whether an address is from `low` to `high`.
+fn within(low: u32, high: u32, addr: u32) -> bool
+    ensures { result ≡ within low high addr }
+{
+    low <= addr && addr <= high
+}
+
+/// The more secure of two attributions.
+fn more_secure(left: RegionSide, right: RegionSide) -> RegionSide
+    ensures { result ≡ more_secure left right }
+{
+    match left {
+        RegionSide::Secure => RegionSide::Secure,
+        RegionSide::NonSecure => right,
+        RegionSide::Nsc => match right {
+            RegionSide::Secure => RegionSide::Secure,
+            _ => RegionSide::Nsc,
+        },
+    }
+}
+
+/// The attribution of what has the state of who asks for it.
+fn own_side(side: Side) -> RegionSide
+    ensures { result ≡ own_side side }
+{
+    match side {
+        Side::Secure => RegionSide::Secure,
+        Side::NonSecure => RegionSide::NonSecure,
+    }
+}
+
+/// Whether data at an address of the private peripheral space has the state of who asks for it.
+fn is_exempt(addr: u32) -> bool
+    ensures { result ≡ is_exempt addr }
+{
+    addr >= 0xe000_0000
+        && (within(0xe000_0000, 0xe000_2fff, addr)
+            || within(0xe000_e000, 0xe000_efff, addr)
+            || within(0xe002_e000, 0xe002_efff, addr)
+            || within(0xe004_0000, 0xe004_1fff, addr)
+            || within(0xe00f_f000, 0xe00f_ffff, addr))
+}
+
+/// Callable memory is Secure memory.
+fn side_told(side: RegionSide) -> Side
+    ensures { result ≡ side_told side }
+{
+    match side {
+        RegionSide::NonSecure => Side::NonSecure,
+        _ => Side::Secure,
+    }
+}
+
+/// Whether neither the SAU nor the board decides the attribution of an address.
+fn is_fixed(fetch: bool, addr: u32) -> bool
+    ensures { result ≡ is_fixed fetch addr }
+{
+    if fetch {
+        addr >= 0xe000_0000
+    } else {
+        is_exempt(addr)
+    }
+}
+
+impl Sau {
+    ghost use Rattle.tz_state.specs.Attribution.{idau_side, idau_region};
+
+    /// The SAU's word on an address.
+    #[tactic(auto, unfolding(tz_state::specs::Attribution::sau_side, tz_state::specs::Attribution::sau_region))]
+    fn sau_word(&self, addr: u32) -> SauWord
+        ensures side { result.side ≡ sau_side self.now.sau addr }
+        ensures region { result.region ≡ sau_region self.now.sau addr }
+    {
+        if self.ctrl % 2 == 0 {
+            return SauWord {
+                side: if self.ctrl / 2 % 2 == 1 {
+                    RegionSide::NonSecure
+                } else {
+                    RegionSide::Secure
+                },
+                region: None,
+            };
+        }
+        match look(&self.bounds, addr) {
+            Holders::One(number, region) => SauWord {
+                side: if region.rlar / 2 % 2 == 1 {
+                    RegionSide::Nsc
+                } else {
+                    RegionSide::NonSecure
+                },
+                region: Some(number),
+            },
+            _ => SauWord {
+                side: RegionSide::Secure,
+                region: None,
+            },
+        }
+    }
+
+    /// The board's word on an address.
+    fn idau_word(&self, addr: u32) -> IdauWord
+        ensures side { result.side ≡ idau_side self.now.regions addr }
+        ensures region { result.region ≡ idau_region 0 self.now.regions addr }
+    {
+        idau_word(&self.regions[..self.region_count], addr)
+    }
+
+    #[tactic(auto, unfolding(tz_state::specs::Attribution::mapped_side))]
+    fn mapped_side(&self, addr: u32) -> RegionSide
+        ensures { result ≡ mapped_side self.now addr }
+    {
+        more_secure(self.sau_word(addr).side, self.idau_word(addr).side)
+    }
+
+    /// The attribution of an address as data, for code of a side.
+    #[tactic(auto, unfolding(tz_state::specs::Attribution::data_attribution))]
+    pub fn data_attribution(&self, side: Side, addr: u32) -> RegionSide
+        ensures { result ≡ data_attribution self.now side addr }
+    {
+        if is_exempt(addr) {
+            own_side(side)
+        } else {
+            self.mapped_side(addr)
+        }
+    }
+
+    /// The attribution of an address as code, for code of a side.
+    #[tactic(auto, unfolding(tz_state::specs::Attribution::fetch_attribution))]
+    pub fn fetch_attribution(&self, side: Side, addr: u32) -> RegionSide
+        ensures { result ≡ fetch_attribution self.now side addr }
+    {
+        if addr >= 0xf000_0000 {
+            RegionSide::Secure
+        } else if addr >= 0xe000_0000 {
+            own_side(side)
+        } else {
+            self.mapped_side(addr)
+        }
+    }
+
+    /// The whole word on an address, as code or as data, for code of a side.
+    #[tactic(auto, unfolding(tz_state::specs::Attribution::attribution, tz_state::specs::Attribution::mapped_side, tz_state::specs::Attribution::data_attribution, tz_state::specs::Attribution::fetch_attribution))]
+    pub fn attribute(&self, addr: u32, fetch: bool, side: Side) -> Attribute
+        ensures { result ≡ attribution self.now fetch side addr }
+    {
+        let fixed = is_fixed(fetch, addr);
+        let sau = self.sau_word(addr);
+        let idau = self.idau_word(addr);
+        let attributed = if !fixed {
+            more_secure(sau.side, idau.side)
+        } else if fetch && addr >= 0xf000_0000 {
+            RegionSide::Secure
+        } else {
+            own_side(side)
+        };
+        Attribute {
+            side: side_told(attributed),
+            callable: attributed == RegionSide::Nsc,
+            sregion: if fixed { None } else { sau.region },
+            iregion: idau.region,
+        }
+    }
+}

@@ -1,0 +1,97 @@
+//! The SAU's registers by their addresses (DDI0553, chapter D1.2).
+
+ghost use Rattle.std.specs.Prelude.{◌≡◌, MatchOption, ◌≤◌, ◌<◌, length, slice_set};
+ghost use Rattle.tz_state.specs.UnitRegisters.{bounds_at, sau_register, sau_read, sau_written};
+
+use crate::unit::Sau;
+use tz_state::{Bounds, SauRegister};
+
+/// The register at an address.
+fn register_at(addr: u32) -> Option<SauRegister>
+    ensures { result ≡ sau_register addr }
+{
+    match addr {
+        0xe000_edd0 => Some(SauRegister::Ctrl),
+        0xe000_edd4 => Some(SauRegister::Type),
+        0xe000_edd8 => Some(SauRegister::Rnr),
+        0xe000_eddc => Some(SauRegister::Rbar),
+        0xe000_ede0 => Some(SauRegister::Rlar),
+        _ => None,
+    }
+}
+
+impl Sau {
+    ghost use Rattle.tz_state.specs.Attribution.{MapState};
+
+    /// RBAR and RLAR of a region by its number; none where there is no such region.
+    pub fn region(&self, index: u8) -> Option<(u32, u32)>
+        ensures { MatchOption result (length self.now.sau.regions ≤ index)
+            (λ pair. (index < length self.now.sau.regions) × (bounds_at self.now.sau.regions index ≡ record { rbar = pair.0; rlar = pair.1 })) }
+    {
+        self.bounds
+            .get(index as usize)
+            .map(|bounds| (bounds.rbar, bounds.rlar))
+    }
+
+    /// The register at an address; one that isn't there reads zero, and so do RBAR and RLAR where RNR
+    /// names no region.
+    pub fn read(&self, addr: u32) -> u32
+        ensures { result ≡ sau_read self.now.sau (sau_register addr) }
+    {
+        match register_at(addr) {
+            None => 0,
+            Some(SauRegister::Ctrl) => self.ctrl,
+            Some(SauRegister::Type) => self.bounds.len() as u32,
+            Some(SauRegister::Rnr) => self.rnr,
+            Some(SauRegister::Rbar) => self.selected().rbar,
+            Some(SauRegister::Rlar) => self.selected().rlar,
+        }
+    }
+
+    /// The region that RNR names.
+    fn selected(&self) -> Bounds
+        ensures { result ≡ bounds_at self.now.sau.regions self.now.sau.rnr }
+    {
+        match self.bounds.get(self.rnr as usize) {
+            None => Bounds { rbar: 0, rlar: 0 },
+            Some(bounds) => *bounds,
+        }
+    }
+
+    /// Replaces the region that RNR names, where there is one.
+    fn select(&mut self, bounds: Bounds)
+        ensures { self.new ≡ record self.old { sau = record self.old.sau { regions = slice_set self.old.sau.regions self.old.sau.rnr bounds } } }
+    {
+        let index = self.rnr as usize;
+        if index < self.bounds.len() {
+            self.bounds[index] = bounds;
+        }
+    }
+
+    /// Writes the register at an address; one that isn't there takes no write, and nor do RBAR and RLAR
+    /// where RNR names no region.
+    pub fn write(&mut self, addr: u32, value: u32)
+        ensures { self.new ≡ record self.old { sau = sau_written self.old.sau (sau_register addr) value } }
+    {
+        match register_at(addr) {
+            None => {}
+            Some(SauRegister::Ctrl) => self.ctrl = value % 4,
+            Some(SauRegister::Type) => {}
+            Some(SauRegister::Rnr) => self.rnr = value % 256,
+            Some(SauRegister::Rbar) => {
+                let bounds = self.selected();
+                self.select(Bounds {
+                    rbar: value / 32 * 32,
+                    rlar: bounds.rlar,
+                });
+            }
+            Some(SauRegister::Rlar) => {
+                let bounds = self.selected();
+                self.select(Bounds {
+                    rbar: bounds.rbar,
+                    rlar: value / 32 * 32 + value % 4,
+                });
+            }
+        }
+    }
+}
