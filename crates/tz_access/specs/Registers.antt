@@ -12,7 +12,7 @@ use Rattle.tz_state.specs.UnitRegisters.{sau_register, sau_read, sau_written, mp
 
 -- the SAU's registers
 abbrev pub is_of_sau : ℕ → Bool
-is_of_sau addr = within 0xE000EDD0 0xE000EDE3 addr
+is_of_sau addr = within 0xE000EDD0 0xE000EDE0 addr
 
 -- a register of the SAU, or of the MPU of a side; an address that isn't a register's reads zero
 abbrev pub unit_read : Bus → Side → ℕ → ℕ

@@ -10,7 +10,7 @@ use tz_model::Side;
 fn is_of_sau(addr: u32) -> bool
     ensures { result ≡ is_of_sau addr }
 {
-    addr >= 0xe000_edd0 && addr <= 0xe000_ede3
+    addr >= 0xe000_edd0 && addr <= 0xe000_ede0
 }
 
 impl Bus {

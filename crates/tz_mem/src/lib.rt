@@ -6,8 +6,10 @@
 #![tactic(auto)]
 
 mod block;
+mod code;
 mod error;
 mod memory;
+mod numbers;
 
 pub use error::{NotMapped, Refused};
 pub use memory::Memory;

@@ -1,15 +1,18 @@
 //! Memory, by addresses.
 
 ghost use Rattle.std.specs.Prelude.{◌≡◌, true, false, IfOk, IfErr, OnOk, OnErr, MatchResult, map};
+ghost use Rattle.tz_table.specs.declared.units.Size.TheVariants.{Half};
 ghost use Rattle.tz_mem.specs.Blocks.{entries_of, region_of};
-ghost use Rattle.tz_mem.specs.Values.{MemoryValue, with_bytes, IsRefusal};
+ghost use Rattle.tz_mem.specs.Values.{MemoryValue, with_bytes, IsRefusal, IsCode};
 ghost use Rattle.tz_state.specs.Access.{is_mapped, is_writable};
 ghost use Rattle.tz_state.specs.Memory as bytes;
 ghost use Rattle.tz_state.specs.Memory.{every, value_at, with_byte, with_value};
 ghost use Rattle.tz_state.specs.Zeros.{zero_entries, zero_memory};
 
 use crate::block::Block;
+use crate::code::code_at;
 use crate::error::{NotMapped, Refused};
+use crate::numbers::{number_at, put_all, put_byte, write_number};
 use std::alloc::{AllocError, Global};
 use std::marker::Model;
 use tz_model::{Board, Region, Segment, Size};
@@ -74,10 +77,13 @@ impl Memory {
     /// `NotMapped` where no region holds the address; nothing changes then.
     pub fn place(&mut self, addr: u32, byte: u8) -> Result<(), NotMapped>
         ensures { MatchResult result
-          (λ _. (is_mapped self.old.regions addr ≡ true) × (self.new ≡ with_bytes self.old (with_byte self.old.bytes addr byte)))
-          (λ _. (is_mapped self.old.regions addr ≡ false) × (self.new ≡ self.old)) }
+            (λ _. (is_mapped self.old.regions addr ≡ true) × (self.new ≡ with_bytes self.old (with_byte self.old.bytes addr byte)))
+            (λ _. (is_mapped self.old.regions addr ≡ false) × (self.new ≡ self.old)) }
     {
-        Err(NotMapped)
+        if !put_byte(&mut self.blocks, addr, byte) {
+            return Err(NotMapped);
+        }
+        Ok(())
     }
 
     /// The number of a size at an address, its low byte first.
@@ -87,10 +93,29 @@ impl Memory {
     /// `NotMapped` where no region holds some byte of it.
     pub fn read(&self, addr: u32, size: Size) -> Result<u32, NotMapped>
         ensures { MatchResult result
-          (λ value. (every (is_mapped self.now.regions) addr size ≡ true) × (value ≡ value_at self.now.bytes size addr))
-          (λ _. every (is_mapped self.now.regions) addr size ≡ false) }
+            (λ value. (every (is_mapped self.now.regions) addr size ≡ true) × (value ≡ value_at self.now.bytes size addr))
+            (λ _. every (is_mapped self.now.regions) addr size ≡ false) }
     {
-        Err(NotMapped)
+        match number_at(&self.blocks, addr, size) {
+            Some(value) => Ok(value),
+            None => Err(NotMapped),
+        }
+    }
+
+    /// What a fetch at an address reads: its halfword, and the one after it, or none where no region holds
+    /// some byte of that.
+    ///
+    /// # Errors
+    ///
+    /// `NotMapped` where no region holds some byte of the first.
+    pub fn read_code(&self, addr: u32) -> Result<(u16, Option<u16>), NotMapped>
+        ensures { MatchResult result (λ code. IsCode self.now addr code.0 code.1)
+            (λ _. every (is_mapped self.now.regions) addr Half ≡ false) }
+    {
+        match code_at(&self.blocks, addr) {
+            Some(code) => Ok(code),
+            None => Err(NotMapped),
+        }
     }
 
     /// Writes the low part of a number, of a size, at an address, its low byte first.
@@ -106,12 +131,13 @@ impl Memory {
         ensures cause { IfErr result (λ e. IsRefusal e self.old.regions addr size) }
         ensures kept { OnErr result (self.new ≡ self.old) }
     {
-        Err(Refused::NotMapped)
+        write_number(&mut self.blocks, addr, size, value)
     }
 
     /// Puts the bytes of a segment of an image, in `rom` too. Bytes that no region holds are left out.
     pub fn put_segment(&mut self, segment: &Segment)
         ensures { self.new ≡ with_bytes self.old (bytes.with_bytes self.old.bytes segment.now.base segment.now.bytes) }
     {
+        put_all(&mut self.blocks, segment.base, &segment.bytes);
     }
 }

@@ -1,0 +1,9 @@
+//! The cases, by what they are about.
+
+mod attribution;
+mod checks;
+mod fetches;
+mod memory;
+mod monitor;
+mod registers;
+mod targets;
