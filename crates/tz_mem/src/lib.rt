@@ -10,6 +10,8 @@ mod code;
 mod error;
 mod memory;
 mod numbers;
+#[cfg(test)]
+mod tests;
 
 pub use error::{NotMapped, Refused};
 pub use memory::Memory;

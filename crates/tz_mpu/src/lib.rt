@@ -8,5 +8,7 @@ mod found;
 mod mpu;
 mod permission;
 mod register;
+#[cfg(test)]
+mod tests;
 
 pub use mpu::{Mpu, MpuFault};
