@@ -2,7 +2,9 @@
 
 mod branches;
 mod calls;
+mod exclusive;
 mod loads;
+mod many;
 mod narrow;
 mod ordered;
 mod pairs;
@@ -48,5 +50,50 @@ fn store(rt: u8, address: Address) -> Insn {
         rt,
         address,
         user: false,
+    }
+}
+
+/// Where the words of many registers lie from the base, and whether the base gets its new value.
+#[derive(Clone, Copy)]
+enum Order {
+    Up,
+    UpAndBack,
+    Down,
+    DownAndBack,
+}
+
+/// Whether the words lie below the base.
+fn is_down(order: Order) -> bool {
+    match order {
+        Order::Up | Order::UpAndBack => false,
+        Order::Down | Order::DownAndBack => true,
+    }
+}
+
+/// Whether the base gets its new value.
+fn is_back(order: Order) -> bool {
+    match order {
+        Order::Up | Order::Down => false,
+        Order::UpAndBack | Order::DownAndBack => true,
+    }
+}
+
+/// A load of many registers.
+fn load_many(order: Order, rn: u8, list: u16) -> Insn {
+    Insn::LoadMany {
+        rn,
+        list,
+        down: is_down(order),
+        back: is_back(order),
+    }
+}
+
+/// A store of many registers.
+fn store_many(order: Order, rn: u8, list: u16) -> Insn {
+    Insn::StoreMany {
+        rn,
+        list,
+        down: is_down(order),
+        back: is_back(order),
     }
 }

@@ -1,1 +1,3 @@
 mod Puts
+pub mod Listing
+pub mod Words

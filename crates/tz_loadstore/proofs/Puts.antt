@@ -1,11 +1,12 @@
 -- Writes of registers in a row.
-use Rattle.std.proofs.Common.{◌≡◌, ℕ, refl}
+use Rattle.std.proofs.Common.{◌≡◌, ℕ, zero, suc, ◌+◌, ◌<◌, ◌≤◌, List, [], ◌∷◌, length, get_or, take, refl, arith, add-one}
 use Rattle.tz_table.specs.declared.units.Side.{Side}
 use Rattle.tz_table.specs.declared.units.Side.TheVariants.{Secure, NonSecure}
 use Rattle.tz_regs.specs.declared.parts.Core.{Core}
 use Rattle.tz_regs.specs.declared.parts.Stacks.{Stacks}
 use Rattle.tz_regs.specs.Banks.{of_side, secure_after, nonsecure_after}
 use Rattle.tz_exec.specs.Local.{Local, put, local_of, with_local}
+use Rattle.tz_exec.specs.LoadStore.{filled}
 
 stacks_left : (side : Side) (own s ns : Stacks) → of_side side (secure_after side own s) (nonsecure_after side own ns) ≡ own
 stacks_left Secure own s ns = refl
@@ -23,3 +24,16 @@ nonsecure_again NonSecure later own ns = refl
 pub put_after : (c : Core) (l : Local) (k value : ℕ) → with_local (with_local c l) (put (local_of (with_local c l)) k value) ≡ with_local c (put l k value)
 put_after c l k value =
     rw (stacks_left c.run.side l.own c.stacks_s c.stacks_ns, secure_again c.run.side (put l k value).own l.own c.stacks_s, nonsecure_again c.run.side (put l k value).own l.own c.stacks_ns)
+
+-- ---- many registers
+
+filled_more : (l : Local) (ks words : List ℕ) (i : ℕ) → i < length ks → length ks ≤ length words → filled l (take (suc i) ks) words ≡ put (filled l (take i ks) words) (get_or ks i 0) (get_or words i 0)
+filled_more l [] words i b fits = absurd (omega (arith, b))
+filled_more l (k ∷ more) [] i b fits = absurd (omega (arith, fits))
+filled_more l (k ∷ more) (word ∷ words) zero b fits = refl
+filled_more l (k ∷ more) (word ∷ words) (suc i) b fits = filled_more (put l k word) more words i (omega (arith, b)) (omega (arith, fits))
+
+-- one more register of a list
+pub put_more : (c : Core) (ks words : List ℕ) (i : ℕ) → i < length ks → length ks ≤ length words → with_local (with_local c (filled (local_of c) (take i ks) words)) (put (local_of (with_local c (filled (local_of c) (take i ks) words))) (get_or ks i 0) (get_or words i 0)) ≡ with_local c (filled (local_of c) (take (i + 1) ks) words)
+put_more c ks words i b fits =
+    rw (add-one, filled_more (local_of c) ks words i b fits) (put_after c (filled (local_of c) (take i ks) words) (get_or ks i 0) (get_or words i 0))

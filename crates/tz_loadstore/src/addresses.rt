@@ -47,7 +47,7 @@ pub(crate) fn place(core: &Core, address: &Address) -> u32
 }
 
 /// The fault of a base that would get below its limit; only SP has one.
-fn below_limit(core: &Core, rn: u8, value: u32) -> Option<Fault>
+pub(crate) fn below_limit(core: &Core, rn: u8, value: u32) -> Option<Fault>
     ensures { result ≡ below_limit rn value (local_of core.now) }
 {
     let side = core.run.side;

@@ -1,8 +1,10 @@
 //! Loads and stores of one register.
 
-ghost use Rattle.std.specs.Prelude.{◌≡◌, ◌≢◌, ◌≤◌, ◌+◌};
-ghost use Rattle.tz_table.specs.declared.instruction.Insn.TheVariants.{Load, Store, LoadAcquire, StoreRelease};
-ghost use Rattle.tz_exec.specs.Exec.{load_store_over};
+ghost use Rattle.std.specs.Prelude.{◌≡◌, ◌≢◌, ◌≤◌, ◌+◌, [], ◌∷◌, slice_index, true, false};
+ghost use Rattle.tz_table.specs.declared.instruction.Insn.TheVariants.{Load, Store, StoreRelease};
+ghost use Rattle.tz_model.specs.Ports.{Load as Read, Store as Write};
+ghost use Rattle.tz_exec.specs.Exec.{load_store_over, over};
+ghost use Rattle.tz_exec.specs.Local.{reg, gives, local_of};
 
 use crate::addresses::{place, refusal, reg};
 use crate::results::{extend, finish_load, put, write_back};
@@ -60,20 +62,20 @@ pub(crate) fn store<P: Port>(
     }
 }
 
-/// A load that acquires: it has to be aligned.
+/// A load of a register that has to be aligned.
 #[tactic(auto, unfolding(tz_model::specs::Ports::answers))]
-pub(crate) fn load_acquire<P: Port>(
+pub(crate) fn load_aligned<P: Port>(
     core: &mut Core,
     port: &mut P,
     size: Size,
     rt: u8,
-    rn: u8,
+    addr: u32,
 ) -> Result<Outcome, Fault>
-    ensures executes { load_store_over P.answer (LoadAcquire size rt rn) core.old (P.held port.old) ≡ record { core = core.new; held = P.held port.new; outcome = result } }
+    ensures executes { over P.answer core.old (P.held port.old) (Read size addr true false ∷ []) (λ words. gives (local_of core.old) rt (slice_index words 0)) ≡ record { core = core.new; held = P.held port.new; outcome = result } }
     ensures room { P.room port.new ≡ P.room port.old }
     ensures lent { P.lent port.new ≡ P.lent port.old }
 {
-    match port.load(reg(core, rn), size, true, false) {
+    match port.load(addr, size, true, false) {
         Ok(value) => {
             put(core, rt, value);
             Ok(Outcome::Next)
@@ -98,6 +100,30 @@ pub(crate) fn store_release<P: Port>(
 {
     match port.store(reg(core, rn), size, reg(core, rt), true, false) {
         Ok(()) => Ok(Outcome::Next),
+        Err(fault) => Err(fault),
+    }
+}
+
+/// A store that is exclusive, and is made: it has to be aligned, and a register tells that it was made.
+#[tactic(auto, unfolding(tz_model::specs::Ports::answers))]
+pub(crate) fn store_exclusive<P: Port>(
+    core: &mut Core,
+    port: &mut P,
+    size: Size,
+    rd: u8,
+    rt: u8,
+    addr: u32,
+) -> Result<Outcome, Fault>
+    requires { P.room port.old ≢ 0 }
+    ensures executes { over P.answer core.old (P.held port.old) (Write size addr (reg (local_of core.old) rt) true false ∷ []) (λ words. gives (local_of core.old) rd 0) ≡ record { core = core.new; held = P.held port.new; outcome = result } }
+    ensures room { P.room port.old ≤ P.room port.new + 1 }
+    ensures lent { P.lent port.new ≡ P.lent port.old }
+{
+    match port.store(addr, size, reg(core, rt), true, false) {
+        Ok(()) => {
+            put(core, rd, 0);
+            Ok(Outcome::Next)
+        }
         Err(fault) => Err(fault),
     }
 }

@@ -7,6 +7,9 @@
 #[cfg(test)]
 mod tests;
 
+use std::alloc::{AllocError, Global};
+use tz_access::Bus;
+use tz_board::demo_board;
 use tz_model::{Fault, Outcome, Side};
 use tz_regs::Core;
 
@@ -45,6 +48,12 @@ pub fn filled_for(side: Side, privileged: bool) -> Core {
     let spsel = core.control(side) / 2 % 2 * 2;
     core.set_control(side, if privileged { spsel } else { spsel + 1 });
     core
+}
+
+/// The bus of the built-in board as it starts.
+pub fn demo_bus(alloc: Global) -> Result<Bus, AllocError> {
+    let board = demo_board(alloc)?;
+    Bus::new(alloc, &board)
 }
 
 /// A core as numbers: the banks of both sides, from MSP to CONTROL, the flags and R3.

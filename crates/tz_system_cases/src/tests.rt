@@ -6,3 +6,4 @@ mod masks;
 mod registers;
 mod special;
 mod stacks;
+mod target;

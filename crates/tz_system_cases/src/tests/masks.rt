@@ -1,7 +1,8 @@
 //! Masks of exceptions: BASEPRI_MAX, FAULTMASK, CPS, and the execution priority that they give.
 
-use crate::{NOTHING, difference, ending, filled_for};
+use crate::{NOTHING, demo_bus, difference, ending, filled_for};
 use std::test::Fail;
+use tz_access::Bus;
 use tz_regs::Core;
 use tz_system::execute;
 use tz_table::{Insn, Side};
@@ -21,12 +22,18 @@ static MAXIMA: [(u32, u32, u32); 9] = [
 
 #[test]
 fn basepri_max_takes_the_more_urgent(rt: HostRuntime) -> Result<(), Fail> {
+    let mut bus = demo_bus(rt.alloc())?;
     for side in [Side::Secure, Side::NonSecure] {
         for (before, value, after) in &MAXIMA {
             let mut core = filled_for(side, true);
             core.set_basepri(side, *before);
             core.set(7, *value);
-            let end = ending(execute(&Insn::WriteSpecial { rn: 7, sysm: 18 }, &mut core, 256));
+            let end = ending(execute(
+                &Insn::WriteSpecial { rn: 7, sysm: 18 },
+                &mut core,
+                &mut bus,
+                256,
+            ));
             assert_eq!(rt; end, "next");
             assert_eq!(rt; core.basepri(side), *after, "{before} {value}");
         }
@@ -49,9 +56,9 @@ static FAULTMASKS: [(i32, u32, u32, u32); 10] = [
 ];
 
 /// FAULTMASK of a side after an instruction.
-fn faultmask_after(start: &Core, insn: &Insn, priority: i32, side: Side) -> u32 {
+fn faultmask_after(start: &Core, bus: &mut Bus, insn: &Insn, priority: i32, side: Side) -> u32 {
     let mut core = *start;
-    if ending(execute(insn, &mut core, priority)) != "next" {
+    if ending(execute(insn, &mut core, bus, priority)) != "next" {
         return 2;
     }
     core.faultmask(side)
@@ -59,6 +66,7 @@ fn faultmask_after(start: &Core, insn: &Insn, priority: i32, side: Side) -> u32 
 
 #[test]
 fn faultmask_by_the_priority(rt: HostRuntime) -> Result<(), Fail> {
+    let mut bus = demo_bus(rt.alloc())?;
     for (priority, before, value, after) in &FAULTMASKS {
         for side in [Side::Secure, Side::NonSecure] {
             let mut start = filled_for(side, true);
@@ -72,11 +80,11 @@ fn faultmask_by_the_priority(rt: HostRuntime) -> Result<(), Fail> {
                 f: true,
             };
             for insn in [&written, &changed] {
-                let found = faultmask_after(&start, insn, *priority, side);
+                let found = faultmask_after(&start, &mut bus, insn, *priority, side);
                 assert_eq!(rt; found, *after, "{priority} {before} {value}");
             }
             let named = Insn::WriteSpecial { rn: 0, sysm: 0x93 };
-            let found = faultmask_after(&start, &named, *priority, Side::NonSecure);
+            let found = faultmask_after(&start, &mut bus, &named, *priority, Side::NonSecure);
             let secure = matches!(side, Side::Secure);
             assert_eq!(rt;
                 found,
@@ -102,6 +110,7 @@ static CHANGES: [(bool, bool, bool, u32, u32, u32, u32); 8] = [
 
 #[test]
 fn change_of_state_by_privilege(rt: HostRuntime) -> Result<(), Fail> {
+    let mut bus = demo_bus(rt.alloc())?;
     for side in [Side::Secure, Side::NonSecure] {
         let other = match side {
             Side::Secure => Side::NonSecure,
@@ -118,7 +127,7 @@ fn change_of_state_by_privilege(rt: HostRuntime) -> Result<(), Fail> {
                 start.set_primask(side, *primask);
                 start.set_faultmask(side, *faultmask);
                 let mut core = start;
-                assert_eq!(rt; ending(execute(&insn, &mut core, 0)), "next");
+                assert_eq!(rt; ending(execute(&insn, &mut core, &mut bus, 0)), "next");
                 if privileged {
                     assert_eq!(rt; core.primask(side), *primask_after, "{disable} {i} {f}");
                     assert_eq!(rt; core.faultmask(side), *faultmask_after, "{disable} {i} {f}");

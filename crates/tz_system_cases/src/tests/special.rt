@@ -1,7 +1,8 @@
 //! Reads and writes of special registers, by number, state and privilege.
 
-use crate::{NOTHING, SHOWN, difference, differences, ending, filled, filled_for, shown};
+use crate::{NOTHING, SHOWN, demo_bus, difference, differences, ending, filled, filled_for, shown};
 use std::test::Fail;
+use tz_access::Bus;
 use tz_regs::Core;
 use tz_system::execute;
 use tz_table::{Insn, Side};
@@ -40,32 +41,37 @@ static READS: [(u8, &str, u32, u32, u32, u32); 25] = [
 ];
 
 /// What MRS puts into R3, and what the register reads as.
-fn read(start: &Core, sysm: u8) -> (u32, u32, &'static str) {
+fn read(start: &Core, bus: &mut Bus, sysm: u8) -> (u32, u32, &'static str) {
     let mut core = *start;
-    let end = ending(execute(&Insn::ReadSpecial { rd: 3, sysm }, &mut core, 256));
+    let end = ending(execute(&Insn::ReadSpecial { rd: 3, sysm }, &mut core, bus, 256));
     (core.get(3), start.special(sysm), end)
 }
 
 #[test]
 fn reads_by_state_and_privilege(rt: HostRuntime) -> Result<(), Fail> {
+    let mut bus = demo_bus(rt.alloc())?;
     let secure = filled_for(Side::Secure, true);
     let secure_user = filled_for(Side::Secure, false);
     let nonsecure = filled_for(Side::NonSecure, true);
     let nonsecure_user = filled_for(Side::NonSecure, false);
     for (sysm, name, s, su, n, nu) in &READS {
-        assert_eq!(rt; read(&secure, *sysm), (*s, *s, "next"), "{name} secure");
         assert_eq!(rt;
-            read(&secure_user, *sysm),
+            read(&secure, &mut bus, *sysm),
+            (*s, *s, "next"),
+            "{name} secure"
+        );
+        assert_eq!(rt;
+            read(&secure_user, &mut bus, *sysm),
             (*su, *su, "next"),
             "{name} secure user"
         );
         assert_eq!(rt;
-            read(&nonsecure, *sysm),
+            read(&nonsecure, &mut bus, *sysm),
             (*n, *n, "next"),
             "{name} nonsecure"
         );
         assert_eq!(rt;
-            read(&nonsecure_user, *sysm),
+            read(&nonsecure_user, &mut bus, *sysm),
             (*nu, *nu, "next"),
             "{name} nonsecure user"
         );
@@ -100,12 +106,17 @@ fn handling(side: Side) -> Core {
 
 #[test]
 fn reads_in_handler_mode(rt: HostRuntime) -> Result<(), Fail> {
+    let mut bus = demo_bus(rt.alloc())?;
     let secure = handling(Side::Secure);
     let nonsecure = handling(Side::NonSecure);
     for (sysm, name, s, n) in &HANDLER_READS {
-        assert_eq!(rt; read(&secure, *sysm), (*s, *s, "next"), "{name} secure");
         assert_eq!(rt;
-            read(&nonsecure, *sysm),
+            read(&secure, &mut bus, *sysm),
+            (*s, *s, "next"),
+            "{name} secure"
+        );
+        assert_eq!(rt;
+            read(&nonsecure, &mut bus, *sysm),
             (*n, *n, "next"),
             "{name} nonsecure"
         );
@@ -139,21 +150,21 @@ static WRITES: [(u8, &str, usize, usize, u32, u32); 20] = [
 ];
 
 /// The core after MSR of a value, from R3, at execution priority 0, with how it ended.
-fn write(start: &Core, sysm: u8, value: u32) -> (Core, &'static str) {
+fn write(start: &Core, bus: &mut Bus, sysm: u8, value: u32) -> (Core, &'static str) {
     let mut core = *start;
     core.set(3, value);
-    let end = ending(execute(&Insn::WriteSpecial { rn: 3, sysm }, &mut core, 0));
+    let end = ending(execute(&Insn::WriteSpecial { rn: 3, sysm }, &mut core, bus, 0));
     (core, end)
 }
 
 /// Whether a core after MSR of a value is the one before with that value in R3 and another at a place.
-fn is_written(start: &Core, sysm: u8, value: u32, place: usize, after: u32) -> bool {
+fn is_written(start: &Core, bus: &mut Bus, sysm: u8, value: u32, place: usize, after: u32) -> bool {
     let mut want = shown(start);
     want[17] = value;
     if place < SHOWN {
         want[place] = after;
     }
-    let (core, end) = write(start, sysm, value);
+    let (core, end) = write(start, bus, sysm, value);
     for (index, found) in shown(&core).iter().enumerate() {
         if *found != want[index] {
             return false;
@@ -164,6 +175,7 @@ fn is_written(start: &Core, sysm: u8, value: u32, place: usize, after: u32) -> b
 
 #[test]
 fn writes_by_state_and_privilege(rt: HostRuntime) -> Result<(), Fail> {
+    let mut bus = demo_bus(rt.alloc())?;
     let secure = filled_for(Side::Secure, true);
     let secure_user = filled_for(Side::Secure, false);
     let nonsecure = filled_for(Side::NonSecure, true);
@@ -171,16 +183,16 @@ fn writes_by_state_and_privilege(rt: HostRuntime) -> Result<(), Fail> {
     for (sysm, name, s, n, ones, other) in &WRITES {
         for (value, after) in [(0xffff_ffff, *ones), (0x4567_8a20, *other)] {
             assert!(rt;
-                is_written(&secure, *sysm, value, *s, after),
+                is_written(&secure, &mut bus, *sysm, value, *s, after),
                 "{name} {value} secure"
             );
             assert!(rt;
-                is_written(&nonsecure, *sysm, value, *n, after),
+                is_written(&nonsecure, &mut bus, *sysm, value, *n, after),
                 "{name} {value} nonsecure"
             );
             for user in [&secure_user, &nonsecure_user] {
                 assert!(rt;
-                    is_written(user, *sysm, value, NOTHING, 0),
+                    is_written(user, &mut bus, *sysm, value, NOTHING, 0),
                     "{name} {value} user"
                 );
             }
@@ -202,13 +214,14 @@ static FLAGS: [(u32, u32); 7] = [
 
 #[test]
 fn flags_are_written_by_all(rt: HostRuntime) -> Result<(), Fail> {
+    let mut bus = demo_bus(rt.alloc())?;
     for side in [Side::Secure, Side::NonSecure] {
         for privileged in [true, false] {
             let start = filled_for(side, privileged);
             for (value, after) in &FLAGS {
                 for sysm in [0, 1, 2, 3] {
                     assert!(rt;
-                        is_written(&start, sysm, *value, 16, *after),
+                        is_written(&start, &mut bus, sysm, *value, 16, *after),
                         "{sysm} {value}"
                     );
                 }
@@ -235,12 +248,13 @@ static SP_NS: [(u32, u16, u32, usize, &str); 10] = [
 
 #[test]
 fn nonsecure_stack_pointer_by_its_limit(rt: HostRuntime) -> Result<(), Fail> {
+    let mut bus = demo_bus(rt.alloc())?;
     for (control, ipsr, value, place, end) in &SP_NS {
         let mut start = filled();
         start.set_control(Side::NonSecure, *control);
         start.set_ipsr(*ipsr);
         start.set(3, *value);
-        let (core, found) = write(&start, 0x98, *value);
+        let (core, found) = write(&start, &mut bus, 0x98, *value);
         assert_eq!(rt; found, *end, "{control} {ipsr} {value}");
         assert_eq!(rt;
             difference(&start, &core),
@@ -256,10 +270,17 @@ fn nonsecure_stack_pointer_by_its_limit(rt: HostRuntime) -> Result<(), Fail> {
         filled_for(Side::Secure, false),
         filled_for(Side::NonSecure, true),
     ] {
-        assert!(rt; is_written(&start, 0x98, 0, NOTHING, 0), "ignored");
+        assert!(rt;
+            is_written(&start, &mut bus, 0x98, 0, NOTHING, 0),
+            "ignored"
+        );
     }
     for sysm in [8, 9, 0x88, 0x89] {
-        assert_eq!(rt; write(&filled(), sysm, 0).1, "next", "{sysm} has no limit");
+        assert_eq!(rt;
+            write(&filled(), &mut bus, sysm, 0).1,
+            "next",
+            "{sysm} has no limit"
+        );
     }
     Ok(())
 }
