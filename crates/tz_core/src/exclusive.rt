@@ -116,7 +116,10 @@ pub(crate) fn run_load_store(
 {
     match *insn {
         Insn::LoadExclusive {
-            size, rn, offset, ..
+            size,
+            rn,
+            offset,
+            ..
         } => {
             let addr = at_offset(core, rn, offset);
             load_exclusive(insn, core, bus, stores, addr, size)

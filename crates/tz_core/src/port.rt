@@ -44,7 +44,10 @@ impl Port for CorePort<'_> {
         must_align: bool,
         user: bool,
     ) -> Result<(), Fault> {
-        match self.bus.store(&self.asker, size, addr, value, must_align, user) {
+        match self
+            .bus
+            .store(&self.asker, size, addr, value, must_align, user)
+        {
             Err(fault) => Err(fault),
             Ok(()) => {
                 self.stores.push(Store {

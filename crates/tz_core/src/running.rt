@@ -74,7 +74,7 @@ impl Machine {
     ghost use Rattle.tz_sem.specs.declared.ending.Cause.TheVariants.{Went};
     ghost use Rattle.tz_state.specs.State.{side_of, with_run, with_pc};
     ghost use Rattle.tz_model.specs.Codes.{meaning_of};
-    ghost use Rattle.tz_sem.specs.Step.{branch_ns, moves_to, exchanged, past, skips, goes_on, placed, decoded, enters, looks, unready, ended, step};
+    ghost use Rattle.tz_sem.specs.Step.{branch_ns, moves_to, exchanged, past, skips, goes_on, concludes, placed, decoded, enters, looks, unready, ended, step};
     ghost use Rattle.tz_twin.specs.Integrity.{LeavesSecure, EntersByGateway};
 
     /// The state that the machine is in; a locked machine counts as Secure.
@@ -250,6 +250,24 @@ impl Machine {
         self.go_next(touched, code)
     }
 
+    /// Goes on after an instruction, or ends the step by its fault; its stores stand.
+    fn conclude(
+        &mut self,
+        before: &Core,
+        insn: &Insn,
+        touched: bool,
+        code: &Code,
+        outcome: Result<Outcome, Fault>,
+        stores: &Stores,
+    ) -> Ending
+        ensures { concludes insn.now before.now self.old touched code.now stores.now.items outcome ≡ record { state = self.new; stores = stores.now.items; ending = result } }
+    {
+        match outcome {
+            Ok(outcome) => self.go_on(before, insn, touched, code, outcome),
+            Err(fault) => self.fault(touched, fault),
+        }
+    }
+
     /// Runs an instruction, unless it may not stand where it does, or its condition fails.
     fn run(&mut self, insn: &Insn, code: &Code, touched: bool, stores: &mut Stores) -> Ending
         requires { array_vec_len stores.old ≡ 0 }
@@ -262,10 +280,8 @@ impl Machine {
             return self.skip(touched, code);
         }
         let before = self.core;
-        match self.execute(insn, stores) {
-            Ok(outcome) => self.go_on(&before, insn, touched, code, outcome),
-            Err(fault) => self.fault(touched, fault),
-        }
+        let outcome = self.execute(insn, stores);
+        self.conclude(&before, insn, touched, code, outcome, stores)
     }
 
     /// Runs the instruction that a code means.
@@ -293,7 +309,9 @@ impl Machine {
         match self.core.run.side {
             Side::Secure => true,
             Side::NonSecure => {
-                !self.bus.is_own_fetch(Side::NonSecure, self.core.registers.pc)
+                !self
+                    .bus
+                    .is_own_fetch(Side::NonSecure, self.core.registers.pc)
             }
         }
     }
@@ -322,7 +340,9 @@ impl Machine {
             let fault = self.unready(touched);
             return self.fault(touched, fault);
         }
-        let found = self.bus.fetch_told(self.core.registers.pc, &fetcher_of(&self.core));
+        let found = self
+            .bus
+            .fetch_told(self.core.registers.pc, &fetcher_of(&self.core));
         match found.answer {
             Err(fault) => self.fault(found.touched, fault),
             Ok(fetched) => {
