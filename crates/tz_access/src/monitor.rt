@@ -42,7 +42,7 @@ impl Bus {
         ensures after { self.new ≡ with_monitor self.old None }
     {
         let held = holds_exclusive(&self.monitor, addr, size);
-        self.monitor = None;
+        self.monitor_clear();
         held
     }
 

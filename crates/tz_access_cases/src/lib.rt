@@ -15,15 +15,22 @@ use tz_model::{Fault, Fetched, Profile, Side};
 
 /// The registers of an MPU.
 pub const MPU_CTRL: u32 = 0xe000_ed94;
+
 pub const MPU_RNR: u32 = 0xe000_ed98;
+
 pub const MPU_RBAR: u32 = 0xe000_ed9c;
+
 pub const MPU_RLAR: u32 = 0xe000_eda0;
 
 /// The registers of the SAU.
 pub const SAU_CTRL: u32 = 0xe000_edd0;
+
 pub const SAU_TYPE: u32 = 0xe000_edd4;
+
 pub const SAU_RNR: u32 = 0xe000_edd8;
+
 pub const SAU_RBAR: u32 = 0xe000_eddc;
+
 pub const SAU_RLAR: u32 = 0xe000_ede0;
 
 /// The bus of the built-in board with a profile.
@@ -43,13 +50,12 @@ pub fn set_sau(bus: &mut Bus, number: u32, rbar: u32, rlar: u32) {
 /// The bus of the built-in board with these regions of the SAU and no other.
 pub fn bus_with_sau(alloc: Global, regions: &[(u32, u32)]) -> Result<Bus, AllocError> {
     let mut bus = bus_of(alloc, Profile::V80)?;
-    for number in 0..8 {
-        set_sau(&mut bus, number, 0, 0);
-    }
-    let mut number = 0;
-    for (rbar, rlar) in regions {
-        set_sau(&mut bus, number, *rbar, *rlar);
-        number = (number + 1) % 8;
+    for number in 0..8u32 {
+        let (rbar, rlar) = match regions.get(number as usize) {
+            Some(region) => *region,
+            None => (0, 0),
+        };
+        set_sau(&mut bus, number, rbar, rlar);
     }
     Ok(bus)
 }

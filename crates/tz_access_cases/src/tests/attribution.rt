@@ -10,6 +10,7 @@ use tz_model::{Profile, Side};
 type Case = (u32, bool, Side, Side, bool, u8, u8);
 
 const S: Side = Side::Secure;
+
 const NS: Side = Side::NonSecure;
 
 static AT_BOOT: [Case; 22] = [

@@ -7,6 +7,7 @@ use tz_model::{Profile, Side};
 use tz_state::Fetcher;
 
 const S: Side = Side::Secure;
+
 const NS: Side = Side::NonSecure;
 
 /// Who fetches from which address, the answer, and whether it met Secure memory.

@@ -34,12 +34,33 @@ fn reads(rt: HostRuntime) -> Result<(), Fail> {
 fn writes(rt: HostRuntime) -> Result<(), Fail> {
     let mut bus = bus_of(rt.alloc(), Profile::V80)?;
     assert!(rt; bus.write(0x2000_0001, Size::Word, 0x8765_4321).is_ok());
-    assert_eq!(rt; bus.read(0x2000_0000, Size::Word).unwrap_or(99), 0x6543_2100);
+    assert_eq!(rt;
+        bus.read(0x2000_0000, Size::Word).unwrap_or(99),
+        0x6543_2100
+    );
     assert!(rt; bus.write(0x2000_0002, Size::Byte, 0x1ff).is_ok());
-    assert_eq!(rt; bus.read(0x2000_0000, Size::Word).unwrap_or(99), 0x65ff_2100);
-    assert!(rt; matches!(bus.write(0x1000_0000, Size::Byte, 1), Err(Refused::ReadOnly)));
-    assert!(rt; matches!(bus.write(0x1000_fffe, Size::Word, 1), Err(Refused::NotMapped)));
-    assert!(rt; matches!(bus.write(0x2000_7ffe, Size::Word, 1), Err(Refused::NotMapped)));
+    assert_eq!(rt;
+        bus.read(0x2000_0000, Size::Word).unwrap_or(99),
+        0x65ff_2100
+    );
+    assert!(rt;
+        matches!(
+            bus.write(0x1000_0000, Size::Byte, 1),
+            Err(Refused::ReadOnly)
+        )
+    );
+    assert!(rt;
+        matches!(
+            bus.write(0x1000_fffe, Size::Word, 1),
+            Err(Refused::NotMapped)
+        )
+    );
+    assert!(rt;
+        matches!(
+            bus.write(0x2000_7ffe, Size::Word, 1),
+            Err(Refused::NotMapped)
+        )
+    );
     assert_eq!(rt; bus.read(0x2000_7ffe, Size::Half).unwrap_or(99), 0);
     Ok(())
 }

@@ -62,7 +62,10 @@ fn mpu_registers(rt: HostRuntime) -> Result<(), Fail> {
         assert_eq!(rt; bus.register(MPU_RBAR, Side::NonSecure), 0x0020_0006);
         assert_eq!(rt; bus.register(MPU_RLAR, Side::NonSecure), rlar);
         assert_eq!(rt; bus.register(MPU_RLAR, Side::Secure), 0);
-        assert_eq!(rt; bus.mpu(Side::NonSecure).region(3).unwrap_or((1, 1)), (0x0020_0006, rlar));
+        assert_eq!(rt;
+            bus.mpu(Side::NonSecure).region(3).unwrap_or((1, 1)),
+            (0x0020_0006, rlar)
+        );
         assert_eq!(rt; bus.mpu(Side::Secure).region(3).unwrap_or((1, 1)), (0, 0));
     }
     Ok(())

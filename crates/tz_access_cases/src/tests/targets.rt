@@ -8,6 +8,7 @@ use tz_model::{Profile, Side};
 type Case = (u32, Side, bool, bool, bool, u32);
 
 const S: Side = Side::Secure;
+
 const NS: Side = Side::NonSecure;
 
 /// On the board as it starts.
@@ -57,7 +58,10 @@ fn with_an_mpu_on(rt: HostRuntime) -> Result<(), Fail> {
         assert_eq!(rt; told, word, "{addr:x}");
     }
     // at a negative priority an MPU without HFNMIENA is off
-    assert_eq!(rt; bus.test_target(0x2000_1000, NS, true, true, false, false), 0x000c_0000);
+    assert_eq!(rt;
+        bus.test_target(0x2000_1000, NS, true, true, false, false),
+        0x000c_0000
+    );
     Ok(())
 }
 
@@ -66,7 +70,13 @@ fn with_an_mpu_on(rt: HostRuntime) -> Result<(), Fail> {
 fn in_two_regions(rt: HostRuntime) -> Result<(), Fail> {
     let regions = [(0x1000_8000, 0x1000_8001), (0x1000_8000, 0x1000_ffe3)];
     let bus = bus_with_sau(rt.alloc(), &regions)?;
-    assert_eq!(rt; bus.test_target(0x1000_8010, S, true, false, false, false), 0x01cc_0000);
-    assert_eq!(rt; bus.test_target(0x1000_8020, S, true, false, false, false), 0x01ce_0100);
+    assert_eq!(rt;
+        bus.test_target(0x1000_8010, S, true, false, false, false),
+        0x01cc_0000
+    );
+    assert_eq!(rt;
+        bus.test_target(0x1000_8020, S, true, false, false, false),
+        0x01ce_0100
+    );
     Ok(())
 }
