@@ -123,3 +123,8 @@ fn worked_codes(rt: HostRuntime) {
     );
     assert!(rt; matches!(decode(0xe842, 0xf104), Decoded::Undefined(Width::Wide)));
 }
+
+#[test]
+fn a_load_of_many_from_pc_is_no_instruction(rt: HostRuntime) {
+    assert!(rt; matches!(decode(0xe89f, 0x8003), Decoded::Undefined(Width::Wide)));
+}
