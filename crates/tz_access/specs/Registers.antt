@@ -1,11 +1,8 @@
--- The registers of the SAU and of the MPUs, and the exclusive monitor, as the bus has them.
-use Rattle.std.specs.Prelude.{ℕ, ◌==◌, Bool, true, false, ◌&&◌, if◌then◌else◌, Option, Some, None}
+-- The registers of the SAU and of the MPUs, as the bus has them.
+use Rattle.std.specs.Prelude.{ℕ, Bool, if◌then◌else◌}
 use Rattle.tz_table.specs.declared.units.Side.{Side}
 use Rattle.tz_table.specs.declared.units.Side.TheVariants.{Secure, NonSecure}
-use Rattle.tz_table.specs.declared.units.Size.{Size}
-use Rattle.tz_table.specs.declared.units.Size.TheVariants.{Byte, Half, Word}
 use Rattle.tz_model.specs.Board.{within}
-use Rattle.tz_state.specs.declared.request.Exclusive.{Exclusive}
 use Rattle.tz_state.specs.Protection.{MpuState}
 use Rattle.tz_state.specs.State.{Bus, mpu_of}
 use Rattle.tz_state.specs.UnitRegisters.{sau_register, sau_read, sau_written, mpu_register, mpu_read, mpu_written}
@@ -28,14 +25,3 @@ abbrev pub unit_written : Bus → Side → ℕ → ℕ → Bus
 unit_written b side addr value =
     if is_of_sau addr then record b { sau = sau_written b.sau (sau_register addr) value }
     else with_mpu b side (mpu_written b.board.profile (mpu_of side b) (mpu_register addr) value)
-
-abbrev pub is_same_size : Size → Size → Bool
-is_same_size Byte Byte = true
-is_same_size Half Half = true
-is_same_size Word Word = true
-is_same_size size other = false
-
--- the monitor holds an address and a size
-abbrev pub holds_exclusive : Option Exclusive → Exclusive → Bool
-holds_exclusive None e = false
-holds_exclusive (Some h) e = h.addr == e.addr && is_same_size h.size e.size

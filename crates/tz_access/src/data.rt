@@ -15,7 +15,8 @@ use crate::units::is_private;
 use tz_model::{Fault, Side, Size};
 use tz_state::{Asker, Kind, Request};
 
-fn is_aligned(size: Size, addr: u32) -> bool
+/// Whether an address is a multiple of a size.
+pub fn is_aligned(size: Size, addr: u32) -> bool
     ensures { result ≡ is_aligned size addr }
 {
     match size {

@@ -18,4 +18,5 @@ mod target;
 mod units;
 
 pub use bus::Bus;
+pub use data::is_aligned;
 pub use place::Place;

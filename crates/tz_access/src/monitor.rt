@@ -1,8 +1,7 @@
 //! The exclusive monitor: one address and size, or nothing.
 
 ghost use Rattle.std.specs.Prelude.{◌≡◌, MatchOption, Some, None};
-ghost use Rattle.tz_state.specs.State.{with_monitor};
-ghost use Rattle.tz_access.specs.Registers.{holds_exclusive, is_same_size};
+ghost use Rattle.tz_state.specs.State.{is_same_size, is_held, with_monitor};
 
 use crate::bus::Bus;
 use tz_model::Size;
@@ -19,8 +18,8 @@ fn is_same_size(size: Size, other: Size) -> bool
 }
 
 /// Whether the monitor holds an address and a size.
-fn holds_exclusive(monitor: &Option<Exclusive>, addr: u32, size: Size) -> bool
-    ensures { result ≡ holds_exclusive monitor.now (record { addr = addr; size = size }) }
+fn is_held(monitor: &Option<Exclusive>, addr: u32, size: Size) -> bool
+    ensures { result ≡ is_held monitor.now (record { addr = addr; size = size }) }
 {
     match monitor {
         None => false,
@@ -38,10 +37,10 @@ impl Bus {
 
     /// Whether the monitor holds this address and size; it holds nothing after.
     pub fn monitor_take(&mut self, addr: u32, size: Size) -> bool
-        ensures held { result ≡ holds_exclusive self.old.monitor (record { addr = addr; size = size }) }
+        ensures held { result ≡ is_held self.old.monitor (record { addr = addr; size = size }) }
         ensures after { self.new ≡ with_monitor self.old None }
     {
-        let held = holds_exclusive(&self.monitor, addr, size);
+        let held = is_held(&self.monitor, addr, size);
         self.monitor_clear();
         held
     }

@@ -5,12 +5,11 @@ ghost use Rattle.arrayvec.specs.ArrayVec.{array_vec_len};
 ghost use Rattle.tz_exec.specs.Local.{local_of, with_local, put};
 ghost use Rattle.tz_exec.specs.LoadStore.{offset_at};
 ghost use Rattle.tz_exec.specs.Exec.{marked, loads_stores, stores_exclusive, exclusivity, exclusively};
-ghost use Rattle.tz_state.specs.Access.{is_aligned};
 
 use crate::asking::asker_of;
 use crate::changes::Stores;
 use crate::port::CorePort;
-use tz_access::Bus;
+use tz_access::{Bus, is_aligned};
 use tz_model::{Fault, Insn, Outcome, Size};
 use tz_regs::Core;
 
@@ -30,17 +29,6 @@ fn load_store(
         stores,
     };
     tz_loadstore::execute(insn, core, &mut port)
-}
-
-/// Whether an address is a multiple of a size.
-fn is_aligned(size: Size, addr: u32) -> bool
-    ensures { result ≡ is_aligned size addr }
-{
-    match size {
-        Size::Byte => true,
-        Size::Half => addr % 2 == 0,
-        Size::Word => addr % 4 == 0,
-    }
 }
 
 /// A register plus an offset.

@@ -10,7 +10,7 @@ use Rattle.tz_regs.specs.declared.parts.Stacks.{Stacks}
 use Rattle.tz_regs.specs.Banks.{secure_after}
 use Rattle.tz_regs.specs.Priority.{mask_priority}
 use Rattle.tz_regs.specs.Special.{named_of}
-use Rattle.tz_state.specs.State.{State}
+use Rattle.tz_state.specs.State.{State, is_held}
 use Rattle.tz_state.specs.Access.{is_aligned, reached_in, access}
 use Rattle.tz_exec.specs.declared.family.Family.{Family}
 use Rattle.tz_exec.specs.declared.family.Family.TheVariants.{Alu, LoadStore, Branch, System}
@@ -19,7 +19,7 @@ use Rattle.tz_exec.specs.Alu.{finish_alu}
 use Rattle.tz_exec.specs.LoadStore.{refusal, plan_load_store, finish_load_store}
 use Rattle.tz_exec.specs.Branch.{plan_branch, finish_branch}
 use Rattle.tz_exec.specs.System.{finish_system, probe_of}
-use Rattle.tz_exec.specs.Exec.{Ported, unless_refused, after_accesses, probed, Executed, Exclusivity, Free, Marks, Takes, exclusivity, is_held, released, loads_stores, exclusively, family_of, executed_by, executed}
+use Rattle.tz_exec.specs.Exec.{Ported, unless_refused, after_accesses, probed, Executed, Exclusivity, Free, Marks, Takes, exclusivity, released, loads_stores, exclusively, family_of, executed_by, executed}
 
 own_alone : (side : Side) (own before : Stacks) → side ≡ NonSecure → secure_after side own before ≡ before
 own_alone Secure own before e = cc

@@ -1,7 +1,5 @@
 -- The operation of each instruction that is built (DDI0553, chapter C2), on the state of the machine.
-use Rattle.std.specs.Prelude.{ℕ, ℤ, ◌==◌, Bool, true, false, not, ◌&&◌, if◌then◌else◌, List, [], Result, Ok, Err, Option, Some, None}
-use Rattle.tz_table.specs.declared.units.Size.{Size}
-use Rattle.tz_table.specs.declared.units.Size.TheVariants.{Byte, Half, Word}
+use Rattle.std.specs.Prelude.{ℕ, ℤ, not, if◌then◌else◌, List, [], Result, Ok, Err, Option, Some, None}
 use Rattle.tz_table.specs.declared.instruction.Insn.{Insn}
 use Rattle.tz_table.specs.declared.instruction.Insn.TheVariants as insns
 use Rattle.tz_model.specs.declared.report.Fault.{Fault}
@@ -15,7 +13,7 @@ use Rattle.tz_regs.specs.Priority.{mask_priority}
 use Rattle.tz_regs.specs.Special.{named_of}
 use Rattle.tz_state.specs.declared.probe.Probe.{Probe}
 use Rattle.tz_state.specs.declared.request.Exclusive.{Exclusive}
-use Rattle.tz_state.specs.State.{Bus, State, with_core, with_bus, with_monitor}
+use Rattle.tz_state.specs.State.{Bus, State, is_held, with_core, with_bus, with_monitor}
 use Rattle.tz_state.specs.Access.{is_aligned, Reached, reached_in, access}
 use Rattle.tz_state.specs.Target.{target_word}
 use Rattle.tz_exec.specs.declared.family.Family.{Family}
@@ -141,16 +139,6 @@ abbrev pub exclusivity : Insn → Local → Exclusivity
 exclusivity (insns.LoadExclusive size acquire rt rn offset) l = Marks (record { addr = offset_at l rn offset; size = size })
 exclusivity (insns.StoreExclusive size release rd rt rn offset) l = Takes (record { addr = offset_at l rn offset; size = size }) rd
 exclusivity insn l = Free
-
-abbrev pub is_same_size : Size → Size → Bool
-is_same_size Byte Byte = true
-is_same_size Half Half = true
-is_same_size Word Word = true
-is_same_size size other = false
-
-abbrev pub is_held : Option Exclusive → Exclusive → Bool
-is_held None e = false
-is_held (Some h) e = h.addr == e.addr && is_same_size h.size e.size
 
 -- a load that succeeded sets it
 abbrev pub marked_by : Result Outcome Fault → Exclusive → Option Exclusive → Option Exclusive

@@ -1,6 +1,8 @@
 -- The state of the machine in its parts: the core, memory with the units that guard it, and the board.
-use Rattle.std.specs.Prelude.{ℕ, ℤ, pos, int_lt, Bool, ◌/◌, ◌%◌, ◌==◌, Option}
+use Rattle.std.specs.Prelude.{ℕ, ℤ, pos, int_lt, Bool, ◌/◌, ◌%◌, ◌==◌, Option, true, false, ◌&&◌, Some, None}
 use Rattle.tz_table.specs.declared.units.Side.{Side}
+use Rattle.tz_table.specs.declared.units.Size.{Size}
+use Rattle.tz_table.specs.declared.units.Size.TheVariants.{Byte, Half, Word}
 use Rattle.tz_model.specs.Board.{BoardValue}
 use Rattle.tz_regs.specs.declared.parts.Core.{Core}
 use Rattle.tz_regs.specs.declared.parts.Registers.{Registers}
@@ -62,6 +64,21 @@ asker_in c =
       negative = is_negative_at (mask_priority c.masks);
       aligned = traps_unaligned (status_of c.run.side c).ccr;
     }
+
+-- ---- the exclusive monitor
+
+abbrev pub is_same_size : Size → Size → Bool
+is_same_size Byte Byte = true
+is_same_size Half Half = true
+is_same_size Word Word = true
+is_same_size size other = false
+
+-- (own) it holds exactly this address and size
+abbrev pub is_held : Option Exclusive → Exclusive → Bool
+is_held None e = false
+is_held (Some h) e = h.addr == e.addr && is_same_size h.size e.size
+
+-- ---- a state with another part
 
 abbrev pub with_memory : Bus → Memory → Bus
 with_memory b m = record b { memory = m }

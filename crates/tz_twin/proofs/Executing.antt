@@ -19,6 +19,7 @@ use Rattle.tz_state.specs.declared.probe.Probe.{Probe}
 use Rattle.tz_state.specs.declared.request.Exclusive.{Exclusive}
 use Rattle.tz_state.specs.Memory.{Memory}
 use Rattle.tz_state.specs.Access.{is_aligned, Reached, reached_in}
+use Rattle.tz_state.specs.State.{is_held}
 use Rattle.tz_state.specs.Target.{target_word}
 use Rattle.tz_exec.specs.declared.family.Family.{Family}
 use Rattle.tz_exec.specs.declared.family.Family.TheVariants.{Alu, LoadStore, Branch, System}
@@ -28,7 +29,7 @@ use Rattle.tz_exec.specs.LoadStore.{refusal, plan_load_store, finish_load_store}
 use Rattle.tz_exec.specs.Branch.{plan_branch, finish_branch}
 use Rattle.tz_exec.specs.System.{finish_system, clears_monitor, probe_of}
 use Rattle.tz_exec.specs.ItRules.{is_misplaced, is_passed_over, ignores_condition}
-use Rattle.tz_exec.specs.Exec.{Ported, ported, unless_refused, after_accesses, probed, cleared_by, Executed, alone, beside, through, Exclusivity, Free, Marks, Takes, exclusivity, is_held, marked_by, marked, loads_stores, stores_exclusive, exclusively, family_of, executed_by}
+use Rattle.tz_exec.specs.Exec.{Ported, ported, unless_refused, after_accesses, probed, cleared_by, Executed, alone, beside, through, Exclusivity, Free, Marks, Takes, exclusivity, marked_by, marked, loads_stores, stores_exclusive, exclusively, family_of, executed_by}
 use Rattle.tz_sem.specs.Step.{executes, placed, decoded}
 use Rattle.tz_twin.proofs.Bytes.{SameOpen}
 use Rattle.tz_twin.proofs.Split.{Open, Rest, open_map, join_bus, join}

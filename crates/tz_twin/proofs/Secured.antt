@@ -22,7 +22,7 @@ use Rattle.tz_regs.specs.Priority.{mask_priority}
 use Rattle.tz_regs.specs.Special.{named_of}
 use Rattle.tz_state.specs.declared.request.Exclusive.{Exclusive}
 use Rattle.tz_regs.specs.declared.parts.Core.{Core}
-use Rattle.tz_state.specs.State.{State, side_of, with_core, with_pc}
+use Rattle.tz_state.specs.State.{State, is_held, side_of, with_core, with_pc}
 use Rattle.tz_state.specs.Access.{is_aligned, Reached, reached_in, read_by, write_by, access}
 use Rattle.tz_state.specs.Fetch.{fetch, own_fetch}
 use Rattle.tz_exec.specs.declared.family.Family.{Family}
@@ -33,7 +33,7 @@ use Rattle.tz_exec.specs.LoadStore.{refusal, plan_load_store, finish_load_store}
 use Rattle.tz_exec.specs.Branch.{plan_branch, finish_branch}
 use Rattle.tz_exec.specs.System.{finish_system, clears_monitor, probe_of}
 use Rattle.tz_exec.specs.ItRules.{is_misplaced, is_passed_over, ignores_condition}
-use Rattle.tz_exec.specs.Exec.{Ported, ported, unless_refused, after_accesses, probed, Executed, alone, beside, through, Exclusivity, Free, Marks, Takes, exclusivity, is_held, marked, released, loads_stores, exclusively, family_of, executed_by}
+use Rattle.tz_exec.specs.Exec.{Ported, ported, unless_refused, after_accesses, probed, Executed, alone, beside, through, Exclusivity, Free, Marks, Takes, exclusivity, marked, released, loads_stores, exclusively, family_of, executed_by}
 use Rattle.tz_sem.specs.Ended.{Ended}
 use Rattle.tz_sem.specs.Step.{length_of, ran, is_fnc_return, branched, branch_ns, exchanged, with_it, past, skips, goes_on, concludes, executes, placed, decoded, fetched, fetcher_in, ended}
 use Rattle.tz_twin.specs.Seen.{Seen, Hidden}
