@@ -9,11 +9,12 @@ use tz_model::Side;
 use tz_regs::Core;
 use tz_state::{Asker, Fetcher};
 
-/// Whether the execution priority is below 0.
+/// Whether the execution priority is below 0: of the masks, FAULTMASK of the Secure side alone makes it so.
+#[tactic(auto, using(crate::proofs::Negative::negative_masks))]
 fn is_negative(core: &Core) -> bool
     ensures { result ≡ is_negative_at (mask_priority core.now.masks) }
 {
-    core.masks.priority() < 0
+    core.masks.s.faultmask
 }
 
 /// CCR.UNALIGN_TRP.

@@ -8,6 +8,7 @@ ghost use Rattle.tz_exec.specs.Exec.{system_over, executed_by};
 
 use crate::asking::asker_of;
 use crate::changes::Stores;
+use crate::exchange::take_back;
 use crate::exclusive::run_load_store;
 use crate::port::CorePort;
 use crate::running::Machine;
@@ -43,7 +44,8 @@ fn run_system(insn: &Insn, core: &mut Core, bus: &mut Bus) -> Result<Outcome, Fa
 
 impl Machine {
     ghost use Rattle.tz_exec.specs.declared.family.Family.TheVariants.{Alu, LoadStore, System};
-    ghost use Rattle.tz_exec.specs.Exec.{executed};
+    ghost use Rattle.tz_exec.specs.Exec.{family_of, executed};
+    ghost use Rattle.tz_sem.specs.Step.{taken_back};
 
     /// Data processing.
     fn data(&mut self, insn: &Insn) -> Result<Outcome, Fault>
@@ -52,12 +54,15 @@ impl Machine {
         tz_alu::execute(insn, &mut self.core)
     }
 
-    /// Loads and stores.
+    /// Loads and stores; what a load of PC wrote that found FNC_RETURN is taken back.
     fn load_store(&mut self, insn: &Insn, stores: &mut Stores) -> Result<Outcome, Fault>
         requires { array_vec_len stores.old ≡ 0 }
-        ensures { executed_by LoadStore self.old insn.now ≡ record { state = self.new; stores = stores.new.items; outcome = result } }
+        ensures { taken_back LoadStore self.old.core (executed_by LoadStore self.old insn.now) ≡ record { state = self.new; stores = stores.new.items; outcome = result } }
     {
-        run_load_store(insn, &mut self.core, &mut self.bus, stores)
+        let before = self.core;
+        let outcome = run_load_store(insn, &mut self.core, &mut self.bus, stores);
+        take_back(&mut self.core, &outcome, &before);
+        outcome
     }
 
     /// Branches, and IT.
@@ -79,7 +84,7 @@ impl Machine {
     /// stores are noted. At a fault the core is as it was, and the stores before it stand.
     pub(crate) fn execute(&mut self, insn: &Insn, stores: &mut Stores) -> Result<Outcome, Fault>
         requires { array_vec_len stores.old ≡ 0 }
-        ensures { executed self.old insn.now ≡ record { state = self.new; stores = stores.new.items; outcome = result } }
+        ensures { taken_back (family_of insn.now) self.old.core (executed self.old insn.now) ≡ record { state = self.new; stores = stores.new.items; outcome = result } }
     {
         match *insn {
             Insn::DataImm { .. }

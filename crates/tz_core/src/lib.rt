@@ -7,6 +7,7 @@
 mod asking;
 mod changes;
 mod ending;
+mod exchange;
 mod exclusive;
 mod execute;
 mod it_rules;

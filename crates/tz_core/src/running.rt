@@ -10,6 +10,7 @@ ghost use Rattle.tz_sem.specs.Step.{length_of};
 
 use crate::asking::fetcher_of;
 use crate::changes::Stores;
+use crate::exchange::is_fnc_return;
 use crate::it_rules::{ignores_condition, is_misplaced, is_passed_over};
 use std::marker::Model;
 use tz_access::Bus;
@@ -74,7 +75,7 @@ impl Machine {
     ghost use Rattle.tz_sem.specs.declared.ending.Cause.TheVariants.{Went};
     ghost use Rattle.tz_state.specs.State.{side_of, with_run, with_pc};
     ghost use Rattle.tz_model.specs.Codes.{meaning_of};
-    ghost use Rattle.tz_sem.specs.Step.{branch_ns, moves_to, exchanged, past, skips, goes_on, concludes, placed, decoded, enters, looks, unready, ended, step};
+    ghost use Rattle.tz_sem.specs.Step.{branch_ns, moves_to, exchanged, past, skips, goes_on, placed, decoded, enters, looks, unready, ended, step};
     ghost use Rattle.tz_twin.specs.Integrity.{LeavesSecure, EntersByGateway};
 
     /// The state that the machine is in; a locked machine counts as Secure.
@@ -153,25 +154,21 @@ impl Machine {
         ran(touched, code)
     }
 
-    /// Goes on after an instruction, with the core before it.
-    fn go_on(
-        &mut self,
-        before: &Core,
-        insn: &Insn,
-        touched: bool,
-        code: &Code,
-        outcome: Outcome,
-    ) -> Ending
-        ensures { (stores : List Store) → goes_on insn.now before.now self.old touched code.now stores outcome ≡ record { state = self.new; stores = stores; ending = result } }
+    /// Goes on after an instruction.
+    fn go_on(&mut self, insn: &Insn, touched: bool, code: &Code, outcome: Outcome) -> Ending
+        ensures { (stores : List Store) → goes_on insn.now self.old touched code.now stores outcome ≡ record { state = self.new; stores = stores; ending = result } }
     {
-        self.pass(insn);
         match outcome {
-            Outcome::Next | Outcome::Sleep { event: _ } => self.go_next(touched, code),
+            Outcome::Next | Outcome::Sleep { event: _ } => {
+                self.pass(insn);
+                self.go_next(touched, code)
+            }
             Outcome::Jump(to) => {
+                self.pass(insn);
                 self.core.registers.pc = to;
                 ran(touched, code)
             }
-            Outcome::Exchange { target, ns } => self.exchange(before, touched, code, target, ns),
+            Outcome::Exchange { target, ns } => self.exchange(insn, touched, code, target, ns),
         }
     }
 
@@ -188,21 +185,15 @@ impl Machine {
         ran(touched, code)
     }
 
-    /// Exchanges to a target, with the core before the instruction.
-    fn exchange(
-        &mut self,
-        before: &Core,
-        touched: bool,
-        code: &Code,
-        target: u32,
-        ns: bool,
-    ) -> Ending
-        ensures { (stores : List Store) → exchanged before.now self.old touched code.now stores target ns ≡ record { state = self.new; stores = stores; ending = result } }
+    /// Exchanges to a target.
+    fn exchange(&mut self, insn: &Insn, touched: bool, code: &Code, target: u32, ns: bool) -> Ending
+        ensures { (stores : List Store) → exchanged self.old (past insn.now self.old) touched code.now stores target ns ≡ record { state = self.new; stores = stores; ending = result } }
     {
-        if target == 0xfeff_fffe || target == 0xfeff_ffff {
-            self.core = *before;
-            return self.fault(true, Fault::InvPc(before.run.side));
+        if is_fnc_return(target) {
+            let side = self.core.run.side;
+            return self.fault(true, Fault::InvPc(side));
         }
+        self.pass(insn);
         self.move_to(touched, code, target, ns)
     }
 
@@ -250,24 +241,6 @@ impl Machine {
         self.go_next(touched, code)
     }
 
-    /// Goes on after an instruction, or ends the step by its fault; its stores stand.
-    fn conclude(
-        &mut self,
-        before: &Core,
-        insn: &Insn,
-        touched: bool,
-        code: &Code,
-        outcome: Result<Outcome, Fault>,
-        stores: &Stores,
-    ) -> Ending
-        ensures { concludes insn.now before.now self.old touched code.now stores.now.items outcome ≡ record { state = self.new; stores = stores.now.items; ending = result } }
-    {
-        match outcome {
-            Ok(outcome) => self.go_on(before, insn, touched, code, outcome),
-            Err(fault) => self.fault(touched, fault),
-        }
-    }
-
     /// Runs an instruction, unless it may not stand where it does, or its condition fails.
     fn run(&mut self, insn: &Insn, code: &Code, touched: bool, stores: &mut Stores) -> Ending
         requires { array_vec_len stores.old ≡ 0 }
@@ -279,9 +252,10 @@ impl Machine {
         if is_passed_over(&self.core.registers) && !ignores_condition(self.core.run.side, insn) {
             return self.skip(touched, code);
         }
-        let before = self.core;
-        let outcome = self.execute(insn, stores);
-        self.conclude(&before, insn, touched, code, outcome, stores)
+        match self.execute(insn, stores) {
+            Ok(outcome) => self.go_on(insn, touched, code, outcome),
+            Err(fault) => self.fault(touched, fault),
+        }
     }
 
     /// Runs the instruction that a code means.

@@ -27,7 +27,9 @@ use Rattle.tz_state.specs.declared.fetcher.Fetcher.{Fetcher}
 use Rattle.tz_state.specs.State.{State, map_of, is_privileged_in, is_negative_at, with_core, with_run, with_registers, with_pc}
 use Rattle.tz_state.specs.Fetch.{fetch, is_own_fetch, wide, sg_half}
 use Rattle.tz_exec.specs.ItRules.{is_misplaced, is_passed_over, ignores_condition}
-use Rattle.tz_exec.specs.Exec.{Executed, executed}
+use Rattle.tz_exec.specs.declared.family.Family.{Family}
+use Rattle.tz_exec.specs.declared.family.Family.TheVariants.{LoadStore}
+use Rattle.tz_exec.specs.Exec.{Executed, family_of, executed}
 use Rattle.tz_sem.specs.declared.ending.Cause.TheVariants.{Went, Returned}
 use Rattle.tz_sem.specs.Ended.{Ended, report_of}
 
@@ -87,12 +89,21 @@ abbrev pub moves_to : State → Bool → Code → List Store → ℕ → Bool �
 moves_to s touched code stores target ns =
     if ns then branch_ns s touched code stores target else ran (branched s target (target % 2 == 1)) touched code stores
 
--- BX, BXNS and loads of PC, with the core before the instruction and the state after it; a return to Secure code
--- that was called is not built, and faults: the core is as it was
-abbrev pub exchanged : Core → State → Bool → Code → List Store → ℕ → Bool → Ended
-exchanged before after touched code stores target ns =
-    if is_fnc_return target then faults (with_core after before) true (InvPc before.run.side) stores
-    else moves_to after touched code stores target ns
+-- BX, BXNS and loads of PC, with the state before the instruction's own move and after it; a return to Secure
+-- code that was called is not built, and faults
+abbrev pub exchanged : State → State → Bool → Code → List Store → ℕ → Bool → Ended
+exchanged s after touched code stores target ns =
+    if is_fnc_return target then faults s true (InvPc s.core.run.side) stores else moves_to after touched code stores target ns
+
+-- where that fault comes the registers are those before the instruction: a branch changed none, and what a load
+-- wrote is taken back
+abbrev pub core_back : Result Outcome Fault → Core → Core → Core
+core_back (Ok (Exchange target ns)) before after = if is_fnc_return target then before else after
+core_back outcome before after = after
+
+abbrev pub taken_back : Family → Core → Executed → Executed
+taken_back LoadStore before x = record x { state = with_core x.state (core_back x.outcome before x.state.core) }
+taken_back family before x = x
 
 -- ---- the instruction
 
@@ -115,19 +126,19 @@ goes_next s touched code stores = ran (with_pc s (wrap (s.core.registers.pc + le
 abbrev pub skips : State → Bool → Code → Ended
 skips s touched code = goes_next (with_it s (it_advanced s.core.registers.it)) touched code []
 
--- how a step goes on after its instruction, with the core before it
-abbrev pub goes_on : Insn → Core → State → Bool → Code → List Store → Outcome → Ended
-goes_on i before s touched code stores Next = goes_next (past i s) touched code stores
-goes_on i before s touched code stores (Jump to) = ran (with_pc (past i s) to) touched code stores
-goes_on i before s touched code stores (Exchange target ns) = exchanged before (past i s) touched code stores target ns
-goes_on i before s touched code stores (Sleep event) = goes_next (past i s) touched code stores
+-- how a step goes on after its instruction
+abbrev pub goes_on : Insn → State → Bool → Code → List Store → Outcome → Ended
+goes_on i s touched code stores Next = goes_next (past i s) touched code stores
+goes_on i s touched code stores (Jump to) = ran (with_pc (past i s) to) touched code stores
+goes_on i s touched code stores (Exchange target ns) = exchanged s (past i s) touched code stores target ns
+goes_on i s touched code stores (Sleep event) = goes_next (past i s) touched code stores
 
-abbrev pub concludes : Insn → Core → State → Bool → Code → List Store → Result Outcome Fault → Ended
-concludes i before s touched code stores (Ok outcome) = goes_on i before s touched code stores outcome
-concludes i before s touched code stores (Err fault) = faults s touched fault stores
+abbrev pub concludes : Insn → State → Bool → Code → List Store → Result Outcome Fault → Ended
+concludes i s touched code stores (Ok outcome) = goes_on i s touched code stores outcome
+concludes i s touched code stores (Err fault) = faults s touched fault stores
 
-abbrev pub executes : Core → Bool → Code → Insn → Executed → Ended
-executes before touched code i x = concludes i before x.state touched code x.stores x.outcome
+abbrev pub executes : Bool → Code → Insn → Executed → Ended
+executes touched code i x = concludes i x.state touched code x.stores x.outcome
 
 -- an instruction by where it stands: one that may not stand there is undefined, and one whose condition
 -- fails is skipped
@@ -135,7 +146,7 @@ abbrev pub placed : State → Bool → Code → Insn → Ended
 placed s touched code i =
     if is_misplaced i s.core.registers then faults s touched Undef []
     else if is_passed_over s.core.registers && not (ignores_condition s.core.run.side i) then skips s touched code
-    else executes s.core touched code i (executed s i)
+    else executes touched code i (taken_back (family_of i) s.core (executed s i))
 
 -- a code by what it means; one of a coprocessor is skipped as an instruction is
 abbrev pub decoded : State → Bool → Code → Decoded → Ended

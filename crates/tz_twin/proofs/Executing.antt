@@ -1,5 +1,5 @@
 -- An instruction of Non-secure code: what it leaves is open, and the same in twins.
-use Rattle.std.proofs.Common.{◌≡◌, ℕ, ℤ, Bool, true, false, cond, not, ◌&&◌, List, [], Option, Some, None, Result, Ok, Err, refl, sym, subst}
+use Rattle.std.proofs.Common.{◌≡◌, ℕ, ℤ, Bool, true, false, cond, not, ◌&&◌, List, [], Option, Some, None, Result, Ok, Err, refl, ◌∙◌, sym, subst}
 use Rattle.std.specs.Prelude.{IfSome}
 use Rattle.tz_table.specs.declared.units.Side.{Side}
 use Rattle.tz_table.specs.declared.units.Side.TheVariants.{Secure, NonSecure}
@@ -11,7 +11,7 @@ use Rattle.tz_table.specs.declared.instruction.Insn.TheVariants.{TestTarget}
 use Rattle.tz_model.specs.declared.report.Fault.{Fault}
 use Rattle.tz_model.specs.declared.report.Fault.TheVariants.{Undef, NoCp, Unaligned}
 use Rattle.tz_model.specs.declared.report.Outcome.{Outcome}
-use Rattle.tz_model.specs.declared.report.Outcome.TheVariants.{Next}
+use Rattle.tz_model.specs.declared.report.Outcome.TheVariants.{Next, Jump, Exchange, Sleep}
 use Rattle.tz_model.specs.declared.report.Store.{Store}
 use Rattle.tz_regs.specs.Priority.{mask_priority}
 use Rattle.tz_regs.specs.Special.{Named, named_of}
@@ -19,7 +19,7 @@ use Rattle.tz_state.specs.declared.probe.Probe.{Probe}
 use Rattle.tz_state.specs.declared.request.Exclusive.{Exclusive}
 use Rattle.tz_state.specs.Memory.{Memory}
 use Rattle.tz_state.specs.Access.{is_aligned, Reached, reached_in}
-use Rattle.tz_state.specs.State.{is_held}
+use Rattle.tz_state.specs.State.{is_held, with_core}
 use Rattle.tz_state.specs.Target.{target_word}
 use Rattle.tz_exec.specs.declared.family.Family.{Family}
 use Rattle.tz_exec.specs.declared.family.Family.TheVariants.{Alu, LoadStore, Branch, System}
@@ -30,7 +30,7 @@ use Rattle.tz_exec.specs.Branch.{plan_branch, finish_branch}
 use Rattle.tz_exec.specs.System.{finish_system, clears_monitor, probe_of}
 use Rattle.tz_exec.specs.ItRules.{is_misplaced, is_passed_over, ignores_condition}
 use Rattle.tz_exec.specs.Exec.{Ported, ported, unless_refused, after_accesses, probed, cleared_by, Executed, alone, beside, through, Exclusivity, Free, Marks, Takes, exclusivity, marked_by, marked, loads_stores, stores_exclusive, exclusively, family_of, executed_by}
-use Rattle.tz_sem.specs.Step.{executes, placed, decoded}
+use Rattle.tz_sem.specs.Step.{is_fnc_return, core_back, taken_back, executes, placed, decoded}
 use Rattle.tz_twin.proofs.Bytes.{SameOpen}
 use Rattle.tz_twin.proofs.Split.{Open, Rest, open_map, join_bus, join}
 use Rattle.tz_twin.proofs.Both.{Both, both_cond}
@@ -51,19 +51,19 @@ pub record Alike (o : Open) (x x' : Rest) (e e' : Executed) : Type 0 where
 
 -- the step goes on alike
 concluded : (o p : Open) (x x' : Rest) (n n' : Memory) (touched : Bool) (code : Code) (i : Insn) (stores : List Store) (out : Result Outcome Fault) → Follows o p → Beside o x x' n n'
-    → Both (join o x) (join o x') (executes (join o x).core touched code i (record { state = left p x n; stores = stores; outcome = out })) (executes (join o x').core touched code i (record { state = left p x' n'; stores = stores; outcome = out }))
+    → Both (join o x) (join o x') (executes touched code i (record { state = left p x n; stores = stores; outcome = out })) (executes touched code i (record { state = left p x' n'; stores = stores; outcome = out }))
 concluded o p x x' n n' touched code i stores (Ok outcome) f h = goes_on_same o p x x' n n' touched code i stores outcome f h
 concluded o p x x' n n' touched code i stores (Err fault) f h = both_lock o p x x' n n' touched (Some fault) stores f h
 
 executes_same : (o : Open) (x x' : Rest) (touched : Bool) (code : Code) (i : Insn) (e e' : Executed) → Alike o x x' e e'
-    → Both (join o x) (join o x') (executes (join o x).core touched code i e) (executes (join o x').core touched code i e')
+    → Both (join o x) (join o x') (executes touched code i e) (executes touched code i e')
 executes_same o x x' touched code i e e' a =
     let here : e ≡ record { state = left a.part x a.memory; stores = e.stores; outcome = e.outcome } =
     λ j. record { state = a.state j; stores = e.stores; outcome = e.outcome } in
     let there : e' ≡ record { state = left a.part x' a.memory'; stores = e.stores; outcome = e.outcome } =
     λ j. record { state = a.state' j; stores = sym a.stores j; outcome = sym a.outcome j } in
-    subst (λ (y : Executed). Both (join o x) (join o x') (executes (join o x).core touched code i y) (executes (join o x').core touched code i e')) (sym here)
-    (subst (λ (y : Executed). Both (join o x) (join o x') (executes (join o x).core touched code i (record { state = left a.part x a.memory; stores = e.stores; outcome = e.outcome })) (executes (join o x').core touched code i y)) (sym there)
+    subst (λ (y : Executed). Both (join o x) (join o x') (executes touched code i y) (executes touched code i e')) (sym here)
+    (subst (λ (y : Executed). Both (join o x) (join o x') (executes touched code i (record { state = left a.part x a.memory; stores = e.stores; outcome = e.outcome })) (executes touched code i y)) (sym there)
     (concluded o a.part x x' a.memory a.memory' touched code i e.stores e.outcome a.follows a.beside))
 
 alike_cond : (o : Open) (x x' : Rest) (t : Bool) (e f e' f' : Executed) → Alike o x x' e e' → Alike o x x' f f' → Alike o x x' (cond t e f) (cond t e' f')
@@ -267,12 +267,66 @@ alike_family o x x' i Branch same =
     alike_ported o x x' (finish_branch i l) _ _ (answers_same o x x' (plan_branch i l) x.memory x'.memory [] same)
 alike_family o x x' i System same = alike_system o x x' i same
 
+-- ---- what is taken back where an exchange faults
+
+-- the core before the instruction, with what the bus has after it
+core_of_before : Open → Open → Open
+core_of_before o p = record o { board = p.board; sau = p.sau; mpu_ns = p.mpu_ns; monitor = p.monitor }
+
+open_back : Result Outcome Fault → Open → Open → Open
+open_back (Ok (Exchange target ns)) o p = cond (is_fnc_return target) (core_of_before o p) p
+open_back (Ok Next) o p = p
+open_back (Ok (Jump to)) o p = p
+open_back (Ok (Sleep event)) o p = p
+open_back (Err fault) o p = p
+
+left_back : (out : Result Outcome Fault) (o p : Open) (x : Rest) (n : Memory) → with_core (left p x n) (core_back out (join o x).core (left p x n).core) ≡ left (open_back out o p) x n
+unfolding open_back core_of_before
+left_back (Ok (Exchange target ns)) o p x n = go (is_fnc_return target) where
+  go : (t : Bool) → with_core (left p x n) (cond t (join o x).core (left p x n).core) ≡ left (cond t (record o { board = p.board; sau = p.sau; mpu_ns = p.mpu_ns; monitor = p.monitor }) p) x n
+  go true = refl
+  go false = refl
+left_back (Ok Next) o p x n = refl
+left_back (Ok (Jump to)) o p x n = refl
+left_back (Ok (Sleep event)) o p x n = refl
+left_back (Err fault) o p x n = refl
+
+follows_back : (out : Result Outcome Fault) (o p : Open) → Follows o p → Follows o (open_back out o p)
+unfolding open_back core_of_before
+follows_back (Ok (Exchange target ns)) o p f = go (is_fnc_return target) where
+  go : (t : Bool) → Follows o (cond t (record o { board = p.board; sau = p.sau; mpu_ns = p.mpu_ns; monitor = p.monitor }) p)
+  go true = record { board = f.board; sau = f.sau; masks = refl }
+  go false = f
+follows_back (Ok Next) o p f = f
+follows_back (Ok (Jump to)) o p f = f
+follows_back (Ok (Sleep event)) o p f = f
+follows_back (Err fault) o p f = f
+
+alike_back : (o : Open) (x x' : Rest) (e e' : Executed) → Alike o x x' e e' → Alike o x x' (taken_back LoadStore (join o x).core e) (taken_back LoadStore (join o x').core e')
+alike_back o x x' e e' a = record {
+  part = open_back e.outcome o a.part;
+  memory = a.memory;
+  memory' = a.memory';
+  state = (λ j. with_core (a.state j) (core_back e.outcome (join o x).core (a.state j).core)) ∙ left_back e.outcome o a.part x a.memory;
+  state' = (λ j. with_core (a.state' j) (core_back (sym a.outcome j) (join o x').core (a.state' j).core)) ∙ left_back e.outcome o a.part x' a.memory';
+  stores = a.stores;
+  outcome = a.outcome;
+  follows = follows_back e.outcome o a.part a.follows;
+  beside = a.beside;
+}
+
+alike_taken : (o : Open) (x x' : Rest) (family : Family) (e e' : Executed) → Alike o x x' e e' → Alike o x x' (taken_back family (join o x).core e) (taken_back family (join o x').core e')
+alike_taken o x x' LoadStore e e' a = alike_back o x x' e e' a
+alike_taken o x x' Alu e e' a = a
+alike_taken o x x' Branch e e' a = a
+alike_taken o x x' System e e' a = a
+
 placed_same : (o : Open) (x x' : Rest) (touched : Bool) (code : Code) (i : Insn) → SameOpen (open_map o) x.memory x'.memory
     → Both (join o x) (join o x') (placed (join o x) touched code i) (placed (join o x') touched code i)
 placed_same o x x' touched code i same =
     both_cond _ _ (is_misplaced i o.registers) _ _ _ _ (both_fault o x x' touched (Some Undef) same)
     (both_cond _ _ (is_passed_over o.registers && not (ignores_condition NonSecure i)) _ _ _ _ (skips_same o x x' touched code same)
-    (executes_same o x x' touched code i _ _ (alike_family o x x' i (family_of i) same)))
+    (executes_same o x x' touched code i _ _ (alike_taken o x x' (family_of i) _ _ (alike_family o x x' i (family_of i) same))))
 
 pub decoded_same : (o : Open) (x x' : Rest) (touched : Bool) (code : Code) (d : Decoded) → SameOpen (open_map o) x.memory x'.memory
     → Both (join o x) (join o x') (decoded (join o x) touched code d) (decoded (join o x') touched code d)

@@ -98,23 +98,13 @@ branch_ns_same o p x x' n n' touched code stores target f h =
     (goes o (on_board p r) x x' n n' stores _ (on_same_board o p r f) h)
     (goes o (on_board p r) x x' n n' stores _ (on_same_board o p r f) h)
 
--- a part with the core as it was before the instruction
-core_of_before : Open → Open → Open
-core_of_before o p = record o { board = p.board; sau = p.sau; mpu_ns = p.mpu_ns; monitor = p.monitor }
-
-follows_before : (o p : Open) → Follows o p → Follows o (core_of_before o p)
-unfolding core_of_before
-follows_before o p f = record { board = f.board; sau = f.sau; masks = refl }
-
-exchanged_same : (o p : Open) (x x' : Rest) (n n' : Memory) (touched : Bool) (code : Code) (stores : List Store) (target : ℕ) (ns : Bool) → Follows o p → Beside o x x' n n'
-    → Both (join o x) (join o x') (exchanged (join o x).core (left p x n) touched code stores target ns) (exchanged (join o x').core (left p x' n') touched code stores target ns)
-unfolding core_of_before
-exchanged_same o p x x' n n' touched code stores target ns f h =
-    let r : Registers = record p.registers { pc = even_of target; t = target % 2 == 1 } in
-    both_cond _ _ (is_fnc_return target) _ _ _ _
-    (both_lock o (core_of_before o p) x x' n n' true (Some (InvPc NonSecure)) stores (follows_before o p f) h)
-    (both_cond _ _ ns _ _ _ _ (branch_ns_same o p x x' n n' touched code stores target f h)
-    (goes o (on_board p r) x x' n n' stores _ (on_same_board o p r f) h))
+exchanged_same : (o p q : Open) (x x' : Rest) (n n' : Memory) (touched : Bool) (code : Code) (stores : List Store) (target : ℕ) (ns : Bool) → Follows o p → Follows o q → Beside o x x' n n'
+    → Both (join o x) (join o x') (exchanged (left p x n) (left q x n) touched code stores target ns) (exchanged (left p x' n') (left q x' n') touched code stores target ns)
+exchanged_same o p q x x' n n' touched code stores target ns f g h =
+    let r : Registers = record q.registers { pc = even_of target; t = target % 2 == 1 } in
+    both_cond _ _ (is_fnc_return target) _ _ _ _ (both_lock o p x x' n n' true (Some (InvPc NonSecure)) stores f h)
+    (both_cond _ _ ns _ _ _ _ (branch_ns_same o q x x' n n' touched code stores target g h)
+    (goes o (on_board q r) x x' n n' stores _ (on_same_board o q r g) h))
 
 -- a part with PC moved
 at_pc : (o p : Open) (x x' : Rest) (n n' : Memory) (stores : List Store) (ending : Ending) (pc : ℕ) → Follows o p → Beside o x x' n n'
@@ -124,12 +114,12 @@ at_pc o p x x' n n' stores ending pc f h =
     let r : Registers = record p.registers { pc = pc } in goes o (on_board p r) x x' n n' stores ending (on_same_board o p r f) h
 
 pub goes_on_same : (o p : Open) (x x' : Rest) (n n' : Memory) (touched : Bool) (code : Code) (i : Insn) (stores : List Store) (out : Outcome) → Follows o p → Beside o x x' n n'
-    → Both (join o x) (join o x') (goes_on i (join o x).core (left p x n) touched code stores out) (goes_on i (join o x').core (left p x' n') touched code stores out)
+    → Both (join o x) (join o x') (goes_on i (left p x n) touched code stores out) (goes_on i (left p x' n') touched code stores out)
 goes_on_same o p x x' n n' touched code i stores Next f h =
     at_pc o (past_of i p) x x' n n' stores _ (wrap (p.registers.pc + length_of code)) (on_same_board o p _ f) h
 goes_on_same o p x x' n n' touched code i stores (Jump to) f h = at_pc o (past_of i p) x x' n n' stores _ to (on_same_board o p _ f) h
 goes_on_same o p x x' n n' touched code i stores (Exchange target ns) f h =
-    exchanged_same o (past_of i p) x x' n n' touched code stores target ns (on_same_board o p _ f) h
+    exchanged_same o p (past_of i p) x x' n n' touched code stores target ns f (on_same_board o p _ f) h
 goes_on_same o p x x' n n' touched code i stores (Sleep event) f h =
     at_pc o (past_of i p) x x' n n' stores _ (wrap (p.registers.pc + length_of code)) (on_same_board o p _ f) h
 

@@ -35,7 +35,7 @@ use Rattle.tz_exec.specs.System.{finish_system, clears_monitor, probe_of}
 use Rattle.tz_exec.specs.ItRules.{is_misplaced, is_passed_over, ignores_condition}
 use Rattle.tz_exec.specs.Exec.{Ported, ported, unless_refused, after_accesses, probed, Executed, alone, beside, through, Exclusivity, Free, Marks, Takes, exclusivity, marked, released, loads_stores, exclusively, family_of, executed_by}
 use Rattle.tz_sem.specs.Ended.{Ended}
-use Rattle.tz_sem.specs.Step.{length_of, ran, is_fnc_return, branched, branch_ns, exchanged, with_it, past, skips, goes_on, concludes, executes, placed, decoded, fetched, fetcher_in, ended}
+use Rattle.tz_sem.specs.Step.{length_of, ran, is_fnc_return, branched, branch_ns, core_back, taken_back, exchanged, with_it, past, skips, goes_on, concludes, executes, placed, decoded, fetched, fetcher_in, ended}
 use Rattle.tz_twin.specs.Seen.{Seen, Hidden}
 use Rattle.tz_twin.proofs.Split.{board_seen}
 use Rattle.tz_twin.proofs.Both.{Touching}
@@ -60,18 +60,18 @@ touching_branch s0 s before code stores target e =
     (touching_returned s0 (branched s target true) before code stores e)
     (stays s0 (branched s target true) before code stores e)
 
-touching_exchanged : (s0 p : State) (before : Seen) (core : Core) (code : Code) (stores : List Store) (target : ℕ) (ns : Bool) → Of before p
-    → Touching s0 before (exchanged core (secured p) true code stores target ns)
-touching_exchanged s0 p before core code stores target ns e =
-    touching_cond s0 before (is_fnc_return target) _ _ (touching_locks s0 (with_core p core) before _ stores e)
-    (touching_cond s0 before ns _ _ (touching_branch s0 p before code stores target e)
-    (stays s0 (branched p target (target % 2 == 1)) before code stores e))
+touching_exchanged : (s0 s p : State) (before : Seen) (code : Code) (stores : List Store) (target : ℕ) (ns : Bool) → Of before s → Of before p
+    → Touching s0 before (exchanged (secured s) (secured p) true code stores target ns)
+touching_exchanged s0 s p before code stores target ns e f =
+    touching_cond s0 before (is_fnc_return target) _ _ (touching_locks s0 (secured s) before _ stores e)
+    (touching_cond s0 before ns _ _ (touching_branch s0 p before code stores target f)
+    (stays s0 (branched p target (target % 2 == 1)) before code stores f))
 
-touching_goes_on : (s0 s : State) (before : Seen) (core : Core) (code : Code) (i : Insn) (stores : List Store) (out : Outcome) → Of before s → Touching s0 before (goes_on i core (secured s) true code stores out)
-touching_goes_on s0 s before core code i stores Next e = stays s0 (with_pc (past i s) (wrap (s.core.registers.pc + length_of code))) before code stores e
-touching_goes_on s0 s before core code i stores (Jump to) e = stays s0 (with_pc (past i s) to) before code stores e
-touching_goes_on s0 s before core code i stores (Exchange target ns) e = touching_exchanged s0 (past i s) before core code stores target ns e
-touching_goes_on s0 s before core code i stores (Sleep event) e = stays s0 (with_pc (past i s) (wrap (s.core.registers.pc + length_of code))) before code stores e
+touching_goes_on : (s0 s : State) (before : Seen) (code : Code) (i : Insn) (stores : List Store) (out : Outcome) → Of before s → Touching s0 before (goes_on i (secured s) true code stores out)
+touching_goes_on s0 s before code i stores Next e = stays s0 (with_pc (past i s) (wrap (s.core.registers.pc + length_of code))) before code stores e
+touching_goes_on s0 s before code i stores (Jump to) e = stays s0 (with_pc (past i s) to) before code stores e
+touching_goes_on s0 s before code i stores (Exchange target ns) e = touching_exchanged s0 s (past i s) before code stores target ns e e
+touching_goes_on s0 s before code i stores (Sleep event) e = stays s0 (with_pc (past i s) (wrap (s.core.registers.pc + length_of code))) before code stores e
 
 touching_skips : (s0 s : State) (before : Seen) (code : Code) → Of before s → Touching s0 before (skips (secured s) true code)
 touching_skips s0 s before code e = stays s0 (with_pc (with_it s (it_advanced s.core.registers.it)) (wrap (s.core.registers.pc + length_of code))) before code [] e
@@ -84,16 +84,16 @@ record Stays (s : State) (e : Executed) : Type 0 where
   pub locked : e.state.core.run.locked ≡ false
   pub board : e.state.bus.board ≡ s.bus.board
 
-touching_concludes : (s0 s : State) (before : Seen) (core : Core) (code : Code) (i : Insn) (stores : List Store) (out : Result Outcome Fault) → Of before s → Touching s0 before (concludes i core (secured s) true code stores out)
-touching_concludes s0 s before core code i stores (Ok outcome) e = touching_goes_on s0 s before core code i stores outcome e
-touching_concludes s0 s before core code i stores (Err fault) e = touching_locks s0 (secured s) before (Some fault) stores e
+touching_concludes : (s0 s : State) (before : Seen) (code : Code) (i : Insn) (stores : List Store) (out : Result Outcome Fault) → Of before s → Touching s0 before (concludes i (secured s) true code stores out)
+touching_concludes s0 s before code i stores (Ok outcome) e = touching_goes_on s0 s before code i stores outcome e
+touching_concludes s0 s before code i stores (Err fault) e = touching_locks s0 (secured s) before (Some fault) stores e
 
-touching_executes : (s0 s : State) (before : Seen) (core : Core) (code : Code) (i : Insn) (e : Executed) → Of before s → Stays s e → Touching s0 before (executes core true code i e)
-touching_executes s0 s before core code i e is h =
+touching_executes : (s0 s : State) (before : Seen) (code : Code) (i : Insn) (e : Executed) → Of before s → Stays s e → Touching s0 before (executes true code i e)
+touching_executes s0 s before code i e is h =
     let same : e.state ≡ secured e.state =
     λ j. record e.state { core = record e.state.core { run = record e.state.core.run { side = h.side j; locked = h.locked j } } } in
-    subst (λ (r : State). Touching s0 before (concludes i core r true code e.stores e.outcome)) (sym same)
-    (touching_concludes s0 e.state before core code i e.stores e.outcome (is ∙ sym h.board))
+    subst (λ (r : State). Touching s0 before (concludes i r true code e.stores e.outcome)) (sym same)
+    (touching_concludes s0 e.state before code i e.stores e.outcome (is ∙ sym h.board))
 
 stays_cond : (s : State) (t : Bool) (e f : Executed) → Stays s e → Stays s f → Stays s (cond t e f)
 stays_cond s true e f p q = p
@@ -175,11 +175,31 @@ stays_family s i System =
     let n = named_of (secured s).core in
     stays_named s (clears_monitor i) (finish_system p i n (probed s.bus (probe_of p i n)))
 
+-- what is taken back leaves Secure code running too
+stays_core : (s : State) (e : Executed) (c : Core) → c.run.side ≡ Secure → c.run.locked ≡ false → Stays s e → Stays s (record e { state = with_core e.state c })
+stays_core s e c side locked h = record { side = side; locked = locked; board = h.board }
+
+stays_back : (s : State) (e : Executed) (out : Result Outcome Fault) → Stays s e → Stays s (record e { state = with_core e.state (core_back out (secured s).core e.state.core) })
+stays_back s e (Ok (Exchange target ns)) h = go (is_fnc_return target) where
+  go : (t : Bool) → Stays s (record e { state = with_core e.state (cond t (secured s).core e.state.core) })
+  go true = stays_core s e (secured s).core refl refl h
+  go false = stays_core s e e.state.core h.side h.locked h
+stays_back s e (Ok Next) h = stays_core s e e.state.core h.side h.locked h
+stays_back s e (Ok (Jump to)) h = stays_core s e e.state.core h.side h.locked h
+stays_back s e (Ok (Sleep event)) h = stays_core s e e.state.core h.side h.locked h
+stays_back s e (Err fault) h = stays_core s e e.state.core h.side h.locked h
+
+stays_taken : (s : State) (family : Family) (e : Executed) → Stays s e → Stays s (taken_back family (secured s).core e)
+stays_taken s LoadStore e h = stays_back s e e.outcome h
+stays_taken s Alu e h = h
+stays_taken s Branch e h = h
+stays_taken s System e h = h
+
 touching_placed : (s : State) (before : Seen) (code : Code) (i : Insn) → Of before s → Touching (secured s) before (placed (secured s) true code i)
 touching_placed s before code i e =
     touching_cond (secured s) before (is_misplaced i s.core.registers) _ _ (touching_locks (secured s) (secured s) before (Some Undef) [] e)
     (touching_cond (secured s) before (is_passed_over s.core.registers && not (ignores_condition Secure i)) _ _ (touching_skips (secured s) s before code e)
-    (touching_executes (secured s) s before (secured s).core code i _ e (stays_family s i (family_of i))))
+    (touching_executes (secured s) s before code i _ e (stays_taken s (family_of i) _ (stays_family s i (family_of i)))))
 
 touching_decoded : (s : State) (before : Seen) (code : Code) (d : Decoded) → Of before s → Touching (secured s) before (decoded (secured s) true code d)
 touching_decoded s before code (One i width) e = touching_placed s before code i e
