@@ -11,7 +11,7 @@ const S: Side = Side::Secure;
 const NS: Side = Side::NonSecure;
 
 /// Who fetches from which address, the answer, and whether it met Secure memory.
-static AT_BOOT: [(Side, u32, &str, bool); 21] = [
+static AT_BOOT: [(Side, u32, &str, bool); 22] = [
     (S, 0x1000_0000, "bf00", true),
     (NS, 0x1000_0000, "entry point", true),
     (S, 0x1000_0002, "f3af 8000", true),
@@ -27,6 +27,7 @@ static AT_BOOT: [(Side, u32, &str, bool); 21] = [
     (NS, 0x1000_0100, "entry point", true),
     (S, 0x1000_fffe, "exec bus", true),
     (NS, 0x1000_fffe, "entry point", true),
+    (S, 0x3000_7ffe, "bf00", true),
     (S, 0x4000_0000, "exec s", true),
     (S, 0x6000_0000, "exec bus", true),
     (S, 0xa000_0000, "exec s", true),
@@ -45,6 +46,7 @@ fn put_code(bus: &mut Bus) -> bool {
         && put(bus, 0x1000_8000, &[0xe97f, 0xe97f, 0xe97f, 0xbf00])
         && put(bus, 0x1000_0100, &[0xe97f, 0xe97f])
         && put(bus, 0x1000_fffe, &[0xf3af])
+        && put(bus, 0x3000_7ffe, &[0xbf00])
 }
 
 /// Privileged code of a side.
