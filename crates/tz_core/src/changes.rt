@@ -1,6 +1,6 @@
 //! The registers that a step changed, and the stores that it made, as a report has them.
 
-ghost use Rattle.std.specs.Prelude.{◌≡◌, ◌≤◌, ◌<◌, ◌+◌, ◌++◌};
+ghost use Rattle.std.specs.Prelude.{◌≡◌, ◌≤◌, ◌<◌, ◌+◌, ◌++◌, true, []};
 ghost use Rattle.arrayvec.specs.ArrayVec.{array_vec_len};
 ghost use Rattle.tz_sem.specs.Ended.{changed, registers_changed, changes_of};
 
@@ -25,9 +25,33 @@ fn tell(changes: &mut Changes, name: u8, old: u32, new: u32)
     }
 }
 
+/// Whether R0 to R12 are all as they were, which most branches and stores leave them. It compares them without
+/// a branch for each.
+#[tactic(auto, unfolding(tz_sem::specs::Ended::registers_changed))]
+fn all_kept(before: &[u32; 13], after: &[u32; 13]) -> bool
+    ensures { result ≡ true → registers_changed 0 before.now after.now ≡ [] }
+{
+    let mut kept = true;
+    for k in 0..13usize {
+        kept = kept & (before[k] == after[k]);
+    }
+    kept
+}
+
+/// Tells R0 to R12 where they differ.
+fn tell_general(changes: &mut Changes, before: &[u32; 13], after: &[u32; 13])
+    requires { changes.old.items ≡ [] }
+    ensures items { changes.new.items ≡ registers_changed 0 before.now after.now }
+    ensures len { array_vec_len changes.new ≤ 13 }
+{
+    if !all_kept(before, after) {
+        tell_each(changes, before, after);
+    }
+}
+
 /// Tells R0 to R12 where they differ.
 #[tactic(auto, unfolding(tz_sem::specs::Ended::registers_changed))]
-fn tell_general(changes: &mut Changes, before: &[u32; 13], after: &[u32; 13])
+fn tell_each(changes: &mut Changes, before: &[u32; 13], after: &[u32; 13])
     requires { array_vec_len changes.old ≡ 0 }
     ensures items { changes.new.items ≡ registers_changed 0 before.now after.now }
     ensures len { array_vec_len changes.new ≤ 13 }

@@ -1,7 +1,7 @@
 use Rattle.std.proofs.Common.{◌≡◌, ◌≤◌, ◌++◌, drop}
 use Rattle.arrayvec.specs.ArrayVec.{array_vec_len}
 use Rattle.tz_sem.specs.Ended.{registers_changed}
-use Rattle.tz_core.proofs.changes.tell_general.Given as goal
+use Rattle.tz_core.proofs.changes.tell_each.Given as goal
 
 abbrev pub invariant-loop-k : goal.invariant-loop-k
 invariant-loop-k l = record {
