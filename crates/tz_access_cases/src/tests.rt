@@ -3,6 +3,7 @@
 mod attribution;
 mod checks;
 mod fetches;
+mod frames;
 mod memory;
 mod monitor;
 mod registers;

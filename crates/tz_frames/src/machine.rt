@@ -1,0 +1,143 @@
+//! The frames of the machine: words by the bus.
+
+ghost use Rattle.std.specs.Prelude.{◌≡◌, ◌+◌, ◌*◌, true, MatchResult, Some, None};
+ghost use Rattle.tz_table.specs.declared.units.Size.TheVariants.{Word};
+ghost use Rattle.tz_model.specs.Words.{wrap};
+ghost use Rattle.tz_regs.specs.Banks.{of_side};
+ghost use Rattle.tz_state.specs.Memory.{every, word_at};
+ghost use Rattle.tz_state.specs.Attribution.{is_open};
+ghost use Rattle.tz_state.specs.Access.{may_touch};
+ghost use Rattle.tz_state.specs.State.{map_in};
+ghost use Rattle.tz_frames.specs.Machine.{vector_verdict};
+
+use crate::frames::Frames;
+use tz_access::Bus;
+use tz_model::{Fault, RegionSide, Side, Size};
+use tz_state::Asker;
+
+/// Frames over the bus: made for one entry or return.
+#[derive(Drop)]
+pub struct BusFrames<'a> {
+    pub bus: &'a mut Bus,
+    /// The vector tables.
+    pub vtor_s: u32,
+    pub vtor_ns: u32,
+    /// Secure code is privileged.
+    pub secure_privileged: bool,
+    /// The execution priority is below 0.
+    pub negative: bool,
+    /// How many stores they still take.
+    pub room: u32,
+}
+
+/// Whether Non-secure code may read the byte at an address.
+#[tactic(auto, unfolding(tz_state::specs::Attribution::is_open))]
+fn is_open(bus: &Bus, addr: u32) -> bool
+    ensures { result ≡ is_open (map_in bus.now) addr }
+{
+    bus.sau().data_attribution(Side::NonSecure, addr) == RegionSide::NonSecure
+}
+
+/// Whether attribution lets code of a side read the word at an address.
+#[tactic(auto, unfolding(tz_state::specs::Access::may_touch))]
+fn may_touch(bus: &Bus, side: Side, addr: u32) -> bool
+    ensures { result ≡ may_touch (map_in bus.now) side Word addr }
+{
+    match side {
+        Side::Secure => true,
+        Side::NonSecure => {
+            is_open(bus, addr)
+                && is_open(bus, addr.wrapping_add(1))
+                && is_open(bus, addr.wrapping_add(2))
+                && is_open(bus, addr.wrapping_add(3))
+        }
+    }
+}
+
+/// The word of a vector table at an address.
+fn vector_word(bus: &Bus, side: Side, addr: u32) -> Result<u32, Fault>
+    ensures { MatchResult result
+        (λ word. (vector_verdict bus.now side addr ≡ None) × (word ≡ word_at bus.now.memory addr))
+        (λ fault. vector_verdict bus.now side addr ≡ Some fault) }
+{
+    if !may_touch(bus, side, addr) {
+        return Err(Fault::Violation(addr));
+    }
+    match bus.read(addr, Size::Word) {
+        Ok(word) => Ok(word),
+        Err(_) => Err(Fault::Precise(addr)),
+    }
+}
+
+/// An address in a vector table.
+fn vector_at(vtor: u32, number: u16) -> u32
+    ensures { result ≡ wrap (vtor + 4 * number) }
+{
+    vtor.wrapping_add(4 * u32::from(number))
+}
+
+/// Whose words a frame has.
+fn framer(negative: bool, side: Side, privileged: bool) -> Asker
+    ensures { result ≡ record { side = side; privileged = privileged; negative = negative; aligned = true } }
+{
+    Asker {
+        side,
+        privileged,
+        negative,
+        aligned: true,
+    }
+}
+
+/// The vector table of a side.
+fn of_side(side: Side, s: u32, ns: u32) -> u32
+    ensures { result ≡ of_side side s ns }
+{
+    match side {
+        Side::Secure => s,
+        Side::NonSecure => ns,
+    }
+}
+
+impl Frames for BusFrames<'_> {
+    ghost use Rattle.std.specs.Prelude.{ℕ};
+    ghost use Rattle.tz_frames.specs.Machine.{Framed, framed};
+
+    ghost Held = { Framed };
+
+    ghost held = { λ f. record { bus = f.bus.now; vtor_s = f.vtor_s; vtor_ns = f.vtor_ns; secure_privileged = f.secure_privileged; negative = f.negative } };
+
+    ghost answer = { framed };
+
+    ghost room = { λ f. f.room };
+
+    ghost Lent = { ℕ };
+
+    ghost lent = { λ f. f.bus.ghost_name };
+
+    fn vector(&mut self, number: u16, side: Side) -> Result<u32, Fault> {
+        let vtor = of_side(side, self.vtor_s, self.vtor_ns);
+        vector_word(self.bus, side, vector_at(vtor, number))
+    }
+
+    fn secure_load(&mut self, addr: u32) -> Result<u32, Fault> {
+        let asker = framer(self.negative, Side::Secure, self.secure_privileged);
+        self.bus.load(&asker, Size::Word, addr, true, false)
+    }
+
+    fn frame_load(&mut self, addr: u32, side: Side, privileged: bool) -> Result<u32, Fault> {
+        let asker = framer(self.negative, side, privileged);
+        self.bus.load(&asker, Size::Word, addr, true, false)
+    }
+
+    fn frame_store(
+        &mut self,
+        addr: u32,
+        side: Side,
+        privileged: bool,
+        value: u32,
+    ) -> Result<(), Fault> {
+        let asker = framer(self.negative, side, privileged);
+        self.room -= 1;
+        self.bus.store(&asker, Size::Word, addr, value, true, false)
+    }
+}
