@@ -1,5 +1,7 @@
 //! Words of frames and vector tables: of the machine, and of the double.
 
+ghost use Rattle.std.specs.Prelude.{◌≡◌};
+
 use crate::{MPU_CTRL, bus_of, put, set_mpu};
 use std::test::Fail;
 use tz_access::Bus;
@@ -16,7 +18,9 @@ fn frames_over<'a>(
     vtor_s: u32,
     vtor_ns: u32,
     secure_privileged: bool,
-) -> BusFrames<'a> {
+) -> BusFrames<'a>
+    ensures { result.room ≡ 40 }
+{
     BusFrames {
         bus,
         vtor_s,
@@ -61,6 +65,7 @@ fn words(rt: HostRuntime) -> Result<(), Fail> {
             Err(Fault::Unaligned)
         )
     );
+    let mut frames = frames_over(&mut bus, 0, 0, true);
     let store = frames.frame_store(0x0020_0040, NS, true, 1);
     assert!(rt; matches!(store, Err(Fault::Precise(0x0020_0040))));
     let load = frames.frame_load(0xe000_ed08, NS, true);
