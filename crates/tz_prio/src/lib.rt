@@ -1,0 +1,14 @@
+//! The execution priority, and what it lets be taken (DDI0553, `ExecutionPriority`, `RawExecutionPriority`).
+//!
+//! It joins the exceptions of `tz_nvic` with the masks of `tz_regs`; it changes neither. A lower number is
+//! more urgent.
+#![tactic(auto)]
+
+mod active;
+mod escalation;
+mod execution;
+mod masks;
+
+pub use active::raw_priority;
+pub use escalation::{Taken, escalate};
+pub use execution::{can_take, execution_priority};
