@@ -3,3 +3,4 @@ pub mod Changes
 pub mod Timers
 pub mod Priority
 pub mod Least
+pub mod First

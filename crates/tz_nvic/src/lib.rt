@@ -7,6 +7,7 @@
 
 mod choice;
 mod exceptions;
+mod laws;
 mod place;
 mod priority;
 mod side;
@@ -14,5 +15,6 @@ mod slot;
 mod tick;
 
 pub use exceptions::Exceptions;
+pub use laws::chosen_comes_first;
 pub use place::PLACES;
 pub use slot::{SlotState, Timer};
