@@ -15,6 +15,6 @@ mod slot;
 mod tick;
 
 pub use exceptions::Exceptions;
-pub use laws::chosen_comes_first;
+pub use laws::{chosen_comes_first, places_tell_slots};
 pub use place::PLACES;
 pub use slot::{SlotState, Timer};
