@@ -12,6 +12,8 @@ mod place;
 mod priority;
 mod side;
 mod slot;
+#[cfg(test)]
+mod tests;
 mod tick;
 
 pub use exceptions::Exceptions;

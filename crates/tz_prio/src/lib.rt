@@ -8,6 +8,8 @@ mod active;
 mod escalation;
 mod execution;
 mod masks;
+#[cfg(test)]
+mod tests;
 
 pub use active::raw_priority;
 pub use escalation::{Taken, escalate};
