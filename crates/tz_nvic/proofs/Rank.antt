@@ -1,11 +1,11 @@
 -- What ranks say.
-use Rattle.std.proofs.Common.{◌≡◌, ◌≢◌, ◌⊎◌, inl, inr, ℕ, suc, ◌+◌, ◌*◌, ◌%◌, ◌^◌, ◌<◌, ◌≤◌, Bool, true, false, cond, refl, arith}
+use Rattle.std.proofs.Common.{◌≡◌, ◌≢◌, ◌⊎◌, inl, inr, ℕ, ◌+◌, ◌*◌, ◌%◌, ◌^◌, ◌<◌, ◌≤◌, Bool, true, false, cond, arith}
 use Rattle.std.proofs.Math.Pow.{pow_mono}
 use Rattle.std.proofs.lemmas.Nat.{pow_pos}
 use Rattle.tz_table.specs.declared.units.Side.{Side}
 use Rattle.tz_table.specs.declared.units.Side.TheVariants.{Secure, NonSecure}
 use Rattle.tz_nvic.specs.Slots.{ExceptionsValue, number_at, side_at, at, is_fixed}
-use Rattle.tz_nvic.specs.Priority.{group_size, subgroup_of, priority_of, subpriority_of, rank_of}
+use Rattle.tz_nvic.specs.Priority.{subgroup_of, priority_of, subpriority_of, rank_of}
 use Rattle.tz_nvic.specs.First.{ComesBefore, FitGroups}
 
 rest_few : (n byte : ℕ) → n ≤ 7 → byte % 2 ^ (n + 1) < 256

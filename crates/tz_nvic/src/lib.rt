@@ -1,5 +1,5 @@
 //! The exceptions of a core: which are pending, active and enabled, their priorities, what groups them,
-//! both SysTick timers, and which exception comes first (DDI0553, chapters B3.9 to B3.13, B11 and B12).
+//! both SysTick timers, and which exception comes first (DDI0553, chapter B3, and the registers of NVIC and SysTick).
 //!
 //! A slot is a number with its side. All slots stand in one table by `index_of`; the definitions in `specs/`
 //! speak of that table and of the fields beside it. Nothing here knows the masks of the core.

@@ -1,4 +1,4 @@
--- What a synchronous exception becomes (DDI0553, `HandleException`, chapter B3.9, escalation).
+-- What a synchronous exception becomes (DDI0553, `CreateException`).
 use Rattle.std.specs.Prelude.{ℕ, nat_lt, Bool, ◌&&◌, if◌then◌else◌}
 use Rattle.tz_table.specs.declared.units.Side.{Side}
 use Rattle.tz_table.specs.declared.units.Side.TheVariants.{Secure}

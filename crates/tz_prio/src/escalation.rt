@@ -42,7 +42,7 @@ fn hardened(masks: &Masks, exceptions: &Exceptions, side: Side) -> Taken
     }
 }
 
-/// What becomes of a synchronous exception (DDI0553, escalation): it stays as it is where it is enabled and its
+/// What becomes of a synchronous exception (DDI0553, `CreateException`): it stays as it is where it is enabled and its
 /// priority is below the execution priority. Else it is HardFault, which is Secure, but of the exception's side
 /// while BFHFNMINS is 1; where that isn't below the execution priority, the core locks. The slot exists.
 pub fn escalate(core: &Core, exceptions: &Exceptions, slot: Slot) -> Taken

@@ -7,6 +7,7 @@
 mod active;
 mod escalation;
 mod execution;
+mod laws;
 mod masks;
 #[cfg(test)]
 mod tests;
@@ -14,3 +15,4 @@ mod tests;
 pub use active::raw_priority;
 pub use escalation::{Taken, escalate};
 pub use execution::{can_take, execution_priority};
+pub use laws::masks_alone;

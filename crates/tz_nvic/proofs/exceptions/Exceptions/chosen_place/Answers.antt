@@ -1,17 +1,14 @@
 -- What is found below one more place; the numeral 272 must not unfold.
-use Rattle.std.proofs.Common.{◌≡◌, ℕ, Option, Some, cond, ap, ◌∙◌, add-one, arith}
-use Rattle.tz_nvic.specs.Least.{lower_of, least_below}
+use Rattle.std.proofs.Common.{◌≡◌, ap, ◌∙◌, add-one, arith}
+use Rattle.tz_nvic.specs.Least.{least_below}
 use Rattle.tz_nvic.specs.Priority.{is_ready, rank_of}
 use Rattle.tz_nvic.proofs.exceptions.Exceptions.chosen_place.Goals as goal
 
 pub loop-index-preserved : goal.loop-index-preserved
 unfolding least_below
 loop-index-preserved g c =
-    let e = c.args.self.now in
-    let i = c.loop-index.index in
     record {
-      best = rw add-one (c.found_with-best.ensures.is
-          ∙ ap (λ (o : Option ℕ). cond (is_ready e i) (Some (lower_of (rank_of e) i o)) o) c.loop-index.invariant.best);
+      best = rw add-one (rw c.loop-index.invariant.best at c.found_with-best.ensures.is);
       few = c.found_with-best.ensures.few;
       place = c.found_with-best.ensures.place;
       looks = omega (arith, c.look.ensures, c.loop-index.invariant.looks);
