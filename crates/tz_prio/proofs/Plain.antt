@@ -1,13 +1,13 @@
 -- Where nothing is active and nothing moves priorities, the execution priority is that of the masks alone.
 use Rattle.std.proofs.Common.{◌≡◌, ℕ, zero, suc, ◌+◌, ◌*◌, ◌/◌, ◌<◌, ◌≤◌, min, Bool, true, false, cond, refl, sym, ap, ◌∙◌, arith}
-use Rattle.std.specs.Prelude.{ℤ, pos, neg_ℤ, ◌-ℤ◌, ◌==◌, not}
+use Rattle.std.specs.Prelude.{ℤ, pos, neg_ℤ, ◌==◌, not}
 use Rattle.std.proofs.lemmas.Int.{ints}
 use Rattle.tz_table.specs.declared.units.Side.TheVariants.{Secure, NonSecure}
 use Rattle.tz_regs.specs.declared.parts.Masks.{Masks}
 use Rattle.tz_regs.specs.declared.parts.SideMasks.{SideMasks}
 use Rattle.tz_regs.specs.Priority.{lower, masked, common_priority, mask_priority}
 use Rattle.tz_nvic.specs.Slots.{ExceptionsValue}
-use Rattle.tz_prio.specs.Execution.{manual_priority, is_active, active_below, basepri_priority, primask_priority, faultmask_priority, raw_priority, execution}
+use Rattle.tz_prio.specs.Execution.{manual_priority, is_active, active_below, basepri_priority, primask_priority, faultmask_priority, execution}
 use Rattle.tz_prio.specs.Plain.{IsPlain}
 
 none_with : (t : Bool) (x y : ℕ) → t ≡ false → cond t x y ≡ y
