@@ -16,7 +16,7 @@ impl Exceptions {
         requires { index < 272 }
         ensures { result ≡ is_ready self.now index }
     {
-        self.is_place(index) && self.slots[index].pending && self.is_enabled(index)
+        self.slots[index].pending && self.is_enabled(index) && self.is_place(index)
     }
 
     /// What is found with one more place.

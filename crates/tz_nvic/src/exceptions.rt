@@ -1,6 +1,6 @@
 //! The table of slots: what is pending, active and enabled, priorities and targets.
 
-ghost use Rattle.std.specs.Prelude.{◌≡◌, ◌≤◌, ◌<◌, true, IfOk, IsTrue};
+ghost use Rattle.std.specs.Prelude.{◌≡◌, ◌≤◌, ◌<◌, ◌+◌, true, IfOk, IsTrue};
 ghost use Rattle.tz_nvic.specs.Slots.{at, exists, is_external, is_place, side_at, slot_at, index_of, is_enabled, reset_exceptions};
 ghost use Rattle.tz_nvic.specs.Changes.{pended, unpended, activated, deactivated, prioritized, switched, targeted};
 
@@ -246,7 +246,7 @@ impl Exceptions {
     /// The side of an external interrupt of the core.
     pub fn target(&self, number: u16) -> Side
         requires { is_external self.now number ≡ true }
-        ensures { result ≡ (at self.now (index_of (record { number = number; side = Side.Secure }))).target }
+        ensures { result ≡ (at self.now (number + 16)).target }
     {
         self.slots[usize::from(number) + 16].target
     }

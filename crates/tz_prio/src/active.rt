@@ -14,7 +14,7 @@ fn least_with(exceptions: &Exceptions, index: usize, least: u32) -> u32
     ensures is { result ≡ (if is_active exceptions.now index then min (priority_of exceptions.now index) least else least) }
     ensures few { result ≤ 260 }
 {
-    if exceptions.is_place(index) && exceptions.at(index).active {
+    if exceptions.at(index).active && exceptions.is_place(index) {
         exceptions.priority_of(index).min(least)
     } else {
         least
