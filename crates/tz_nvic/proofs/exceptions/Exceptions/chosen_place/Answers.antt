@@ -1,0 +1,20 @@
+-- What is found below one more place; the numeral 272 must not unfold.
+use Rattle.std.proofs.Common.{◌≡◌, ap, ◌∙◌, add-one, arith}
+use Rattle.tz_nvic.specs.Least.{least_below}
+use Rattle.tz_nvic.specs.Priority.{is_ready, rank_of}
+use Rattle.tz_nvic.proofs.exceptions.Exceptions.chosen_place.Goals as goal
+
+pub loop-index-preserved : goal.loop-index-preserved
+unfolding least_below
+loop-index-preserved g c =
+    record {
+      best = rw add-one (rw c.loop-index.invariant.best at c.found_with-best.ensures.is);
+      few = c.found_with-best.ensures.few;
+      place = c.found_with-best.ensures.place;
+      looks = omega (arith, c.look.ensures, c.loop-index.invariant.looks);
+    }
+
+pub returns-clause-is : goal.returns-clause-is
+returns-clause-is g c =
+    let e : c.loop-index.index ≡ 272 = omega arith in
+    c.loop-index.invariant.best ∙ ap (least_below (is_ready c.args.self.now) (rank_of c.args.self.now)) e

@@ -1,0 +1,75 @@
+//! The choice among the exceptions.
+
+ghost use Rattle.std.specs.Prelude.{◌≡◌, ◌≤◌, ◌<◌, ◌+◌, true, IfSome, if◌then◌else◌};
+ghost use Rattle.tz_nvic.specs.Slots.{exists, is_place};
+ghost use Rattle.tz_nvic.specs.Least.{lower_of};
+ghost use Rattle.tz_nvic.specs.Priority.{is_ready, rank_of, chosen_place, chosen};
+
+use crate::exceptions::Exceptions;
+use std::sync::ledger::Ledger;
+use tz_model::Slot;
+use tz_ready::Steps;
+
+impl Exceptions {
+    /// Whether a slot stands at a place that is pending and enabled.
+    fn is_ready(&self, index: usize) -> bool
+        requires { index < 272 }
+        ensures { result ≡ is_ready self.now index }
+    {
+        self.slots[index].pending && self.is_enabled(index) && self.is_place(index)
+    }
+
+    /// What is found with one more place.
+    fn found_with(&self, index: usize, found: Option<usize>) -> Option<usize>
+        requires index { index < 272 }
+        requires found { IfSome found (λ i. i < 272) }
+        requires place { IfSome found (λ i. is_place self.now i ≡ true) }
+        ensures is { result ≡ (if is_ready self.now index then Some (lower_of (rank_of self.now) index found) else found) }
+        ensures few { IfSome result (λ i. i < 272) }
+        ensures place { IfSome result (λ i. is_place self.now i ≡ true) }
+    {
+        if !self.is_ready(index) {
+            return found;
+        }
+        match found {
+            None => Some(index),
+            Some(other) => {
+                if self.rank_of(index) < self.rank_of(other) {
+                    Some(index)
+                } else {
+                    Some(other)
+                }
+            }
+        }
+    }
+
+    /// The place of the slot that comes first, by a look at each.
+    #[tactic(auto, unfolding(crate::specs::Least::least_below))]
+    fn chosen_place<L: Ledger>(&self, steps: &mut Steps<L>) -> Option<usize>
+        ensures is { result ≡ chosen_place self.now }
+        ensures few { IfSome result (λ i. i < 272) }
+        ensures place { IfSome result (λ i. is_place self.now i ≡ true) }
+        ensures looks { steps.new ≡ steps.old + 272 }
+    {
+        let mut best: Option<usize> = None;
+        for index in 0..272 {
+            steps.look();
+            best = self.found_with(index, best);
+        }
+        best
+    }
+
+    /// The exception that comes first (DDI0553, `PendingExceptionDetails`): of those that are pending and
+    /// enabled, that of the least group priority, then subpriority, then number, and of one number the Secure
+    /// one. None exactly where nothing is pending and enabled. It looks at each slot once.
+    pub fn chosen<L: Ledger>(&self, steps: &mut Steps<L>) -> Option<Slot>
+        ensures is { result ≡ chosen self.now }
+        ensures exists { IfSome result (λ slot. exists self.now slot ≡ true) }
+        ensures looks { steps.new ≡ steps.old + 272 }
+    {
+        match self.chosen_place(steps) {
+            None => None,
+            Some(index) => Some(self.slot_at(index)),
+        }
+    }
+}

@@ -1,0 +1,66 @@
+//! The place of each slot.
+
+ghost use Rattle.std.specs.Prelude.{◌≡◌, ◌<◌};
+ghost use Rattle.tz_nvic.specs.Slots.{is_banked, is_system, bank_of, index_of, number_at, is_always_enabled};
+
+use tz_model::{Side, Slot};
+
+/// How many places there are.
+pub const PLACES: usize = 272;
+
+/// Whether a number has a slot on each side.
+pub(crate) fn is_banked(number: u16) -> bool
+    ensures { result ≡ is_banked number }
+{
+    number == 3 || number == 4 || number == 6 || number == 11 || number == 14 || number == 15
+}
+
+/// Whether a number is one of the system's.
+pub(crate) fn is_system(number: u16) -> bool
+    ensures { result ≡ is_system number }
+{
+    number == 2 || number == 5 || number == 7 || is_banked(number)
+}
+
+/// Whether an exception of this number can't be disabled.
+pub(crate) fn is_always_enabled(number: u16) -> bool
+    ensures { result ≡ is_always_enabled number }
+{
+    number == 2 || number == 3 || number == 11 || number == 14 || number == 15
+}
+
+/// 1 for the Non-secure slot of a banked number, else 0.
+fn bank_of(number: u16, side: Side) -> usize
+    ensures is { result ≡ bank_of number side }
+    ensures few { result < 2 }
+{
+    match side {
+        Side::Secure => 0,
+        Side::NonSecure => { if is_banked(number) { 1 } else { 0 } }
+    }
+}
+
+/// The place of a slot.
+pub(crate) fn index_of(slot: Slot) -> usize
+    requires { slot.number < 256 }
+    ensures is { result ≡ index_of slot }
+    ensures few { result < 272 }
+{
+    if slot.number < 16 {
+        2 * usize::from(slot.number) + bank_of(slot.number, slot.side)
+    } else {
+        usize::from(slot.number) + 16
+    }
+}
+
+/// The number whose slot stands at a place.
+pub(crate) fn number_at(index: usize) -> u16
+    requires { index < 272 }
+    ensures { result ≡ number_at index }
+{
+    if index < 32 {
+        index as u16 / 2
+    } else {
+        index as u16 - 16
+    }
+}

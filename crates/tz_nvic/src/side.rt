@@ -1,0 +1,104 @@
+//! What each side chooses: PRIGROUP, PRIS, BFHFNMINS and the timers.
+
+ghost use Rattle.std.specs.Prelude.{◌≡◌, ◌≤◌};
+ghost use Rattle.tz_nvic.specs.Slots.{prigroup_of, timer_of};
+ghost use Rattle.tz_nvic.specs.Changes.{is_fault_side_held, with_prigroup, with_fault_side, with_timer, timer_bits};
+
+use crate::exceptions::Exceptions;
+use crate::slot::Timer;
+use tz_model::Side;
+
+impl Exceptions {
+    /// AIRCR.PRIGROUP of a side, at most 7.
+    pub fn grouping(&self, side: Side) -> u8
+        ensures is { result ≡ prigroup_of self.now side }
+        ensures few { result ≤ 7 }
+    {
+        match side {
+            Side::Secure => self.prigroup_s,
+            Side::NonSecure => self.prigroup_ns,
+        }
+    }
+
+    /// Writes AIRCR.PRIGROUP of a side, at most 7.
+    pub fn set_grouping(&mut self, side: Side, n: u8)
+        requires { n ≤ 7 }
+        ensures { self.new ≡ with_prigroup self.old side n }
+    {
+        match side {
+            Side::Secure => self.prigroup_s = n,
+            Side::NonSecure => self.prigroup_ns = n,
+        }
+    }
+
+    /// AIRCR.PRIS: whether Non-secure priorities count in the upper half.
+    pub fn pris(&self) -> bool
+        ensures { result ≡ self.now.pris }
+    {
+        self.pris
+    }
+
+    /// Writes AIRCR.PRIS.
+    pub fn set_pris(&mut self, on: bool)
+        ensures { self.new ≡ record self.old { pris = on } }
+    {
+        self.pris = on;
+    }
+
+    /// AIRCR.BFHFNMINS: whether NMI and BusFault are Non-secure.
+    pub fn fault_side(&self) -> bool
+        ensures { result ≡ self.now.bfhfnmins }
+    {
+        self.bfhfnmins
+    }
+
+    /// Whether NMI, BusFault or a HardFault of either side is pending or active.
+    fn is_fault_side_held(&self) -> bool
+        ensures { result ≡ is_fault_side_held self.now }
+    {
+        let nmi = self.slots[4];
+        let bus = self.slots[10];
+        let hard_s = self.slots[6];
+        let hard_ns = self.slots[7];
+        nmi.pending
+            || nmi.active
+            || (bus.pending || bus.active)
+            || (hard_s.pending || hard_s.active)
+            || (hard_ns.pending || hard_ns.active)
+    }
+
+    /// Writes AIRCR.BFHFNMINS, except while NMI, BusFault or a HardFault of either side is pending or active;
+    /// then it stays.
+    pub fn set_fault_side(&mut self, on: bool)
+        ensures { self.new ≡ with_fault_side self.old on }
+    {
+        if !self.is_fault_side_held() {
+            self.bfhfnmins = on;
+        }
+    }
+
+    /// The SysTick timer of a side.
+    pub fn timer(&self, side: Side) -> Timer
+        ensures { result ≡ timer_of self.now side }
+    {
+        match side {
+            Side::Secure => self.timer_s,
+            Side::NonSecure => self.timer_ns,
+        }
+    }
+
+    /// Writes the SysTick timer of a side, the bits that its registers have.
+    pub fn set_timer(&mut self, side: Side, timer: Timer)
+        ensures { self.new ≡ with_timer self.old side (timer_bits timer) }
+    {
+        let kept = Timer {
+            csr: timer.csr & 0x0001_0007,
+            rvr: timer.rvr & 0x00ff_ffff,
+            cvr: timer.cvr & 0x00ff_ffff,
+        };
+        match side {
+            Side::Secure => self.timer_s = kept,
+            Side::NonSecure => self.timer_ns = kept,
+        }
+    }
+}

@@ -1,0 +1,74 @@
+//! The priorities of masks, four above the manual's.
+
+ghost use Rattle.std.specs.Prelude.{◌≡◌, ◌≤◌};
+ghost use Rattle.tz_prio.specs.Execution.{basepri_priority, primask_priority, faultmask_set, faultmask_priority, side_priority};
+
+use tz_model::Side;
+use tz_nvic::Exceptions;
+use tz_regs::SideMasks;
+
+/// That of no mask.
+const IDLE_PRIORITY: u32 = 260;
+
+/// The priority of BASEPRI of a side.
+fn basepri(exceptions: &Exceptions, side: Side, byte: u8) -> u32
+    ensures is { result ≡ basepri_priority exceptions.now side byte }
+    ensures few { result ≤ 260 }
+{
+    if byte == 0 {
+        IDLE_PRIORITY
+    } else {
+        4 + exceptions.counted(side, exceptions.group_of(side, byte))
+    }
+}
+
+/// The priority of PRIMASK of a side.
+fn primask(exceptions: &Exceptions, side: Side, set: bool) -> u32
+    ensures is { result ≡ primask_priority exceptions.now side set }
+    ensures few { result ≤ 260 }
+{
+    if set {
+        4 + exceptions.counted(side, 0)
+    } else {
+        IDLE_PRIORITY
+    }
+}
+
+/// The priority of FAULTMASK of a side where it is set.
+fn faultmask_set(exceptions: &Exceptions, side: Side) -> u32
+    ensures is { result ≡ faultmask_set exceptions.now side }
+    ensures few { result ≤ 260 }
+{
+    match side {
+        Side::Secure => exceptions.hard_priority(Side::Secure),
+        Side::NonSecure => {
+            if exceptions.fault_side() {
+                exceptions.hard_priority(Side::NonSecure)
+            } else {
+                4 + exceptions.counted(Side::NonSecure, 0)
+            }
+        }
+    }
+}
+
+/// The priority of FAULTMASK of a side.
+fn faultmask(exceptions: &Exceptions, side: Side, set: bool) -> u32
+    ensures is { result ≡ faultmask_priority exceptions.now side set }
+    ensures few { result ≤ 260 }
+{
+    if set {
+        faultmask_set(exceptions, side)
+    } else {
+        IDLE_PRIORITY
+    }
+}
+
+/// The priority of the masks of a side.
+pub(crate) fn side_priority(exceptions: &Exceptions, side: Side, masks: &SideMasks) -> u32
+    ensures is { result ≡ side_priority exceptions.now side masks.now }
+    ensures few { result ≤ 260 }
+{
+    let base = basepri(exceptions, side, masks.basepri);
+    let prime = primask(exceptions, side, masks.primask);
+    base.min(prime.min(faultmask(exceptions, side, masks.faultmask)))
+}
