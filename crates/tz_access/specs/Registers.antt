@@ -1,10 +1,8 @@
 -- The registers of the SAU and of the MPUs, as the bus has them.
 use Rattle.std.specs.Prelude.{ℕ, Bool, if◌then◌else◌}
 use Rattle.tz_table.specs.declared.units.Side.{Side}
-use Rattle.tz_table.specs.declared.units.Side.TheVariants.{Secure, NonSecure}
 use Rattle.tz_model.specs.Board.{within}
-use Rattle.tz_state.specs.Protection.{MpuState}
-use Rattle.tz_state.specs.State.{Bus, mpu_of}
+use Rattle.tz_state.specs.State.{Bus, mpu_of, with_mpu}
 use Rattle.tz_state.specs.UnitRegisters.{sau_register, sau_read, sau_written, mpu_register, mpu_read, mpu_written}
 
 -- the SAU's registers
@@ -15,10 +13,6 @@ is_of_sau addr = within 0xE000EDD0 0xE000EDE0 addr
 abbrev pub unit_read : Bus → Side → ℕ → ℕ
 unit_read b side addr =
     if is_of_sau addr then sau_read b.sau (sau_register addr) else mpu_read (mpu_of side b) (mpu_register addr)
-
-abbrev pub with_mpu : Bus → Side → MpuState → Bus
-with_mpu b Secure m = record b { mpu_s = m }
-with_mpu b NonSecure m = record b { mpu_ns = m }
 
 -- and takes no write
 abbrev pub unit_written : Bus → Side → ℕ → ℕ → Bus

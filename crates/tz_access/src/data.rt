@@ -1,11 +1,11 @@
 //! Data accesses: alignment, attribution, protection, the map, in this order.
 
-ghost use Rattle.std.specs.Prelude.{◌≡◌, MatchResult, None, Some};
+ghost use Rattle.std.specs.Prelude.{◌≡◌, MatchResult, None, Some, if◌then◌else◌};
 ghost use Rattle.tz_state.specs.declared.request.Kind.TheVariants.{Read, Write};
 ghost use Rattle.tz_state.specs.Memory.{every, value_at, with_value};
 ghost use Rattle.tz_state.specs.Attribution.{is_open};
 ghost use Rattle.tz_state.specs.State.{map_in, with_memory};
-ghost use Rattle.tz_state.specs.Access.{is_aligned, is_crooked, may_touch, is_let, lets, takes, is_private, verdict, request_by, unbuilt};
+ghost use Rattle.tz_state.specs.Access.{is_aligned, is_crooked, may_touch, is_let, lets, takes, is_private, verdict, request_by};
 ghost use Rattle.tz_access.specs.Checks.{is_system, left_by};
 
 use crate::bus::Bus;
@@ -144,8 +144,7 @@ impl Bus {
         }
     }
 
-    /// A load of the code that asks. The system registers aren't built: an access to them that no check
-    /// refuses gives a bus fault.
+    /// A load of the code that asks: what memory holds, and none in private space, where the system registers are.
     ///
     /// # Errors
     ///
@@ -157,24 +156,24 @@ impl Bus {
         addr: u32,
         must_align: bool,
         user: bool,
-    ) -> Result<u32, Fault>
+    ) -> Result<Option<u32>, Fault>
         ensures { MatchResult result
-            (λ value. (unbuilt addr (verdict self.now (request_by asker.now Read size addr must_align user)) ≡ None) × (value ≡ value_at self.now.memory size addr))
-            (λ fault. unbuilt addr (verdict self.now (request_by asker.now Read size addr must_align user)) ≡ Some fault) }
+            (λ found. (verdict self.now (request_by asker.now Read size addr must_align user) ≡ None) × (found ≡ (if is_private addr then None else Some (value_at self.now.memory size addr))))
+            (λ fault. verdict self.now (request_by asker.now Read size addr must_align user) ≡ Some fault) }
     {
         let request = request_by(asker, Kind::Read, size, addr, must_align, user);
         match self.guard(&request) {
             Err(fault) => Err(fault),
-            Ok(Place::System) => Err(Fault::Precise(addr)),
+            Ok(Place::System) => Ok(None),
             Ok(Place::Memory) => match self.memory.read(addr, size) {
                 Err(_) => Err(Fault::Precise(addr)),
-                Ok(value) => Ok(value),
+                Ok(value) => Ok(Some(value)),
             },
         }
     }
 
-    /// A store of the low part of a number by the code that asks, as `load` loads. Nothing changes on an
-    /// error.
+    /// A store of the low part of a number by the code that asks. In private space, where the system registers
+    /// are, nothing is written; nor does anything change on an error.
     ///
     /// # Errors
     ///
@@ -187,18 +186,18 @@ impl Bus {
         value: u32,
         must_align: bool,
         user: bool,
-    ) -> Result<(), Fault>
+    ) -> Result<Place, Fault>
         ensures { MatchResult result
-            (λ _. (unbuilt addr (verdict self.old (request_by asker.now Write size addr must_align user)) ≡ None) × (self.new ≡ with_memory self.old (with_value self.old.memory size addr value)))
-            (λ fault. (unbuilt addr (verdict self.old (request_by asker.now Write size addr must_align user)) ≡ Some fault) × (self.new ≡ self.old)) }
+            (λ place. (verdict self.old (request_by asker.now Write size addr must_align user) ≡ None) × (is_system place ≡ is_private addr) × (self.new ≡ (if is_private addr then self.old else with_memory self.old (with_value self.old.memory size addr value))))
+            (λ fault. (verdict self.old (request_by asker.now Write size addr must_align user) ≡ Some fault) × (self.new ≡ self.old)) }
     {
         let request = request_by(asker, Kind::Write, size, addr, must_align, user);
         match self.guard(&request) {
             Err(fault) => Err(fault),
-            Ok(Place::System) => Err(Fault::Precise(addr)),
+            Ok(Place::System) => Ok(Place::System),
             Ok(Place::Memory) => match self.memory.write(addr, size, value) {
                 Err(_) => Err(Fault::Precise(addr)),
-                Ok(()) => Ok(()),
+                Ok(()) => Ok(Place::Memory),
             },
         }
     }

@@ -1,10 +1,13 @@
-//! The registers of the SAU and of the MPUs by their addresses (DDI0553, chapter D1.2).
+//! The registers of the SAU and of the MPUs, by their names and by their addresses (DDI0553, chapter D1.2).
 
 ghost use Rattle.std.specs.Prelude.{◌≡◌};
-ghost use Rattle.tz_access.specs.Registers.{is_of_sau, unit_read, unit_written, with_mpu};
+ghost use Rattle.tz_state.specs.State.{mpu_of, with_mpu};
+ghost use Rattle.tz_state.specs.UnitRegisters.{sau_value, with_sau_value, mpu_value, with_mpu_value};
+ghost use Rattle.tz_access.specs.Registers.{is_of_sau, unit_read, unit_written};
 
 use crate::bus::Bus;
 use tz_model::Side;
+use tz_state::{MpuRegister, SauRegister};
 
 /// Whether an address is one of the SAU's registers.
 fn is_of_sau(addr: u32) -> bool
@@ -14,6 +17,37 @@ fn is_of_sau(addr: u32) -> bool
 }
 
 impl Bus {
+    /// The value of a register of the SAU.
+    pub fn sau_register(&self, register: SauRegister) -> u32
+        ensures { result ≡ sau_value self.now.sau register }
+    {
+        self.sau.value(register)
+    }
+
+    /// Writes a register of the SAU, the bits that it has.
+    pub fn set_sau_register(&mut self, register: SauRegister, value: u32)
+        ensures { self.new ≡ record self.old { sau = with_sau_value self.old.sau register value } }
+    {
+        self.sau.set(register, value);
+    }
+
+    /// The value of a register of the MPU of a side.
+    pub fn mpu_register(&self, side: Side, register: MpuRegister) -> u32
+        ensures { result ≡ mpu_value (mpu_of side self.now) register }
+    {
+        self.mpu(side).value(register)
+    }
+
+    /// Writes a register of the MPU of a side, the bits that it has on the board's profile.
+    pub fn set_mpu_register(&mut self, side: Side, register: MpuRegister, value: u32)
+        ensures { self.new ≡ with_mpu self.old side (with_mpu_value self.old.board.profile (mpu_of side self.old) register value) }
+    {
+        match side {
+            Side::Secure => self.mpu_s.set(register, value),
+            Side::NonSecure => self.mpu_ns.set(register, value),
+        }
+    }
+
     /// The register of the SAU, or of the MPU of a side, at an address; one that isn't there reads zero.
     pub fn register(&self, addr: u32, side: Side) -> u32
         ensures { result ≡ unit_read self.now side addr }

@@ -11,7 +11,7 @@ use Rattle.tz_state.specs.declared.asker.Asker.{Asker}
 use Rattle.tz_state.specs.declared.request.Kind.{Kind}
 use Rattle.tz_state.specs.declared.request.Kind.TheVariants.{Read, Write}
 use Rattle.tz_state.specs.Memory.{every, word_at, with_word}
-use Rattle.tz_state.specs.Access.{may_touch, is_mapped, verdict, request_by, unbuilt}
+use Rattle.tz_state.specs.Access.{may_touch, is_mapped, is_private, verdict, request_by}
 use Rattle.tz_state.specs.State.{Bus, map_in, with_memory}
 use Rattle.tz_frames.specs.Looks.{Looking, Vector, SecureLoad, FrameLoad, FrameStore}
 
@@ -30,10 +30,14 @@ pub record Framed : Type 0 where
 abbrev pub framer : Framed → Side → Bool → Asker
 framer f side privileged = record { side = side; privileged = privileged; negative = f.negative; aligned = true }
 
--- all checks of a data access; (own) frames know the board's regions alone, so in private space they fail as in the
--- map
+-- (own) frames know the board's regions alone, so in private space they fail as in the map
+abbrev pub in_map_alone : ℕ → Option Fault → Option Fault
+in_map_alone addr None = if is_private addr then Some (Precise addr) else None
+in_map_alone addr (Some fault) = Some fault
+
+-- all checks of a data access
 abbrev pub frame_verdict : Framed → Kind → ℕ → Side → Bool → Option Fault
-frame_verdict f kind addr side privileged = unbuilt addr (verdict f.bus (request_by (framer f side privileged) kind Word addr true false))
+frame_verdict f kind addr side privileged = in_map_alone addr (verdict f.bus (request_by (framer f side privileged) kind Word addr true false))
 
 abbrev pub vector_at : Framed → ℕ → Side → ℕ
 vector_at f number side = wrap (of_side side f.vtor_s f.vtor_ns + 4 * number)

@@ -98,6 +98,32 @@ fn of_side(side: Side, s: u32, ns: u32) -> u32
     }
 }
 
+/// A word of a frame, which no private space has.
+fn load_word(bus: &Bus, asker: &Asker, addr: u32) -> Result<u32, Fault>
+    ensures { MatchResult result
+        (λ word. (in_map_alone addr (verdict bus.now (request_by asker.now Read Word addr true false)) ≡ None) × (word ≡ word_at bus.now.memory addr))
+        (λ fault. in_map_alone addr (verdict bus.now (request_by asker.now Read Word addr true false)) ≡ Some fault) }
+{
+    match bus.load(asker, Size::Word, addr, true, false) {
+        Ok(Some(word)) => Ok(word),
+        Ok(None) => Err(Fault::Precise(addr)),
+        Err(fault) => Err(fault),
+    }
+}
+
+/// Writes a word of a frame, which no private space has.
+fn store_word(bus: &mut Bus, asker: &Asker, addr: u32, value: u32) -> Result<(), Fault>
+    ensures { MatchResult result
+        (λ _. (in_map_alone addr (verdict bus.old (request_by asker.now Write Word addr true false)) ≡ None) × (bus.new ≡ with_memory bus.old (with_word bus.old.memory addr value)))
+        (λ fault. (in_map_alone addr (verdict bus.old (request_by asker.now Write Word addr true false)) ≡ Some fault) × (bus.new ≡ bus.old)) }
+{
+    match bus.store(asker, Size::Word, addr, value, true, false) {
+        Ok(Place::Memory) => Ok(()),
+        Ok(Place::System) => Err(Fault::Precise(addr)),
+        Err(fault) => Err(fault),
+    }
+}
+
 impl Frames for BusFrames<'_> {
     ghost use Rattle.std.specs.Prelude.{ℕ};
     ghost use Rattle.tz_frames.specs.Machine.{Framed, framed};
@@ -121,12 +147,12 @@ impl Frames for BusFrames<'_> {
 
     fn secure_load(&mut self, addr: u32) -> Result<u32, Fault> {
         let asker = framer(self.negative, Side::Secure, self.secure_privileged);
-        self.bus.load(&asker, Size::Word, addr, true, false)
+        load_word(self.bus, &asker, addr)
     }
 
     fn frame_load(&mut self, addr: u32, side: Side, privileged: bool) -> Result<u32, Fault> {
         let asker = framer(self.negative, side, privileged);
-        self.bus.load(&asker, Size::Word, addr, true, false)
+        load_word(self.bus, &asker, addr)
     }
 
     fn frame_store(
@@ -138,6 +164,6 @@ impl Frames for BusFrames<'_> {
     ) -> Result<(), Fault> {
         let asker = framer(self.negative, side, privileged);
         self.room -= 1;
-        self.bus.store(&asker, Size::Word, addr, value, true, false)
+        store_word(self.bus, &asker, addr, value)
     }
 }

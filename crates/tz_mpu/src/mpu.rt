@@ -208,8 +208,8 @@ impl Mpu {
         }
     }
 
-    /// The value of a register.
-    fn value(&self, register: MpuRegister) -> u32
+    /// The value of a register by its name.
+    pub fn value(&self, register: MpuRegister) -> u32
         ensures { result ≡ mpu_value self.now.mpu register }
     {
         match register {
@@ -250,8 +250,8 @@ impl Mpu {
         put_rlar(&mut self.regions, index, bits);
     }
 
-    /// Writes a register.
-    fn set(&mut self, register: MpuRegister, value: u32)
+    /// Writes a register by its name: each keeps the bits that it has, TYPE none.
+    pub fn set(&mut self, register: MpuRegister, value: u32)
         ensures { self.new ≡ with_registers self.old (with_mpu_value self.old.profile self.old.mpu register value) }
     {
         match register {

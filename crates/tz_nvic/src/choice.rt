@@ -1,9 +1,9 @@
 //! The choice among the exceptions.
 
 ghost use Rattle.std.specs.Prelude.{◌≡◌, ◌≤◌, ◌<◌, ◌+◌, true, IfSome, if◌then◌else◌};
-ghost use Rattle.tz_nvic.specs.Slots.{exists, is_place};
-ghost use Rattle.tz_nvic.specs.Least.{lower_of};
-ghost use Rattle.tz_nvic.specs.Priority.{is_ready, rank_of, chosen_place, chosen};
+ghost use Rattle.tz_state.specs.Slots.{exists, is_place};
+ghost use Rattle.tz_state.specs.Least.{lower_of};
+ghost use Rattle.tz_state.specs.Priority.{is_ready, rank_of, chosen_place, chosen};
 
 use crate::exceptions::Exceptions;
 use std::sync::ledger::Ledger;
@@ -44,7 +44,7 @@ impl Exceptions {
     }
 
     /// The place of the slot that comes first, by a look at each.
-    #[tactic(auto, unfolding(crate::specs::Least::least_below))]
+    #[tactic(auto, unfolding(tz_state::specs::Least::least_below))]
     fn chosen_place<L: Ledger>(&self, steps: &mut Steps<L>) -> Option<usize>
         ensures is { result ≡ chosen_place self.now }
         ensures few { IfSome result (λ i. i < 272) }

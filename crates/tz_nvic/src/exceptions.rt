@@ -1,8 +1,8 @@
 //! The table of slots: what is pending, active and enabled, priorities and targets.
 
 ghost use Rattle.std.specs.Prelude.{◌≡◌, ◌≤◌, ◌<◌, ◌+◌, true, IfOk, IsTrue};
-ghost use Rattle.tz_nvic.specs.Slots.{at, exists, is_external, is_place, side_at, slot_at, index_of, is_enabled, reset_exceptions};
-ghost use Rattle.tz_nvic.specs.Changes.{pended, unpended, activated, deactivated, prioritized, switched, targeted};
+ghost use Rattle.tz_state.specs.Slots.{at, exists, is_external, is_place, side_at, slot_at, index_of, is_enabled, reset_exceptions};
+ghost use Rattle.tz_state.specs.SlotChanges.{pended, unpended, activated, deactivated, prioritized, switched, targeted};
 
 use crate::place::{PLACES, index_of, is_always_enabled, is_banked, is_system, number_at};
 use crate::slot::{SlotState, Timer};
@@ -25,7 +25,7 @@ pub struct Exceptions {
 
 impl Model for Exceptions {
     ghost use Rattle.std.specs.Prelude.{◌≡◌, ◌≤◌, length};
-    ghost use Rattle.tz_nvic.specs.Slots.{ExceptionsValue};
+    ghost use Rattle.tz_state.specs.Slots.{ExceptionsValue};
 
     ghost Value = { ExceptionsValue };
 

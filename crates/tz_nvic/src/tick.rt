@@ -1,7 +1,7 @@
 //! The count of both timers.
 
 ghost use Rattle.std.specs.Prelude.{◌≡◌};
-ghost use Rattle.tz_nvic.specs.Timers.{counts, interrupts, runs_out, counted_down, ticked};
+ghost use Rattle.tz_state.specs.Timers.{counts, interrupts, runs_out, counted_down, ticked};
 
 use crate::exceptions::Exceptions;
 use crate::slot::Timer;

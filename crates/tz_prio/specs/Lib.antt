@@ -1,3 +1,0 @@
-pub mod Execution
-pub mod Escalation
-pub mod Plain

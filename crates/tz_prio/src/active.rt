@@ -1,9 +1,9 @@
 //! The priority of what is active.
 
 ghost use Rattle.std.specs.Prelude.{◌≡◌, ◌≤◌, ◌<◌, min, if◌then◌else◌};
-ghost use Rattle.tz_nvic.specs.Priority.{priority_of};
-ghost use Rattle.tz_prio.specs.Execution as told;
-ghost use Rattle.tz_prio.specs.Execution.{is_active, manual_priority};
+ghost use Rattle.tz_state.specs.Priority.{priority_of};
+ghost use Rattle.tz_state.specs.Execution as told;
+ghost use Rattle.tz_state.specs.Execution.{is_active, manual_priority};
 
 use tz_nvic::{Exceptions, PLACES};
 
@@ -22,7 +22,7 @@ fn least_with(exceptions: &Exceptions, index: usize, least: u32) -> u32
 }
 
 /// The least priority of the active slots, four above the manual's.
-#[tactic(auto, unfolding(crate::specs::Execution::active_below))]
+#[tactic(auto, unfolding(tz_state::specs::Execution::active_below))]
 pub(crate) fn raw(exceptions: &Exceptions) -> u32
     ensures is { result ≡ told.raw_priority exceptions.now }
     ensures few { result ≤ 260 }

@@ -1,8 +1,8 @@
 //! What a synchronous exception becomes.
 
 ghost use Rattle.std.specs.Prelude.{◌≡◌, true};
-ghost use Rattle.tz_nvic.specs.Slots.{exists};
-ghost use Rattle.tz_prio.specs.Escalation.{hard_side, hardened, escalated};
+ghost use Rattle.tz_state.specs.Slots.{exists};
+ghost use Rattle.tz_state.specs.Escalation.{hard_side, hardened, escalated};
 
 use crate::execution::{can_take, execution};
 use tz_model::{Side, Slot};

@@ -1,9 +1,9 @@
 //! The execution priority.
 
 ghost use Rattle.std.specs.Prelude.{◌≡◌, ◌≤◌, true};
-ghost use Rattle.tz_nvic.specs.Slots.{exists};
-ghost use Rattle.tz_prio.specs.Execution as told;
-ghost use Rattle.tz_prio.specs.Execution.{manual_priority};
+ghost use Rattle.tz_state.specs.Slots.{exists};
+ghost use Rattle.tz_state.specs.Execution as told;
+ghost use Rattle.tz_state.specs.Execution.{manual_priority};
 
 use crate::active::raw;
 use crate::masks::side_priority;
@@ -12,7 +12,7 @@ use tz_nvic::Exceptions;
 use tz_regs::{Core, Masks};
 
 /// The execution priority, four above the manual's.
-#[tactic(auto, unfolding(crate::specs::Execution::execution))]
+#[tactic(auto, unfolding(tz_state::specs::Execution::execution))]
 pub(crate) fn execution(masks: &Masks, exceptions: &Exceptions) -> u32
     ensures is { result ≡ told.execution exceptions.now masks.now }
     ensures few { result ≤ 260 }

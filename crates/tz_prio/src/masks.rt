@@ -1,7 +1,7 @@
 //! The priorities of masks, four above the manual's.
 
 ghost use Rattle.std.specs.Prelude.{◌≡◌, ◌≤◌};
-ghost use Rattle.tz_prio.specs.Execution.{basepri_priority, primask_priority, faultmask_set, faultmask_priority, side_priority};
+ghost use Rattle.tz_state.specs.Execution.{basepri_priority, primask_priority, faultmask_set, faultmask_priority, side_priority};
 
 use tz_model::Side;
 use tz_nvic::Exceptions;

@@ -40,6 +40,7 @@ reset_core vtor_s vtor_ns sp start locked =
       status = record {
         s = reset_status vtor_s;
         ns = reset_status vtor_ns;
-        shared = record { sfsr = 0; sfar = 0; bfsr = 0; bfar = 0; hfsr = 0 };
+        security = record { sfsr = 0; sfar = 0 };
+        bus = record { bfsr = 0; bfar = 0; hfsr = 0 };
       };
     }

@@ -13,17 +13,26 @@ use Rattle.tz_regs.specs.declared.special.Special.TheVariants.{Msp, Psp, Msplim,
 use Rattle.tz_regs.specs.Banks.{stacks_of, masks_of, with_masks, secure_after, nonsecure_after}
 use Rattle.tz_regs.specs.Registers.{is_privileged, limit_of, pointer_of, with_pointer, word_aligned}
 
--- what running code can name: its registers, the stacks of its own and of the Non-secure side, the masks
+-- what running code can name: its registers, the stacks of its own and of the Non-secure side, the masks, and
+-- the event flag
 pub record Named : Type 0 where
   pub side : Side
   pub registers : Registers
   pub own : Stacks
   pub ns : Stacks
   pub masks : Masks
+  pub event : Bool
 
 abbrev pub named_of : Core → Named
 named_of c =
-    record { side = c.run.side; registers = c.registers; own = stacks_of c.run.side c; ns = c.stacks_ns; masks = c.masks }
+    record {
+      side = c.run.side;
+      registers = c.registers;
+      own = stacks_of c.run.side c;
+      ns = c.stacks_ns;
+      masks = c.masks;
+      event = c.event;
+    }
 
 -- the core with what its code leaves of these; Non-secure code leaves the Secure side as it was
 abbrev pub with_named : Core → Named → Core
@@ -33,6 +42,7 @@ with_named c n =
       stacks_s = secure_after c.run.side n.own c.stacks_s;
       stacks_ns = nonsecure_after c.run.side n.own n.ns;
       masks = record n.masks { s = secure_after c.run.side n.masks.s c.masks.s };
+      event = n.event;
     }
 
 -- the banked registers by the low seven bits of their numbers

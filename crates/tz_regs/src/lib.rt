@@ -8,7 +8,6 @@
 mod access;
 mod it;
 mod parts;
-mod priority;
 mod readers;
 mod reset;
 mod special;
@@ -16,7 +15,7 @@ mod status;
 mod writers;
 
 pub use parts::{
-    Apsr, Before, Core, Masks, Registers, Running, SharedStatus, SideMasks, SideStatus, Stacks,
-    Status,
+    Apsr, Before, BusStatus, Core, Masks, Registers, Running, SecurityStatus, SideMasks,
+    SideStatus, Stacks, Status,
 };
 pub use special::{Special, StackLimit};

@@ -80,11 +80,16 @@ pub struct SideStatus {
     pub mmfar: u32,
 }
 
-/// The fault registers that stand once.
+/// The fault registers of SecureFault.
 #[derive(Clone, Copy)]
-pub struct SharedStatus {
+pub struct SecurityStatus {
     pub sfsr: u32,
     pub sfar: u32,
+}
+
+/// The fault registers of BusFault and HardFault, which are of the side that AIRCR.BFHFNMINS gives them.
+#[derive(Clone, Copy)]
+pub struct BusStatus {
     pub bfsr: u32,
     pub bfar: u32,
     pub hfsr: u32,
@@ -95,7 +100,8 @@ pub struct SharedStatus {
 pub struct Status {
     pub s: SideStatus,
     pub ns: SideStatus,
-    pub shared: SharedStatus,
+    pub security: SecurityStatus,
+    pub bus: BusStatus,
 }
 
 /// The core.

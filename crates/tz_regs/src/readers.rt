@@ -219,36 +219,36 @@ impl Core {
 
     /// SFSR.
     pub fn sfsr(&self) -> u32
-        ensures { result ≡ self.now.status.shared.sfsr }
+        ensures { result ≡ self.now.status.security.sfsr }
     {
-        self.status.shared.sfsr
+        self.status.security.sfsr
     }
 
     /// SFAR.
     pub fn sfar(&self) -> u32
-        ensures { result ≡ self.now.status.shared.sfar }
+        ensures { result ≡ self.now.status.security.sfar }
     {
-        self.status.shared.sfar
+        self.status.security.sfar
     }
 
     /// BFSR.
     pub fn bfsr(&self) -> u32
-        ensures { result ≡ self.now.status.shared.bfsr }
+        ensures { result ≡ self.now.status.bus.bfsr }
     {
-        self.status.shared.bfsr
+        self.status.bus.bfsr
     }
 
     /// BFAR.
     pub fn bfar(&self) -> u32
-        ensures { result ≡ self.now.status.shared.bfar }
+        ensures { result ≡ self.now.status.bus.bfar }
     {
-        self.status.shared.bfar
+        self.status.bus.bfar
     }
 
     /// HFSR.
     pub fn hfsr(&self) -> u32
-        ensures { result ≡ self.now.status.shared.hfsr }
+        ensures { result ≡ self.now.status.bus.hfsr }
     {
-        self.status.shared.hfsr
+        self.status.bus.hfsr
     }
 }

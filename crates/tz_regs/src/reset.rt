@@ -4,7 +4,8 @@ ghost use Rattle.std.specs.Prelude.{◌≡◌, false};
 ghost use Rattle.tz_regs.specs.Reset.{reset_stacks, no_masks, reset_status, reset_core};
 
 use crate::parts::{
-    Apsr, Core, Masks, Registers, Running, SharedStatus, SideMasks, SideStatus, Stacks, Status,
+    Apsr, BusStatus, Core, Masks, Registers, Running, SecurityStatus, SideMasks, SideStatus,
+    Stacks, Status,
 };
 use tz_model::{Side, Sleep};
 
@@ -94,9 +95,8 @@ impl Core {
             status: Status {
                 s: SideStatus::reset(vtor_s),
                 ns: SideStatus::reset(vtor_ns),
-                shared: SharedStatus {
-                    sfsr: 0,
-                    sfar: 0,
+                security: SecurityStatus { sfsr: 0, sfar: 0 },
+                bus: BusStatus {
                     bfsr: 0,
                     bfar: 0,
                     hfsr: 0,

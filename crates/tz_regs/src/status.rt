@@ -59,36 +59,36 @@ impl Core {
 
     /// Writes SFSR: INVEP, INVIS, INVER, AUVIOL, INVTRAN, SFARVALID.
     pub fn set_sfsr(&mut self, value: u32)
-        ensures { self.new ≡ record self.old { status = record self.old.status { shared = record self.old.status.shared { sfsr = bit_and value 0x5F } } } }
+        ensures { self.new ≡ record self.old { status = record self.old.status { security = record self.old.status.security { sfsr = bit_and value 0x5F } } } }
     {
-        self.status.shared.sfsr = value & 0x5f;
+        self.status.security.sfsr = value & 0x5f;
     }
 
     /// Writes SFAR.
     pub fn set_sfar(&mut self, value: u32)
-        ensures { self.new ≡ record self.old { status = record self.old.status { shared = record self.old.status.shared { sfar = value } } } }
+        ensures { self.new ≡ record self.old { status = record self.old.status { security = record self.old.status.security { sfar = value } } } }
     {
-        self.status.shared.sfar = value;
+        self.status.security.sfar = value;
     }
 
     /// Writes BFSR, CFSR from bit 8 on: IBUSERR, PRECISERR, UNSTKERR, STKERR, BFARVALID.
     pub fn set_bfsr(&mut self, value: u32)
-        ensures { self.new ≡ record self.old { status = record self.old.status { shared = record self.old.status.shared { bfsr = bit_and value 0x9B } } } }
+        ensures { self.new ≡ record self.old { status = record self.old.status { bus = record self.old.status.bus { bfsr = bit_and value 0x9B } } } }
     {
-        self.status.shared.bfsr = value & 0x9b;
+        self.status.bus.bfsr = value & 0x9b;
     }
 
     /// Writes BFAR.
     pub fn set_bfar(&mut self, value: u32)
-        ensures { self.new ≡ record self.old { status = record self.old.status { shared = record self.old.status.shared { bfar = value } } } }
+        ensures { self.new ≡ record self.old { status = record self.old.status { bus = record self.old.status.bus { bfar = value } } } }
     {
-        self.status.shared.bfar = value;
+        self.status.bus.bfar = value;
     }
 
     /// Writes HFSR: VECTTBL, FORCED, DEBUGEVT.
     pub fn set_hfsr(&mut self, value: u32)
-        ensures { self.new ≡ record self.old { status = record self.old.status { shared = record self.old.status.shared { hfsr = bit_and value 0xC0000002 } } } }
+        ensures { self.new ≡ record self.old { status = record self.old.status { bus = record self.old.status.bus { hfsr = bit_and value 0xC0000002 } } } }
     {
-        self.status.shared.hfsr = value & 0xc000_0002;
+        self.status.bus.hfsr = value & 0xc000_0002;
     }
 }

@@ -1,7 +1,7 @@
 //! The SAU's registers by their addresses (DDI0553, chapter D1.2).
 
 ghost use Rattle.std.specs.Prelude.{◌≡◌, MatchOption, ◌≤◌, ◌<◌, length, slice_set};
-ghost use Rattle.tz_state.specs.UnitRegisters.{bounds_at, sau_register, sau_read, sau_written};
+ghost use Rattle.tz_state.specs.UnitRegisters.{bounds_at, sau_register, sau_value, with_sau_value, sau_read, sau_written};
 
 use crate::unit::Sau;
 use tz_state::{Bounds, SauRegister};
@@ -33,18 +33,26 @@ impl Sau {
             .map(|bounds| (bounds.rbar, bounds.rlar))
     }
 
-    /// The register at an address; one that isn't there reads zero, and so do RBAR and RLAR where RNR
-    /// names no region.
+    /// The value of a register by its name; RBAR and RLAR are zero where RNR names no region.
+    pub fn value(&self, register: SauRegister) -> u32
+        ensures { result ≡ sau_value self.now.sau register }
+    {
+        match register {
+            SauRegister::Ctrl => self.ctrl,
+            SauRegister::Type => self.bounds.len() as u32,
+            SauRegister::Rnr => self.rnr,
+            SauRegister::Rbar => self.selected().rbar,
+            SauRegister::Rlar => self.selected().rlar,
+        }
+    }
+
+    /// The register at an address; one that isn't there reads zero.
     pub fn read(&self, addr: u32) -> u32
         ensures { result ≡ sau_read self.now.sau (sau_register addr) }
     {
         match register_at(addr) {
             None => 0,
-            Some(SauRegister::Ctrl) => self.ctrl,
-            Some(SauRegister::Type) => self.bounds.len() as u32,
-            Some(SauRegister::Rnr) => self.rnr,
-            Some(SauRegister::Rbar) => self.selected().rbar,
-            Some(SauRegister::Rlar) => self.selected().rlar,
+            Some(register) => self.value(register),
         }
     }
 
@@ -68,30 +76,38 @@ impl Sau {
         }
     }
 
-    /// Writes the register at an address; one that isn't there takes no write, and nor do RBAR and RLAR
+    /// Writes a register by its name: each keeps the bits that it has, TYPE none. RBAR and RLAR take no write
     /// where RNR names no region.
-    pub fn write(&mut self, addr: u32, value: u32)
-        ensures { self.new ≡ record self.old { sau = sau_written self.old.sau (sau_register addr) value } }
+    pub fn set(&mut self, register: SauRegister, value: u32)
+        ensures { self.new ≡ record self.old { sau = with_sau_value self.old.sau register value } }
     {
-        match register_at(addr) {
-            None => {}
-            Some(SauRegister::Ctrl) => self.ctrl = value % 4,
-            Some(SauRegister::Type) => {}
-            Some(SauRegister::Rnr) => self.rnr = value % 256,
-            Some(SauRegister::Rbar) => {
+        match register {
+            SauRegister::Ctrl => self.ctrl = value % 4,
+            SauRegister::Type => {}
+            SauRegister::Rnr => self.rnr = value % 256,
+            SauRegister::Rbar => {
                 let bounds = self.selected();
                 self.select(Bounds {
                     rbar: value / 32 * 32,
                     rlar: bounds.rlar,
                 });
             }
-            Some(SauRegister::Rlar) => {
+            SauRegister::Rlar => {
                 let bounds = self.selected();
                 self.select(Bounds {
                     rbar: bounds.rbar,
                     rlar: value / 32 * 32 + value % 4,
                 });
             }
+        }
+    }
+
+    /// Writes the register at an address; one that isn't there takes no write.
+    pub fn write(&mut self, addr: u32, value: u32)
+        ensures { self.new ≡ record self.old { sau = sau_written self.old.sau (sau_register addr) value } }
+    {
+        if let Some(register) = register_at(addr) {
+            self.set(register, value);
         }
     }
 }

@@ -20,6 +20,8 @@ use Rattle.tz_state.specs.Memory.{every, value_at, with_value}
 use Rattle.tz_state.specs.Attribution.{MapState, is_open}
 use Rattle.tz_state.specs.Protection.{permits}
 use Rattle.tz_state.specs.State.{Bus, State, map_in, mpu_of, asker_in, with_memory}
+use Rattle.tz_state.specs.Registers.{SystemState}
+use Rattle.tz_state.specs.Views.{system_value, system_read, system_written}
 
 -- ---- alignment
 
@@ -89,15 +91,18 @@ verdict b q =
 
 -- ---- the machine's answers
 
--- what the accesses of an instruction see and change: who asks, and memory with the units that guard it, with
--- the stores made so far
+-- what the accesses of an instruction see and change: who asks, what the system registers stand in, memory among
+-- it, with the stores made so far
 pub record Reached : Type 0 where
   pub asker : Asker
-  pub bus : Bus
+  pub system : SystemState
   pub stores : List stored.Store
 
+abbrev pub system_in : State → SystemState
+system_in s = record { ipsr = s.core.registers.ipsr; status = s.core.status; exceptions = s.exceptions; bus = s.bus }
+
 abbrev pub reached_in : State → Reached
-reached_in s = record { asker = asker_in s.core; bus = s.bus; stores = [] }
+reached_in s = record { asker = asker_in s; system = system_in s; stores = [] }
 
 -- an access of the code that asks; one that counts as unprivileged is so
 abbrev pub request_by : Asker → Kind → Size → ℕ → Bool → Bool → Request
@@ -112,34 +117,39 @@ request_by k kind size a must_align user =
       must_align = must_align || k.aligned;
     }
 
--- (own) the system registers aren't built: an access to them that no check refuses gives a bus fault
-abbrev pub unbuilt : ℕ → Option Fault → Option Fault
-unbuilt a None = if is_private a then Some (Precise a) else None
-unbuilt a (Some fault) = Some fault
-
 abbrev pub refused : Reached → Kind → Size → ℕ → Bool → Bool → Option Fault
-refused r kind size a must_align user = unbuilt a (verdict r.bus (request_by r.asker kind size a must_align user))
+refused r kind size a must_align user = verdict r.system.bus (request_by r.asker kind size a must_align user)
+
+-- a read that no check refuses, of the system registers or of memory
+abbrev pub loaded : Bool → Reached → Size → ℕ → Reached × ℕ
+loaded true r size a = (record r { system = system_read r.asker.side r.system a }, system_value r.asker.side r.system a size)
+loaded false r size a = (r, value_at r.system.bus.memory size a)
 
 -- a read by its verdict
-abbrev pub read_by : Option Fault → Reached → ℕ → Reached × Result ℕ Fault
-read_by (Some fault) r word = (r, Err fault)
-read_by None r word = (r, Ok word)
+abbrev pub read_by : Option Fault → Reached → Size → ℕ → Reached × Result ℕ Fault
+read_by (Some fault) r size a = (r, Err fault)
+read_by None r size a = ((loaded (is_private a) r size a).0, Ok (loaded (is_private a) r size a).1)
 
--- a write of a number that is cut to its size, noted
-abbrev pub written_in : Reached → Size → ℕ → ℕ → Reached
-written_in r size a value =
+-- a write that no check refuses, to the system registers or to memory
+abbrev pub stored_in : Bool → Side → SystemState → Size → ℕ → ℕ → SystemState
+stored_in true side s size a value = system_written side s a size value
+stored_in false side s size a value = record s { bus = with_memory s.bus (with_value s.bus.memory size a value) }
+
+-- it is noted, with its number cut to its size
+abbrev pub noted : Reached → Size → ℕ → ℕ → Reached
+noted r size a value =
     record r {
-      bus = with_memory r.bus (with_value r.bus.memory size a value);
+      system = stored_in (is_private a) r.asker.side r.system size a value;
       stores = r.stores ++ record { addr = a; size = size; value = value } ∷ [];
     }
 
 abbrev pub write_by : Option Fault → Reached → Size → ℕ → ℕ → Reached × Result ℕ Fault
 write_by (Some fault) r size a value = (r, Err fault)
-write_by None r size a value = (written_in r size a value, Ok 0)
+write_by None r size a value = (noted r size a value, Ok 0)
 
--- how the machine answers an access; registers alone decide its verdict, and no byte is read for it
+-- how the machine answers an access; registers alone decide its verdict, and no byte is read for it. What a store
+-- of an instruction changes counts for the checks of its next one
 unfoldable pub access : Answering Reached
-access r (Load size a must_align user) =
-    read_by (refused r Read size a must_align user) r (value_at r.bus.memory size a)
+access r (Load size a must_align user) = read_by (refused r Read size a must_align user) r size a
 access r (Store size a value must_align user) =
     write_by (refused r Write size a must_align user) r size a (cut_to size value)

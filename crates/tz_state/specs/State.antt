@@ -1,6 +1,8 @@
--- The state of the machine in its parts: the core, memory with the units that guard it, and the board.
+-- The state of the machine in its parts: the core, the exceptions, memory with the units that guard it, and the
+-- board.
 use Rattle.std.specs.Prelude.{ℕ, ℤ, pos, int_lt, Bool, ◌/◌, ◌%◌, ◌==◌, Option, true, false, ◌&&◌, Some, None}
 use Rattle.tz_table.specs.declared.units.Side.{Side}
+use Rattle.tz_table.specs.declared.units.Side.TheVariants.{Secure, NonSecure}
 use Rattle.tz_table.specs.declared.units.Size.{Size}
 use Rattle.tz_table.specs.declared.units.Size.TheVariants.{Byte, Half, Word}
 use Rattle.tz_model.specs.Board.{BoardValue}
@@ -8,13 +10,14 @@ use Rattle.tz_regs.specs.declared.parts.Core.{Core}
 use Rattle.tz_regs.specs.declared.parts.Registers.{Registers}
 use Rattle.tz_regs.specs.declared.parts.Running.{Running}
 use Rattle.tz_regs.specs.Banks.{of_side, stacks_of, status_of}
-use Rattle.tz_regs.specs.Priority.{mask_priority}
 use Rattle.tz_regs.specs.Registers.{side_in, is_privileged}
 use Rattle.tz_state.specs.declared.asker.Asker.{Asker}
 use Rattle.tz_state.specs.declared.request.Exclusive.{Exclusive}
 use Rattle.tz_state.specs.Memory.{Memory}
 use Rattle.tz_state.specs.Attribution.{SauState, MapState}
 use Rattle.tz_state.specs.Protection.{MpuState}
+use Rattle.tz_state.specs.Slots.{ExceptionsValue}
+use Rattle.tz_state.specs.Execution.{execution, manual_priority}
 
 -- memory, what guards it, and the exclusive monitor, which holds one address and size or nothing
 pub record Bus : Type 0 where
@@ -27,6 +30,7 @@ pub record Bus : Type 0 where
 
 pub record State : Type 0 where
   pub core : Core
+  pub exceptions : ExceptionsValue
   pub bus : Bus
 
 -- what decides the attribution of an address
@@ -39,6 +43,10 @@ map_of s = map_in s.bus
 abbrev pub mpu_of : Side → Bus → MpuState
 mpu_of side b = of_side side b.mpu_s b.mpu_ns
 
+abbrev pub with_mpu : Bus → Side → MpuState → Bus
+with_mpu b Secure m = record b { mpu_s = m }
+with_mpu b NonSecure m = record b { mpu_ns = m }
+
 -- whose code runs; a locked machine counts as Secure
 abbrev pub side_of : State → Side
 side_of s = side_in s.core
@@ -47,7 +55,10 @@ side_of s = side_in s.core
 abbrev pub is_privileged_in : Side → Core → Bool
 is_privileged_in side c = is_privileged c.registers.ipsr (stacks_of side c)
 
--- the execution priority is negative
+-- the execution priority
+abbrev pub priority_in : State → ℤ
+priority_in s = manual_priority (execution s.exceptions s.core.masks)
+
 abbrev pub is_negative_at : ℤ → Bool
 is_negative_at priority = int_lt priority (pos 0)
 
@@ -56,13 +67,13 @@ abbrev pub traps_unaligned : ℕ → Bool
 traps_unaligned ccr = ccr / 8 % 2 == 1
 
 -- the running code as it asks for accesses
-abbrev pub asker_in : Core → Asker
-asker_in c =
+abbrev pub asker_in : State → Asker
+asker_in s =
     record {
-      side = c.run.side;
-      privileged = is_privileged_in c.run.side c;
-      negative = is_negative_at (mask_priority c.masks);
-      aligned = traps_unaligned (status_of c.run.side c).ccr;
+      side = s.core.run.side;
+      privileged = is_privileged_in s.core.run.side s.core;
+      negative = is_negative_at (priority_in s);
+      aligned = traps_unaligned (status_of s.core.run.side s.core).ccr;
     }
 
 -- ---- the exclusive monitor
@@ -91,6 +102,9 @@ with_core s c = record s { core = c }
 
 abbrev pub with_bus : State → Bus → State
 with_bus s b = record s { bus = b }
+
+abbrev pub with_exceptions : State → ExceptionsValue → State
+with_exceptions s e = record s { exceptions = e }
 
 abbrev pub with_run : State → Running → State
 with_run s r = record s { core = record s.core { run = r } }

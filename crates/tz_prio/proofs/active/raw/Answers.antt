@@ -1,5 +1,5 @@
 use Rattle.std.proofs.Common.{◌≡◌, ap, ◌∙◌, arith}
-use Rattle.tz_prio.specs.Execution.{active_below}
+use Rattle.tz_state.specs.Execution.{active_below}
 use Rattle.tz_prio.proofs.active.raw.Goals as goal
 
 pub returns-clause-is : goal.returns-clause-is

@@ -1,5 +1,5 @@
 use Rattle.std.proofs.Common.{◌≡◌, ◌≤◌}
-use Rattle.tz_prio.specs.Execution.{active_below}
+use Rattle.tz_state.specs.Execution.{active_below}
 use Rattle.tz_prio.proofs.active.raw.Given as goal
 
 abbrev pub invariant-loop-index : goal.invariant-loop-index

@@ -1,7 +1,7 @@
 -- What is found below one more place; the numeral 272 must not unfold.
 use Rattle.std.proofs.Common.{◌≡◌, ap, ◌∙◌, add-one, arith}
-use Rattle.tz_nvic.specs.Least.{least_below}
-use Rattle.tz_nvic.specs.Priority.{is_ready, rank_of}
+use Rattle.tz_state.specs.Least.{least_below}
+use Rattle.tz_state.specs.Priority.{is_ready, rank_of}
 use Rattle.tz_nvic.proofs.exceptions.Exceptions.chosen_place.Goals as goal
 
 pub loop-index-preserved : goal.loop-index-preserved

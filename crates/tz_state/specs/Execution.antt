@@ -1,13 +1,13 @@
 -- The execution priority (DDI0553, `ExecutionPriority`, `RawExecutionPriority`). As those of exceptions, these
 -- priorities count four above the manual's, so that none is negative; a lower number is more urgent.
-use Rattle.std.specs.Prelude.{ℕ, zero, suc, ◌+◌, ◌==◌, nat_lt, min, Bool, ◌&&◌, if◌then◌else◌, ℤ, pos, ◌-ℤ◌}
+use Rattle.std.specs.Prelude.{ℕ, zero, suc, ◌+◌, ◌==◌, nat_lt, min, Bool, false, ◌&&◌, if◌then◌else◌, Option, Some, None, ℤ, pos, ◌-ℤ◌}
 use Rattle.tz_table.specs.declared.units.Side.{Side}
 use Rattle.tz_table.specs.declared.units.Side.TheVariants.{Secure, NonSecure}
 use Rattle.tz_model.specs.declared.report.Slot.{Slot}
 use Rattle.tz_regs.specs.declared.parts.Masks.{Masks}
 use Rattle.tz_regs.specs.declared.parts.SideMasks.{SideMasks}
-use Rattle.tz_nvic.specs.Slots.{ExceptionsValue, at, places, is_place, index_of}
-use Rattle.tz_nvic.specs.Priority.{group_of, counted, hard_priority, priority_of}
+use Rattle.tz_state.specs.Slots.{ExceptionsValue, at, places, is_place, index_of}
+use Rattle.tz_state.specs.Priority.{group_of, counted, hard_priority, priority_of, chosen}
 
 -- that of no exception and no mask
 abbrev pub idle_priority : ℕ
@@ -59,3 +59,19 @@ execution e m = min (raw_priority e) (min (side_priority e Secure m.s) (side_pri
 -- the priority of a slot is below the execution priority
 abbrev pub can_take : ExceptionsValue → Masks → Slot → Bool
 can_take e m slot = nat_lt (priority_of e (index_of slot)) (execution e m)
+
+-- the exception that comes first, where there is one, can be taken
+abbrev pub takes : ExceptionsValue → Masks → Option Slot → Bool
+takes e m None = false
+takes e m (Some slot) = can_take e m slot
+
+abbrev pub takes_first : ExceptionsValue → Masks → Bool
+takes_first e m = takes e m (chosen e)
+
+-- with both PRIMASKs read as 0
+abbrev pub without_primask : Masks → Masks
+without_primask m = record { s = record m.s { primask = false }; ns = record m.ns { primask = false } }
+
+-- it ends a sleep
+abbrev pub wakes : ExceptionsValue → Masks → Bool
+wakes e m = takes_first e (without_primask m)
