@@ -8,9 +8,8 @@ use Rattle.tz_model.specs.Ports.{answers}
 use Rattle.tz_regs.specs.declared.parts.Core.{Core}
 use Rattle.tz_regs.specs.declared.parts.Stacks.{Stacks}
 use Rattle.tz_regs.specs.Banks.{secure_after}
-use Rattle.tz_regs.specs.Priority.{mask_priority}
 use Rattle.tz_regs.specs.Special.{named_of}
-use Rattle.tz_state.specs.State.{State, is_held}
+use Rattle.tz_state.specs.State.{State, priority_in, is_held}
 use Rattle.tz_state.specs.Access.{is_aligned, reached_in, access}
 use Rattle.tz_exec.specs.declared.family.Family.{Family}
 use Rattle.tz_exec.specs.declared.family.Family.TheVariants.{Alu, LoadStore, Branch, System}
@@ -64,7 +63,7 @@ family_stacks Alu s i e = finished_stacks s.core (finish_alu i (local_of s.core)
 family_stacks LoadStore s i e = exclusive_stacks (exclusivity i (local_of s.core)) s i e
 family_stacks Branch s i e = ported_stacks s.core (answers access (reached_in s) (plan_branch i (local_of s.core))) (finish_branch i (local_of s.core)) e
 family_stacks System s i e =
-    let p = mask_priority s.core.masks in
+    let p = priority_in s in
     named_stacks s.core (finish_system p i (named_of s.core) (probed s.bus (probe_of p i (named_of s.core)))) e
 
 pub executed_stacks : (s : State) (i : Insn) → s.core.run.side ≡ NonSecure → (executed s i).state.core.stacks_s ≡ s.core.stacks_s

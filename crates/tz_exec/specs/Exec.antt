@@ -9,11 +9,10 @@ use Rattle.tz_model.specs.declared.report.Outcome.TheVariants.{Next}
 use Rattle.tz_model.specs.declared.report.Store as stored
 use Rattle.tz_model.specs.Ports.{Access, Answering, answers}
 use Rattle.tz_regs.specs.declared.parts.Core.{Core}
-use Rattle.tz_regs.specs.Priority.{mask_priority}
 use Rattle.tz_regs.specs.Special.{named_of}
 use Rattle.tz_state.specs.declared.probe.Probe.{Probe}
 use Rattle.tz_state.specs.declared.request.Exclusive.{Exclusive}
-use Rattle.tz_state.specs.State.{Bus, State, is_held, with_core, with_bus, with_monitor}
+use Rattle.tz_state.specs.State.{Bus, State, priority_in, is_held, with_core, with_bus, with_monitor}
 use Rattle.tz_state.specs.Access.{is_aligned, Reached, reached_in, access}
 use Rattle.tz_state.specs.Target.{target_word}
 use Rattle.tz_exec.specs.declared.family.Family.{Family}
@@ -122,9 +121,18 @@ alone s (c, outcome) = record { state = with_core s c; stores = []; outcome = ou
 abbrev pub beside : State → Ported Bus → Executed
 beside s p = record { state = record s { core = p.core; bus = p.held }; stores = []; outcome = p.outcome }
 
--- of one over the machine's port
+-- of one over the machine's port, whose accesses may have written system registers
 abbrev pub through : State → Ported Reached → Executed
-through s p = record { state = record s { core = p.core; bus = p.held.bus }; stores = p.held.stores; outcome = p.outcome }
+through s p =
+    record {
+      state = record s {
+        core = record p.core { status = p.held.system.status };
+        exceptions = p.held.system.exceptions;
+        bus = p.held.system.bus;
+      };
+      stores = p.held.stores;
+      outcome = p.outcome;
+    }
 
 -- ---- the exclusive monitor
 
@@ -178,7 +186,7 @@ abbrev pub executed_by : Family → State → Insn → Executed
 executed_by Alu s i = alone s (finished_in s.core (finish_alu i (local_of s.core)))
 executed_by LoadStore s i = exclusively (exclusivity i (local_of s.core)) s i
 executed_by Branch s i = through s (branch_over access i s.core (reached_in s))
-executed_by System s i = beside s (system_over (mask_priority s.core.masks) i s.core s.bus)
+executed_by System s i = beside s (system_over (priority_in s) i s.core s.bus)
 
 -- an instruction of the running code
 abbrev pub executed : State → Insn → Executed

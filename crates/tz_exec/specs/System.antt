@@ -1,12 +1,12 @@
 -- System instructions: special registers, masks, hints, barriers, TT, and the exceptions that code raises.
-use Rattle.std.specs.Prelude.{ℕ, nat_le, Bool, true, false, ◌&&◌, if◌then◌else◌, Option, Some, None, Ok, Err, ℤ}
+use Rattle.std.specs.Prelude.{ℕ, ◌==◌, Bool, true, false, if◌then◌else◌, Option, Some, None, Ok, Err, ℤ}
 use Rattle.tz_table.specs.declared.units.Side.{Side}
 use Rattle.tz_table.specs.declared.units.Side.TheVariants.{Secure, NonSecure}
 use Rattle.tz_table.specs.declared.instruction.BarrierOp.TheVariants.{Clrex}
 use Rattle.tz_table.specs.declared.instruction.Insn.{Insn}
 use Rattle.tz_table.specs.declared.instruction.Insn.TheVariants.{Hint, Barrier, ChangeState, ReadSpecial, WriteSpecial, TestTarget, SecureGateway, LazyState, Supervisor, Breakpoint as Break}
 use Rattle.tz_model.specs.declared.report.Fault.TheVariants.{Undef, StackLimit, Breakpoint, Call}
-use Rattle.tz_model.specs.declared.report.Outcome.TheVariants.{Next}
+use Rattle.tz_model.specs.declared.report.Outcome.TheVariants.{Next, Sleep}
 use Rattle.tz_regs.specs.Registers.{with_reg, with_reg_stacks, reg_of, is_privileged}
 use Rattle.tz_regs.specs.Special.{Named, special_of, with_special, is_below_limit, changed_state}
 use Rattle.tz_state.specs.declared.probe.Probe.{Probe}
@@ -17,9 +17,17 @@ use Rattle.tz_exec.specs.Local.{FinishedNamed}
 abbrev pub passes : Named → FinishedNamed
 passes n = Ok (n, Next)
 
--- WFE, WFI and SEV (2 to 4) aren't built; all others do nothing
+-- WFE: where the event flag is set it is cleared, else the core sleeps
+abbrev pub waits_for_event : Named → FinishedNamed
+waits_for_event n = if n.event then Ok (record n { event = false }, Next) else Ok (n, Sleep true)
+
+-- WFE (2), WFI (3), which sleeps, and SEV (4), which sets the event flag; all others do nothing
 abbrev pub finish_hint : ℕ → Named → FinishedNamed
-finish_hint op n = if nat_le 2 op && nat_le op 4 then Err Undef else passes n
+finish_hint op n =
+    if op == 2 then waits_for_event n
+    else if op == 3 then Ok (n, Sleep false)
+    else if op == 4 then Ok (record n { event = true }, Next)
+    else passes n
 
 -- barriers do nothing, but CLREX, which clears the exclusive monitor
 abbrev pub clears_monitor : Insn → Bool

@@ -9,6 +9,7 @@ use Rattle.tz_state.specs.Zeros.{zero_memory}
 use Rattle.tz_regs.specs.Reset.{reset_core}
 use Rattle.tz_state.specs.Access.{is_mapped}
 use Rattle.tz_state.specs.State.{State}
+use Rattle.tz_state.specs.Slots.{reset_exceptions}
 use Rattle.tz_state.specs.UnitRegisters.{reset_bus}
 
 -- the bytes of segments put into memory, one segment after the other
@@ -22,7 +23,7 @@ boot_memory b secure nonsecure = with_segments (with_segments (zero_memory b.reg
 
 -- the values of a reset, with this memory, stack pointer and start
 abbrev pub reset : BoardValue → Memory → ℕ → ℕ → Bool → State
-reset b m sp start locked = record { core = reset_core b.secure_vtor b.nonsecure_vtor sp start locked; bus = reset_bus b m }
+reset b m sp start locked = record { core = reset_core b.secure_vtor b.nonsecure_vtor sp start locked; exceptions = reset_exceptions b.interrupts; bus = reset_bus b m }
 
 -- both words at the start of the Secure vector table are in memory
 abbrev pub has_vectors : BoardValue → Bool

@@ -1,5 +1,5 @@
 -- One step of the machine, stage by stage, each of which gives how the step ends.
-use Rattle.std.specs.Prelude.{ℕ, ◌+◌, ◌%◌, ◌==◌, Bool, true, ◌&&◌, ◌||◌, not, if◌then◌else◌, List, [], Option, Some, None, Result, Ok, Err}
+use Rattle.std.specs.Prelude.{ℕ, ◌+◌, ◌%◌, ◌==◌, Bool, true, false, ◌&&◌, ◌||◌, not, if◌then◌else◌, List, [], Option, Some, None, Result, Ok, Err}
 use Rattle.tz_table.specs.declared.units.Side.{Side}
 use Rattle.tz_table.specs.declared.units.Side.TheVariants.{Secure, NonSecure}
 use Rattle.tz_table.specs.declared.units.Code.{Code}
@@ -12,6 +12,8 @@ use Rattle.tz_model.specs.declared.report.Fault.TheVariants.{Undef, NoCp, InvSta
 use Rattle.tz_model.specs.declared.report.Outcome.{Outcome}
 use Rattle.tz_model.specs.declared.report.Outcome.TheVariants.{Next, Jump, Exchange, Sleep}
 use Rattle.tz_model.specs.declared.report.ScriptEvent.{ScriptEvent}
+use Rattle.tz_model.specs.declared.report.Sleep.{Sleep as Sleeping}
+use Rattle.tz_model.specs.declared.report.Sleep.TheVariants.{Awake, Wfi, Wfe}
 use Rattle.tz_model.specs.declared.report.Store.{Store}
 use Rattle.tz_model.specs.declared.report.Report.{Report}
 use Rattle.tz_model.specs.declared.fetch.Fetched.{Fetched}
@@ -22,9 +24,10 @@ use Rattle.tz_regs.specs.declared.parts.Before.{Before}
 use Rattle.tz_regs.specs.declared.parts.Core.{Core}
 use Rattle.tz_regs.specs.Registers.{before_in}
 use Rattle.tz_regs.specs.ItState.{it_advanced}
-use Rattle.tz_regs.specs.Priority.{mask_priority}
 use Rattle.tz_state.specs.declared.fetcher.Fetcher.{Fetcher}
-use Rattle.tz_state.specs.State.{State, map_of, is_privileged_in, is_negative_at, with_core, with_run, with_registers, with_pc}
+use Rattle.tz_state.specs.State.{State, map_of, is_privileged_in, priority_in, is_negative_at, with_core, with_exceptions, with_run, with_registers, with_pc}
+use Rattle.tz_state.specs.Due.{begun}
+use Rattle.tz_state.specs.Execution.{takes_first, wakes}
 use Rattle.tz_state.specs.Fetch.{fetch, is_own_fetch, wide, sg_half}
 use Rattle.tz_exec.specs.ItRules.{is_misplaced, is_passed_over, ignores_condition}
 use Rattle.tz_exec.specs.declared.family.Family.{Family}
@@ -32,6 +35,7 @@ use Rattle.tz_exec.specs.declared.family.Family.TheVariants.{LoadStore}
 use Rattle.tz_exec.specs.Exec.{Executed, family_of, executed}
 use Rattle.tz_sem.specs.declared.ending.Cause.TheVariants.{Went, Returned}
 use Rattle.tz_sem.specs.Ended.{Ended, report_of}
+use Rattle.tz_sem.specs.Faulted.{faulted}
 
 -- the number of bytes of a code
 abbrev pub length_with : Option ℕ → ℕ
@@ -50,9 +54,10 @@ locks s touched fault stores =
       ending = record { touched = touched; cause = Went; ran = None; fault = fault };
     }
 
--- a fault locks the machine, whichever it is: its registers are those before the instruction
+-- a fault sets its status bits and pends its exception; entries aren't built, so the machine locks then. Its
+-- registers are those before the instruction
 abbrev pub faults : State → Bool → Fault → List Store → Ended
-faults s touched fault stores = locks s touched (Some fault) stores
+faults s touched fault stores = locks (faulted fault s) touched (Some fault) stores
 
 -- an instruction ran
 abbrev pub ran : State → Bool → Code → List Store → Ended
@@ -126,12 +131,20 @@ goes_next s touched code stores = ran (with_pc s (wrap (s.core.registers.pc + le
 abbrev pub skips : State → Bool → Code → Ended
 skips s touched code = goes_next (with_it s (it_advanced s.core.registers.it)) touched code []
 
+-- a core that waits for an event, or for an interrupt
+abbrev pub sleep_of : Bool → Sleeping
+sleep_of true = Wfe
+sleep_of false = Wfi
+
+abbrev pub asleep : Bool → State → State
+asleep event s = with_run s (record s.core.run { sleep = sleep_of event })
+
 -- how a step goes on after its instruction
 abbrev pub goes_on : Insn → State → Bool → Code → List Store → Outcome → Ended
 goes_on i s touched code stores Next = goes_next (past i s) touched code stores
 goes_on i s touched code stores (Jump to) = ran (with_pc (past i s) to) touched code stores
 goes_on i s touched code stores (Exchange target ns) = exchanged s (past i s) touched code stores target ns
-goes_on i s touched code stores (Sleep event) = goes_next (past i s) touched code stores
+goes_on i s touched code stores (Sleep event) = goes_next (asleep event (past i s)) touched code stores
 
 abbrev pub concludes : Insn → State → Bool → Code → List Store → Result Outcome Fault → Ended
 concludes i s touched code stores (Ok outcome) = goes_on i s touched code stores outcome
@@ -174,18 +187,18 @@ abbrev pub fetches : State → FetchAnswer → Ended
 fetches s f = fetched s f.touched f.answer
 
 -- the running code as it fetches
-abbrev pub fetcher_in : Core → Fetcher
-fetcher_in c =
+abbrev pub fetcher_in : State → Fetcher
+fetcher_in s =
     record {
-      side = c.run.side;
-      privileged = is_privileged_in c.run.side c;
-      secure_privileged = is_privileged_in Secure c;
-      negative = is_negative_at (mask_priority c.masks);
+      side = s.core.run.side;
+      privileged = is_privileged_in s.core.run.side s.core;
+      secure_privileged = is_privileged_in Secure s.core;
+      negative = is_negative_at (priority_in s);
     }
 
 -- its fetch
 abbrev pub fetch_in : State → FetchAnswer
-fetch_in s = fetch s.bus (fetcher_in s.core) s.core.registers.pc
+fetch_in s = fetch s.bus (fetcher_in s) s.core.registers.pc
 
 -- a step that fetches nothing looks at Secure state where it starts Secure, or at a Secure address
 abbrev pub looks : Side → State → Bool
@@ -197,12 +210,56 @@ abbrev pub unready : Bool → Side → Fault
 unready true NonSecure = EntryPoint
 unready looked side = InvState
 
--- how a step ends: a locked machine stays so; (own) where T is 0 it faults before anything is fetched
+-- an instruction; (own) where T is 0 it faults before anything is fetched
+abbrev pub instructs : State → Ended
+instructs s =
+    if s.core.registers.t then fetches s (fetch_in s)
+    else faults s (looks s.core.run.side s) (unready (looks s.core.run.side s) s.core.run.side) []
+
+-- ---- exceptions and sleep
+
+abbrev pub awake : State → State
+awake s = with_run s (record s.core.run { sleep = Awake })
+
+abbrev pub is_secure : Side → Bool
+is_secure Secure = true
+is_secure NonSecure = false
+
+-- an exception ends a sleep; entries aren't built, so the machine locks then
+abbrev pub is_entered : State → Ended
+is_entered s = locks (awake s) (is_secure s.core.run.side) None []
+
+-- the core sleeps on
+abbrev pub idles : State → Ended
+idles s =
+    record {
+      state = s;
+      stores = [];
+      ending = record { touched = is_secure s.core.run.side; cause = Went; ran = None; fault = None };
+    }
+
+-- the event flag is cleared
+abbrev pub without_event : State → State
+without_event s = record s { core = record s.core { event = false } }
+
+-- the chosen exception would be taken with both PRIMASKs read as 0
+abbrev pub is_woken : State → Bool
+is_woken s = wakes s.exceptions s.core.masks
+
+-- a sleep that ends goes on with an instruction in the same step; (own) WFE's ends by the event flag too, and
+-- clears it
+abbrev pub by_sleep : Sleeping → State → Ended
+by_sleep Awake s = instructs s
+by_sleep Wfi s = if is_woken s then instructs (awake s) else idles s
+by_sleep Wfe s = if s.core.event || is_woken s then instructs (without_event (awake s)) else idles s
+
+-- how a step ends, after what it begins with: a locked machine stays so; then an exception that can be taken
+-- comes before an instruction
 unfoldable pub ended : State → Ended
 ended s =
     if s.core.run.locked then locks s true None []
-    else if s.core.registers.t then fetches s (fetch_in s)
-    else faults s (looks s.core.run.side s) (unready (looks s.core.run.side s) s.core.run.side) []
+    else if takes_first s.exceptions s.core.masks then is_entered s
+    else by_sleep s.core.run.sleep s
 
 -- ---- the step
 
@@ -213,6 +270,10 @@ pub record Stepped : Type 0 where
 abbrev pub stepped : Before → Ended → Stepped
 stepped b e = record { state = e.state; report = report_of b e }
 
--- one step; the events that are due are passed over
+-- at its beginning, of a locked machine too, the events that are due pend, and the timers count
+abbrev pub started : State → List ScriptEvent → State
+started s events = with_exceptions s (begun s.exceptions events)
+
+-- one step
 abbrev pub step : State → List ScriptEvent → Stepped
-step s events = stepped (before_in s.core) (ended s)
+step s events = stepped (before_in s.core) (ended (started s events))

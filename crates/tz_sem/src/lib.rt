@@ -6,14 +6,15 @@
 
 ghost use Rattle.std.specs.Prelude.{◌≡◌, List, true};
 ghost use Rattle.tz_model.specs.declared.report.ScriptEvent.{ScriptEvent};
-ghost use Rattle.tz_state.specs.State.{State};
+ghost use Rattle.tz_state.specs.State.{State, with_exceptions};
+ghost use Rattle.tz_state.specs.Due.{begun};
 ghost use Rattle.tz_sem.specs.Step.{step};
 
 mod ending;
 
 pub use ending::{Cause, Ending};
 
-/// A locked machine stays as it is, whatever events are due.
+/// A locked machine stays as it is, but that the events that are due pend and its timers count.
 pub fn locked_stays()
-    ensures { (s : State) (events : List ScriptEvent) → s.core.run.locked ≡ true → (step s events).state ≡ s }
+    ensures { (s : State) (events : List ScriptEvent) → s.core.run.locked ≡ true → (step s events).state ≡ with_exceptions s (begun s.exceptions events) }
 {}

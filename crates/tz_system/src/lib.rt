@@ -13,7 +13,7 @@ ghost use Rattle.tz_regs.specs.Special.{named_of};
 ghost use Rattle.tz_state.specs.Target.{target_word};
 ghost use Rattle.tz_exec.specs.Exec.{cleared_by, system_over};
 ghost use Rattle.tz_exec.specs.Local.{finished_named};
-ghost use Rattle.tz_exec.specs.System.{passes, finish_hint, finish_read, finish_write, asked, finish_test, finish_lazy};
+ghost use Rattle.tz_exec.specs.System.{passes, waits_for_event, finish_hint, finish_read, finish_write, asked, finish_test, finish_lazy};
 
 use tz_access::Bus;
 use tz_model::{Fault, Outcome};
@@ -28,12 +28,29 @@ fn pass(core: &Core) -> Result<Outcome, Fault>
     Ok(Outcome::Next)
 }
 
-/// Hints do nothing, but for WFE, WFI and SEV (2 to 4), which aren't built.
-fn hint(core: &Core, op: u8) -> Result<Outcome, Fault>
-    ensures { finished_named core.now (finish_hint op (named_of core.now)) ≡ (core.now, result) }
+/// WFE: clears the event flag where it is set, else sleeps until an event.
+fn wait_for_event(core: &mut Core) -> Result<Outcome, Fault>
+    ensures { finished_named core.old (waits_for_event (named_of core.old)) ≡ (core.new, result) }
+{
+    if core.event {
+        core.event = false;
+        Ok(Outcome::Next)
+    } else {
+        Ok(Outcome::Sleep { event: true })
+    }
+}
+
+/// WFE (2), WFI (3) and SEV (4); the other hints do nothing.
+fn hint(core: &mut Core, op: u8) -> Result<Outcome, Fault>
+    ensures { finished_named core.old (finish_hint op (named_of core.old)) ≡ (core.new, result) }
 {
     match op {
-        2..=4 => Err(Fault::Undef),
+        2 => wait_for_event(core),
+        3 => Ok(Outcome::Sleep { event: false }),
+        4 => {
+            core.event = true;
+            Ok(Outcome::Next)
+        }
         _ => pass(core),
     }
 }
@@ -115,8 +132,8 @@ fn test(core: &mut Core, bus: &Bus, probe: &Probe, rd: u8) -> Result<Outcome, Fa
 
 /// Does a system instruction at an execution priority (DDI0553, chapter C2), but for PC and the IT state.
 ///
-/// `Undef` for VLSTM, VLLDM, TTA and TTAT in Non-secure state, UDF, instructions of other families, and those
-/// that aren't built; `StackLimit(NonSecure)` exactly where MSR would write SP_NS below its limit; `Breakpoint`
+/// `Undef` for VLSTM, VLLDM, TTA and TTAT in Non-secure state, UDF, and instructions of other families;
+/// `StackLimit(NonSecure)` exactly where MSR would write SP_NS below its limit; `Breakpoint`
 /// for BKPT, and `Call` for SVC. A fault leaves the core as it was. The bus is changed by CLREX alone.
 pub fn execute(insn: &Insn, core: &mut Core, bus: &mut Bus, priority: i32) -> Result<Outcome, Fault>
     ensures { system_over priority insn.now core.old bus.old ≡ record { core = core.new; held = bus.new; outcome = result } }

@@ -1,7 +1,7 @@
 use Rattle.std.proofs.Common.{◌≡◌, Bool, true, false, [], cond, None, refl, sym, ap, ◌∙◌}
 use Rattle.tz_state.specs.State.{State}
 use Rattle.tz_sem.specs.Ended.{Ended}
-use Rattle.tz_sem.specs.Step.{ended, locks}
+use Rattle.tz_sem.specs.Step.{ended, locks, started}
 use Rattle.tz_sem.proofs.locked_stays.Goals as goal
 
 first : (t : Bool) (x y : Ended) → t ≡ true → cond t x y ≡ x
@@ -16,4 +16,4 @@ ended_locked s e =
     ap (λ (x : Ended). x.state) (first s.core.run.locked _ _ e) ∙ locked
 
 pub returns : goal.returns
-returns c = λ s events e. ended_locked s e
+returns c = λ s events e. ended_locked (started s events) e
