@@ -103,7 +103,7 @@ exchanged s after touched code stores target ns =
 -- where that fault comes the registers are those before the instruction: a branch changed none, and what a load
 -- wrote is taken back
 abbrev pub core_back : Result Outcome Fault → Core → Core → Core
-core_back (Ok (Exchange target ns)) before after = if is_fnc_return target then before else after
+core_back (Ok (Exchange target ns)) before after = if is_fnc_return target then record before { status = after.status } else after
 core_back outcome before after = after
 
 abbrev pub taken_back : Family → Core → Executed → Executed

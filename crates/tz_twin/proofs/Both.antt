@@ -23,20 +23,27 @@ pub record Touching (s : State) (before : Seen) (e : Ended) : Type 0 where
 abbrev pub Arrives : State → Ended → Type 0
 Arrives s e = is_nonsecure_side (side_of e.state) ≡ false → e.state.core.run.locked ≡ false → IsAtGateway s
 
+-- during a step the Secure side is kept, and the Secure timer stands
+pub record Kept (old new : State) : Type 0 where
+  pub keeps : Keeps old new
+  pub timer : new.exceptions.timer_s ≡ old.exceptions.timer_s
+
 -- both go on as twins, tell the same, and keep the Secure side
 pub record Goes (s s' : State) (e e' : Ended) : Type 0 where
   pub twins : Twins e.state e'.state
   pub ending : e.ending ≡ e'.ending
   pub stores : e.stores ≡ e'.stores
-  pub kept : Keeps s e.state
-  pub kept' : Keeps s' e'.state
+  pub kept : Kept s e.state
+  pub kept' : Kept s' e'.state
 
--- both lock, and keep the Secure side
+-- both lock, on their board, and where they didn't look at Secure state they keep the Secure side
 pub record Locks (s s' : State) (e e' : Ended) : Type 0 where
   pub locked : e.state.core.run.locked ≡ true
   pub locked' : e'.state.core.run.locked ≡ true
-  pub kept : Keeps s e.state
-  pub kept' : Keeps s' e'.state
+  pub board : e.state.bus.board ≡ s.bus.board
+  pub board' : e'.state.bus.board ≡ s'.bus.board
+  pub kept : e.ending.touched ≡ false → Kept s e.state
+  pub kept' : e'.ending.touched ≡ false → Kept s' e'.state
 
 pub data Both (s s' : State) (e e' : Ended) : Type 0 where
   Go : Goes s s' e e' → Both s s' e e'

@@ -1,5 +1,5 @@
 -- The gateway: Non-secure code that runs into Secure memory finds SG or faults, and looked at Secure state.
-use Rattle.std.proofs.Common.{◌≡◌, ℕ, ◌+◌, ◌==◌, Bool, true, false, ◌&&◌, not, cond, List, [], Result, Ok, Err, Option, Some, refl, sym, ap}
+use Rattle.std.proofs.Common.{◌≡◌, ℕ, ◌+◌, ◌==◌, Bool, true, false, ◌&&◌, not, cond, List, [], Result, Ok, Err, Option, refl, sym, ap, ◌∙◌}
 use Rattle.tz_table.specs.declared.units.Side.TheVariants.{Secure}
 use Rattle.tz_model.specs.declared.report.Fault.{Fault}
 use Rattle.tz_model.specs.declared.report.Fault.TheVariants.{EntryPoint, Exec, ExecBus}
@@ -10,14 +10,19 @@ use Rattle.tz_state.specs.declared.fetcher.Fetcher.{Fetcher}
 use Rattle.tz_state.specs.Memory.{half_at}
 use Rattle.tz_state.specs.State.{Bus, State, map_in}
 use Rattle.tz_state.specs.Fetch.{is_entry, is_runnable, is_half_mapped, sg_half, wide, gateway_fetch}
-use Rattle.tz_sem.specs.Step.{locks, enters, fetched, fetcher_in}
+use Rattle.tz_sem.specs.Step.{locks, faults, enters, fetched, fetcher_in}
 use Rattle.tz_twin.specs.Seen.{Seen, Hidden}
 use Rattle.tz_twin.proofs.Split.{Open, Rest, join_bus, join, board_seen}
 use Rattle.tz_twin.proofs.Both.{Touching, Arrives}
+use Rattle.tz_twin.proofs.Leaving.{raised_board}
 
 -- a step that locks and looked at Secure state
 pub touching_locks : (s0 s : State) (before : Seen) (fault : Option Fault) (stores : List Store) → board_seen before ≡ s.bus.board → Touching s0 before (locks s true fault stores)
 touching_locks s0 s before fault stores e = record { touched = refl; seen = ap Hidden (sym e) }
+
+-- one that faults, which locks too
+pub touching_faults : (s0 s : State) (before : Seen) (fault : Fault) (stores : List Store) → board_seen before ≡ s.bus.board → Touching s0 before (faults s true fault stores)
+touching_faults s0 s before fault stores e = record { touched = refl; seen = ap Hidden (raised_board _ _ _ ∙ sym e) }
 
 hidden_side : (locked : Bool) → is_nonsecure_side (cond locked Secure Secure) ≡ false
 hidden_side true = refl
@@ -47,17 +52,17 @@ gateway_fetch_gate b k pc =
     go true true true false = Faults EntryPoint
 
 gate_touching : (o : Open) (x : Rest) (before : Seen) (a : Result Fetched Fault) → Gate a → board_seen before ≡ o.board → Touching (join o x) before (fetched (join o x) true a)
-gate_touching o x before _ (Faults fault) e = touching_locks (join o x) (join o x) before (Some fault) [] e
+gate_touching o x before _ (Faults fault) e = touching_faults (join o x) (join o x) before fault [] e
 gate_touching o x before _ Enters e = touching_enters (join o x) (join o x) before refl e
 
-gate_arrives : (o : Open) (x : Rest) (a : Result Fetched Fault) → Gate a → gateway_fetch (join_bus o x) (fetcher_in (join o x).core) o.registers.pc ≡ a → Arrives (join o x) (fetched (join o x) true a)
+gate_arrives : (o : Open) (x : Rest) (a : Result Fetched Fault) → Gate a → gateway_fetch (join_bus o x) (fetcher_in (join o x)) o.registers.pc ≡ a → Arrives (join o x) (fetched (join o x) true a)
 gate_arrives o x _ (Faults fault) is secure unlocked = absurd (cc)
 gate_arrives o x _ Enters is secure unlocked = is
 
 -- a fetch that begins in Secure memory
 pub touching_gateway : (o : Open) (x : Rest) (before : Seen) → board_seen before ≡ o.board
-    → Touching (join o x) before (fetched (join o x) true (gateway_fetch (join_bus o x) (fetcher_in (join o x).core) o.registers.pc))
-touching_gateway o x before e = gate_touching o x before _ (gateway_fetch_gate (join_bus o x) (fetcher_in (join o x).core) o.registers.pc) e
+    → Touching (join o x) before (fetched (join o x) true (gateway_fetch (join_bus o x) (fetcher_in (join o x)) o.registers.pc))
+touching_gateway o x before e = gate_touching o x before _ (gateway_fetch_gate (join_bus o x) (fetcher_in (join o x)) o.registers.pc) e
 
-pub arrives_gateway : (o : Open) (x : Rest) → Arrives (join o x) (fetched (join o x) true (gateway_fetch (join_bus o x) (fetcher_in (join o x).core) o.registers.pc))
-arrives_gateway o x = gate_arrives o x _ (gateway_fetch_gate (join_bus o x) (fetcher_in (join o x).core) o.registers.pc) refl
+pub arrives_gateway : (o : Open) (x : Rest) → Arrives (join o x) (fetched (join o x) true (gateway_fetch (join_bus o x) (fetcher_in (join o x)) o.registers.pc))
+arrives_gateway o x = gate_arrives o x _ (gateway_fetch_gate (join_bus o x) (fetcher_in (join o x)) o.registers.pc) refl

@@ -1,15 +1,16 @@
 -- A step of Secure code looks at Secure state, and what is seen after it is fixed by its crossing: one
 -- fact for each stage of the step, of one run alone.
-use Rattle.std.proofs.Common.{◌≡◌, ℕ, ◌+◌, ◌%◌, ◌==◌, Bool, true, false, ◌&&◌, not, cond, List, [], ◌∷◌, Result, Ok, Err, refl, sym, ap, ◌∙◌, subst, Option, Some, None}
+use Rattle.std.proofs.Common.{◌≡◌, ℕ, ◌+◌, ◌%◌, ◌==◌, Bool, true, false, ◌&&◌, ◌||◌, not, cond, List, [], ◌∷◌, Result, Ok, Err, refl, sym, ap, ◌∙◌, subst, Option, Some, None}
 use Rattle.tz_table.specs.declared.units.Side.{Side}
 use Rattle.tz_table.specs.declared.units.Side.TheVariants.{Secure, NonSecure}
 use Rattle.tz_table.specs.declared.units.Size.{Size}
+use Rattle.tz_table.specs.declared.units.Size.TheVariants.{Byte, Half, Word}
 use Rattle.tz_table.specs.declared.units.Code.{Code}
 use Rattle.tz_table.specs.declared.decoded.Decoded.{Decoded}
 use Rattle.tz_table.specs.declared.decoded.Decoded.TheVariants.{One, NoCoprocessor, Undefined}
 use Rattle.tz_table.specs.declared.instruction.Insn.{Insn}
 use Rattle.tz_model.specs.declared.report.Fault.{Fault}
-use Rattle.tz_model.specs.declared.report.Fault.TheVariants.{Undef, NoCp, InvState}
+use Rattle.tz_model.specs.declared.report.Fault.TheVariants.{Undef, NoCp, InvState, InvPc}
 use Rattle.tz_model.specs.declared.report.Outcome.{Outcome}
 use Rattle.tz_model.specs.declared.report.Outcome.TheVariants.{Next, Jump, Exchange, Sleep}
 use Rattle.tz_model.specs.declared.report.Store.{Store}
@@ -18,12 +19,11 @@ use Rattle.tz_model.specs.Words.{wrap, is_nonsecure_side}
 use Rattle.tz_model.specs.Codes.{meaning_of}
 use Rattle.tz_model.specs.Ports.{Access, Load, Store as Write, after_answer, answers}
 use Rattle.tz_regs.specs.ItState.{it_advanced}
-use Rattle.tz_regs.specs.Priority.{mask_priority}
 use Rattle.tz_regs.specs.Special.{named_of}
 use Rattle.tz_state.specs.declared.request.Exclusive.{Exclusive}
 use Rattle.tz_regs.specs.declared.parts.Core.{Core}
-use Rattle.tz_state.specs.State.{State, is_held, side_of, with_core, with_pc}
-use Rattle.tz_state.specs.Access.{is_aligned, Reached, reached_in, read_by, write_by, access}
+use Rattle.tz_state.specs.State.{State, priority_in, is_held, side_of, with_core, with_pc}
+use Rattle.tz_state.specs.Access.{is_aligned, is_private, Reached, reached_in, loaded, read_by, stored_in, write_by, access}
 use Rattle.tz_state.specs.Fetch.{fetch, own_fetch}
 use Rattle.tz_exec.specs.declared.family.Family.{Family}
 use Rattle.tz_exec.specs.declared.family.Family.TheVariants.{Alu, LoadStore, Branch, System}
@@ -35,11 +35,26 @@ use Rattle.tz_exec.specs.System.{finish_system, clears_monitor, probe_of}
 use Rattle.tz_exec.specs.ItRules.{is_misplaced, is_passed_over, ignores_condition}
 use Rattle.tz_exec.specs.Exec.{Ported, ported, unless_refused, after_accesses, probed, Executed, alone, beside, through, Exclusivity, Free, Marks, Takes, exclusivity, marked, released, loads_stores, exclusively, family_of, executed_by}
 use Rattle.tz_sem.specs.Ended.{Ended}
-use Rattle.tz_sem.specs.Step.{length_of, ran, is_fnc_return, branched, branch_ns, core_back, taken_back, exchanged, with_it, past, skips, goes_on, concludes, executes, placed, decoded, fetched, fetcher_in, ended}
-use Rattle.tz_twin.specs.Seen.{Seen, Hidden}
+use Rattle.tz_regs.specs.declared.parts.Before.{Before}
+use Rattle.tz_regs.specs.Registers.{before_in}
+use Rattle.tz_state.specs.Execution.{takes_first}
+use Rattle.tz_state.specs.Protection.{MpuState}
+use Rattle.tz_state.specs.State.{Bus, with_mpu}
+use Rattle.tz_state.specs.declared.register.Register.{Register}
+use Rattle.tz_state.specs.declared.register.Register.TheVariants.{Ictr, Control, Mpu}
+use Rattle.tz_state.specs.declared.register.ControlRegister.TheVariants.{Cpuid}
+use Rattle.tz_state.specs.declared.register.Found.{Found}
+use Rattle.tz_state.specs.declared.register.Narrow.{Narrow}
+use Rattle.tz_state.specs.declared.register.Narrow.TheVariants.{Keeps, Zeros, Ignored}
+use Rattle.tz_state.specs.Registers.{SystemState, after_read, written}
+use Rattle.tz_state.specs.Views.{narrow_of, narrow_written, sized_written, found_at, found_read, found_written}
+use Rattle.tz_model.specs.declared.report.Sleep.{Sleep as Sleeping}
+use Rattle.tz_model.specs.declared.report.Sleep.TheVariants.{Awake, Wfi, Wfe}
+use Rattle.tz_sem.specs.Step.{length_of, ran, is_fnc_return, branched, branch_ns, core_back, taken_back, exchanged, with_it, past, skips, goes_on, concludes, executes, placed, decoded, fetched, fetcher_in, asleep, instructs, awake, without_event, idles, is_woken, by_sleep, stepped, ended}
+use Rattle.tz_twin.specs.Seen.{crossing, Seen, Hidden}
 use Rattle.tz_twin.proofs.Split.{board_seen}
-use Rattle.tz_twin.proofs.Both.{Touching}
-use Rattle.tz_twin.proofs.Entering.{touching_locks, touching_enters}
+use Rattle.tz_twin.proofs.Both.{after, Touching}
+use Rattle.tz_twin.proofs.Entering.{touching_locks, touching_faults, touching_enters}
 use Rattle.tz_twin.proofs.Returning.{secured, touching_returned}
 
 -- the board that is seen is that of a state
@@ -63,7 +78,7 @@ touching_branch s0 s before code stores target e =
 touching_exchanged : (s0 s p : State) (before : Seen) (code : Code) (stores : List Store) (target : ℕ) (ns : Bool) → Of before s → Of before p
     → Touching s0 before (exchanged (secured s) (secured p) true code stores target ns)
 touching_exchanged s0 s p before code stores target ns e f =
-    touching_cond s0 before (is_fnc_return target) _ _ (touching_locks s0 (secured s) before _ stores e)
+    touching_cond s0 before (is_fnc_return target) _ _ (touching_faults s0 (secured s) before (InvPc Secure) stores e)
     (touching_cond s0 before ns _ _ (touching_branch s0 p before code stores target f)
     (stays s0 (branched p target (target % 2 == 1)) before code stores f))
 
@@ -71,7 +86,7 @@ touching_goes_on : (s0 s : State) (before : Seen) (code : Code) (i : Insn) (stor
 touching_goes_on s0 s before code i stores Next e = stays s0 (with_pc (past i s) (wrap (s.core.registers.pc + length_of code))) before code stores e
 touching_goes_on s0 s before code i stores (Jump to) e = stays s0 (with_pc (past i s) to) before code stores e
 touching_goes_on s0 s before code i stores (Exchange target ns) e = touching_exchanged s0 s (past i s) before code stores target ns e e
-touching_goes_on s0 s before code i stores (Sleep event) e = stays s0 (with_pc (past i s) (wrap (s.core.registers.pc + length_of code))) before code stores e
+touching_goes_on s0 s before code i stores (Sleep event) e = stays s0 (with_pc (asleep event (past i s)) (wrap (s.core.registers.pc + length_of code))) before code stores e
 
 touching_skips : (s0 s : State) (before : Seen) (code : Code) → Of before s → Touching s0 before (skips (secured s) true code)
 touching_skips s0 s before code e = stays s0 (with_pc (with_it s (it_advanced s.core.registers.it)) (wrap (s.core.registers.pc + length_of code))) before code [] e
@@ -86,7 +101,7 @@ record Stays (s : State) (e : Executed) : Type 0 where
 
 touching_concludes : (s0 s : State) (before : Seen) (code : Code) (i : Insn) (stores : List Store) (out : Result Outcome Fault) → Of before s → Touching s0 before (concludes i (secured s) true code stores out)
 touching_concludes s0 s before code i stores (Ok outcome) e = touching_goes_on s0 s before code i stores outcome e
-touching_concludes s0 s before code i stores (Err fault) e = touching_locks s0 (secured s) before (Some fault) stores e
+touching_concludes s0 s before code i stores (Err fault) e = touching_faults s0 (secured s) before fault stores e
 
 touching_executes : (s0 s : State) (before : Seen) (code : Code) (i : Insn) (e : Executed) → Of before s → Stays s e → Touching s0 before (executes true code i e)
 touching_executes s0 s before code i e is h =
@@ -109,35 +124,76 @@ stays_named s false (Ok f) = record { side = refl; locked = refl; board = refl }
 stays_named s true (Err fault) = record { side = refl; locked = refl; board = refl }
 stays_named s false (Err fault) = record { side = refl; locked = refl; board = refl }
 
--- accesses leave the board
-read_board : (v : Option Fault) (r : Reached) (word : ℕ) → (read_by v r word).0.bus.board ≡ r.bus.board
-read_board None r word = refl
-read_board (Some fault) r word = refl
+-- system registers leave the board
+mpu_board : (b : Bus) (side : Side) (m : MpuState) → (with_mpu b side m).board ≡ b.board
+mpu_board b Secure m = refl
+mpu_board b NonSecure m = refl
 
-write_board : (v : Option Fault) (r : Reached) (size : Size) (a value : ℕ) → (write_by v r size a value).0.bus.board ≡ r.bus.board
-write_board None r size a value = refl
+word_board : (side : Side) (s : SystemState) (r : Register) (value : ℕ) → (written side s r value).bus.board ≡ s.bus.board
+word_board side s (Mpu r) value = mpu_board s.bus side _
+word_board side s (Control Cpuid) value = refl
+word_board side s (Control _) value = refl
+word_board side s _ value = refl
+
+narrow_board : (side : Side) (s : SystemState) (r : Register) (n : Narrow) (lane : ℕ) (size : Size) (value : ℕ) → (narrow_written side s r n lane size value).bus.board ≡ s.bus.board
+narrow_board side s r Keeps lane size value = word_board side s r _
+narrow_board side s r Zeros lane size value = word_board side s r _
+narrow_board side s r Ignored lane size value = refl
+
+sized_board : (side : Side) (s : SystemState) (r : Register) (lane : ℕ) (size : Size) (value : ℕ) → (sized_written side s r lane size value).bus.board ≡ s.bus.board
+sized_board side s r lane Byte value = narrow_board side s r (narrow_of r) lane Byte value
+sized_board side s r lane Half value = narrow_board side s r (narrow_of r) lane Half value
+sized_board side s r lane Word value = word_board side s r value
+
+found_written_board : (s : SystemState) (f : Option Found) (lane : ℕ) (size : Size) (value : ℕ) → (found_written s f lane size value).bus.board ≡ s.bus.board
+found_written_board s None lane size value = refl
+found_written_board s (Some f) lane size value = sized_board f.view s f.register lane size value
+
+after_read_board : (side : Side) (s : SystemState) (r : Register) → (after_read side s r).bus.board ≡ s.bus.board
+after_read_board side s Ictr = refl
+after_read_board side s _ = refl
+
+found_read_board : (s : SystemState) (f : Option Found) → (found_read s f).bus.board ≡ s.bus.board
+found_read_board s None = refl
+found_read_board s (Some f) = after_read_board f.view s f.register
+
+-- and so do accesses
+loaded_board : (private : Bool) (r : Reached) (size : Size) (a : ℕ) → (loaded private r size a).0.system.bus.board ≡ r.system.bus.board
+loaded_board true r size a = found_read_board r.system (found_at r.asker.side a)
+loaded_board false r size a = refl
+
+read_board : (v : Option Fault) (r : Reached) (size : Size) (a : ℕ) → (read_by v r size a).0.system.bus.board ≡ r.system.bus.board
+read_board None r size a = loaded_board (is_private a) r size a
+read_board (Some fault) r size a = refl
+
+stored_board : (private : Bool) (side : Side) (s : SystemState) (size : Size) (a value : ℕ) → (stored_in private side s size a value).bus.board ≡ s.bus.board
+stored_board true side s size a value = found_written_board s (found_at side a) (a % 4) size value
+stored_board false side s size a value = refl
+
+write_board : (v : Option Fault) (r : Reached) (size : Size) (a value : ℕ) → (write_by v r size a value).0.system.bus.board ≡ r.system.bus.board
+write_board None r size a value = stored_board (is_private a) r.asker.side r.system size a value
 write_board (Some fault) r size a value = refl
 
-access_board : (r : Reached) (q : Access) → (access r q).0.bus.board ≡ r.bus.board
+access_board : (r : Reached) (q : Access) → (access r q).0.system.bus.board ≡ r.system.bus.board
 unfolding access
-access_board r (Load size a must_align user) = read_board _ r _
+access_board r (Load size a must_align user) = read_board _ r size a
 access_board r (Write size a value must_align user) = write_board _ r size a _
 
-after_board : (a : Reached × Result ℕ Fault) (r : Reached) (later : Reached → Reached × Result (List ℕ) Fault) → a.0.bus.board ≡ r.bus.board → ((h : Reached) → (later h).0.bus.board ≡ h.bus.board)
-    → (after_answer a later).0.bus.board ≡ r.bus.board
+after_board : (a : Reached × Result ℕ Fault) (r : Reached) (later : Reached → Reached × Result (List ℕ) Fault) → a.0.system.bus.board ≡ r.system.bus.board → ((h : Reached) → (later h).0.system.bus.board ≡ h.system.bus.board)
+    → (after_answer a later).0.system.bus.board ≡ r.system.bus.board
 after_board (h, Ok word) r later e more = more h ∙ e
 after_board (h, Err fault) r later e more = e
 
-answers_board : (qs : List Access) (r : Reached) → (answers access r qs).0.bus.board ≡ r.bus.board
+answers_board : (qs : List Access) (r : Reached) → (answers access r qs).0.system.bus.board ≡ r.system.bus.board
 unfolding answers
 answers_board [] r = refl
 answers_board (q ∷ more) r = after_board (access r q) r (λ left. answers access left more) (access_board r q) (λ h. answers_board more h)
 
-stays_ported : (s : State) (h : Reached) (f : Finished) → h.bus.board ≡ s.bus.board → Stays s (through (secured s) (ported h (finished_in (secured s).core f)))
+stays_ported : (s : State) (h : Reached) (f : Finished) → h.system.bus.board ≡ s.bus.board → Stays s (through (secured s) (ported h (finished_in (secured s).core f)))
 stays_ported s h (Ok f) e = record { side = refl; locked = refl; board = e }
 stays_ported s h (Err fault) e = record { side = refl; locked = refl; board = e }
 
-stays_accesses : (s : State) (a : Reached × Result (List ℕ) Fault) (finish : List ℕ → Finished) → a.0.bus.board ≡ s.bus.board → Stays s (through (secured s) (after_accesses (secured s).core a finish))
+stays_accesses : (s : State) (a : Reached × Result (List ℕ) Fault) (finish : List ℕ → Finished) → a.0.system.bus.board ≡ s.bus.board → Stays s (through (secured s) (after_accesses (secured s).core a finish))
 stays_accesses s (h, Ok words) finish e = stays_ported s h (finish words) e
 stays_accesses s (h, Err fault) finish e = record { side = refl; locked = refl; board = e }
 
@@ -171,7 +227,7 @@ stays_family s i Branch =
     let l = local_of (secured s).core in
     stays_accesses s _ (finish_branch i l) (answers_board (plan_branch i l) (reached_in (secured s)))
 stays_family s i System =
-    let p = mask_priority s.core.masks in
+    let p = priority_in (secured s) in
     let n = named_of (secured s).core in
     stays_named s (clears_monitor i) (finish_system p i n (probed s.bus (probe_of p i n)))
 
@@ -181,8 +237,8 @@ stays_core s e c side locked h = record { side = side; locked = locked; board = 
 
 stays_back : (s : State) (e : Executed) (out : Result Outcome Fault) → Stays s e → Stays s (record e { state = with_core e.state (core_back out (secured s).core e.state.core) })
 stays_back s e (Ok (Exchange target ns)) h = go (is_fnc_return target) where
-  go : (t : Bool) → Stays s (record e { state = with_core e.state (cond t (secured s).core e.state.core) })
-  go true = stays_core s e (secured s).core refl refl h
+  go : (t : Bool) → Stays s (record e { state = with_core e.state (cond t (record (secured s).core { status = e.state.core.status }) e.state.core) })
+  go true = stays_core s e (record (secured s).core { status = e.state.core.status }) refl refl h
   go false = stays_core s e e.state.core h.side h.locked h
 stays_back s e (Ok Next) h = stays_core s e e.state.core h.side h.locked h
 stays_back s e (Ok (Jump to)) h = stays_core s e e.state.core h.side h.locked h
@@ -197,30 +253,53 @@ stays_taken s System e h = h
 
 touching_placed : (s : State) (before : Seen) (code : Code) (i : Insn) → Of before s → Touching (secured s) before (placed (secured s) true code i)
 touching_placed s before code i e =
-    touching_cond (secured s) before (is_misplaced i s.core.registers) _ _ (touching_locks (secured s) (secured s) before (Some Undef) [] e)
+    touching_cond (secured s) before (is_misplaced i s.core.registers) _ _ (touching_faults (secured s) (secured s) before Undef [] e)
     (touching_cond (secured s) before (is_passed_over s.core.registers && not (ignores_condition Secure i)) _ _ (touching_skips (secured s) s before code e)
     (touching_executes (secured s) s before code i _ e (stays_taken s (family_of i) _ (stays_family s i (family_of i)))))
 
 touching_decoded : (s : State) (before : Seen) (code : Code) (d : Decoded) → Of before s → Touching (secured s) before (decoded (secured s) true code d)
 touching_decoded s before code (One i width) e = touching_placed s before code i e
 touching_decoded s before code NoCoprocessor e =
-    touching_cond (secured s) before (is_passed_over s.core.registers) _ _ (touching_skips (secured s) s before code e) (touching_locks (secured s) (secured s) before (Some NoCp) [] e)
-touching_decoded s before code (Undefined width) e = touching_locks (secured s) (secured s) before (Some Undef) [] e
+    touching_cond (secured s) before (is_passed_over s.core.registers) _ _ (touching_skips (secured s) s before code e) (touching_faults (secured s) (secured s) before NoCp [] e)
+touching_decoded s before code (Undefined width) e = touching_faults (secured s) (secured s) before Undef [] e
 
 -- ---- the step
 
 touching_fetched : (s : State) (before : Seen) (f : Result Fetched Fault) → Of before s → Touching (secured s) before (fetched (secured s) true f)
-touching_fetched s before (Err fault) e = touching_locks (secured s) (secured s) before (Some fault) [] e
+touching_fetched s before (Err fault) e = touching_faults (secured s) (secured s) before fault [] e
 touching_fetched s before (Ok f) e =
     touching_cond (secured s) before f.gateway _ _ (touching_enters (secured s) (secured s) before refl e) (touching_decoded s before f.code (meaning_of f.code) e)
 
+-- an instruction of Secure code, with what comes where T is 0
+touching_instructs : (s : State) (before : Seen) → Of before s → Touching (secured s) before (instructs (secured s))
+unfolding fetch
+touching_instructs s before e =
+    touching_cond (secured s) before s.core.registers.t _ _
+    (touching_fetched s before (own_fetch s.bus (fetcher_in (secured s)) s.core.registers.pc) e)
+    (touching_faults (secured s) (secured s) before InvState [] e)
+
+-- what is told before doesn't know of sleep and the event flag
+touching_woken : (s r : State) (before : Seen) (x : Ended) → before_in (secured r).core ≡ before_in (secured s).core → Touching (secured r) before x → Touching (secured s) before x
+touching_woken s r before x same t =
+    record { touched = t.touched; seen = t.seen ∙ ap (λ (b : Before). after before (crossing (stepped b x))) same }
+
+touching_idles : (s : State) (before : Seen) → Of before s → Touching (secured s) before (idles (secured s))
+touching_idles s before e = record { touched = refl; seen = ap Hidden (sym e) }
+
+touching_sleeps : (s : State) (before : Seen) (sleep : Sleeping) → Of before s → Touching (secured s) before (by_sleep sleep (secured s))
+touching_sleeps s before Awake e = touching_instructs s before e
+touching_sleeps s before Wfi e =
+    touching_cond (secured s) before (is_woken (secured s)) _ _ (touching_woken s (awake s) before _ refl (touching_instructs (awake s) before e)) (touching_idles s before e)
+touching_sleeps s before Wfe e =
+    touching_cond (secured s) before (s.core.event || is_woken (secured s)) _ _
+    (touching_woken s (without_event (awake s)) before _ refl (touching_instructs (without_event (awake s)) before e)) (touching_idles s before e)
+
 -- a step of Secure code
 touching_secured : (s : State) (before : Seen) → Of before s → Touching (secured s) before (ended (secured s))
-unfolding ended fetch
+unfolding ended
 touching_secured s before e =
-    touching_cond (secured s) before s.core.registers.t _ _
-    (touching_fetched s before (own_fetch s.bus (fetcher_in (secured s).core) s.core.registers.pc) e)
-    (touching_locks (secured s) (secured s) before (Some InvState) [] e)
+    touching_cond (secured s) before (takes_first s.exceptions s.core.masks) _ _ (touching_locks (secured s) (awake (secured s)) before None [] e)
+    (touching_sleeps s before s.core.run.sleep e)
 
 runs_secure : (side : Side) → is_nonsecure_side side ≡ false → side ≡ Secure
 runs_secure Secure e = refl

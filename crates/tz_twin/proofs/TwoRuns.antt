@@ -1,9 +1,10 @@
 -- Two runs that are seen alike and cross out of Secure state alike print the same.
-use Rattle.std.proofs.Common.{◌≡◌, ℕ, zero, suc, ◌+◌, Bool, true, false, ◌||◌, not, ◌++◌, refl, sym, ap, ◌∙◌, cond}
+use Rattle.std.proofs.Common.{◌≡◌, ℕ, zero, suc, ◌+◌, Bool, true, false, ◌||◌, not, List, ◌++◌, refl, sym, ap, ◌∙◌, cond}
 use Rattle.std.specs.Prelude.{codes, decimal}
 use Rattle.tz_table.specs.declared.units.Side.{Side}
 use Rattle.tz_table.specs.declared.units.Side.TheVariants.{Secure}
 use Rattle.tz_model.specs.declared.report.Report.{Report}
+use Rattle.tz_model.specs.declared.report.ScriptEvent.{ScriptEvent}
 use Rattle.tz_model.specs.declared.report.View.TheVariants.{Ns}
 use Rattle.tz_model.specs.Board.{BoardValue}
 use Rattle.tz_model.specs.Image.{ImageValue}
@@ -15,14 +16,14 @@ use Rattle.tz_state.specs.State.{State, side_of}
 use Rattle.tz_sem.specs.Boot.{boot_memory, has_vectors, reset, boot}
 use Rattle.tz_sem.specs.Ended.{Ended, report_of}
 use Rattle.tz_sem.specs.Run.{Events}
-use Rattle.tz_sem.specs.Step.{Stepped, stepped, ended}
+use Rattle.tz_sem.specs.Step.{Stepped, stepped, ended, started}
 use Rattle.tz_text.specs.Line.{is_hidden, line}
 use Rattle.tz_twin.specs.Seen.{crossing, Agree, Seen, Hidden, seen}
 use Rattle.tz_twin.specs.Trace.{text_from}
 use Rattle.tz_twin.proofs.Split.{Open, Twins, by_join, board_seen-seen, sides_alike, twins_of_seen, seen_of_twins}
 use Rattle.tz_twin.proofs.Both.{after, Touching, Goes, Locks, Both, Go, Lock, Touch}
 use Rattle.tz_twin.proofs.Secured.{touching_step}
-use Rattle.tz_twin.proofs.Stepping.{twin_step}
+use Rattle.tz_twin.proofs.Stepping.{twin_ended, twin_started}
 
 -- two steps of which each leaves the same to be seen, and prints the same line
 pub record Linked (k : ℕ) (r r' : Stepped) : Type 0 where
@@ -77,7 +78,7 @@ locked_line k b e h =
 
 linked_locks : (k : ℕ) (s s' : State) (e e' : Ended) → Twins s s' → Locks s s' e e' → Linked k (stepped (before_in s.core) e) (stepped (before_in s'.core) e')
 linked_locks k s s' e e' t h = record {
-  seen = locked_seen e.state h.locked ∙ ap Hidden (h.kept.board ∙ ap (λ (o : Open). o.board) t.opens ∙ sym h.kept'.board) ∙ sym (locked_seen e'.state h.locked');
+  seen = locked_seen e.state h.locked ∙ ap Hidden (h.board ∙ ap (λ (o : Open). o.board) t.opens ∙ sym h.board') ∙ sym (locked_seen e'.state h.locked');
   line = locked_line k (before_in s.core) e h.locked ∙ sym (locked_line k (before_in s'.core) e' h.locked');
 }
 
@@ -106,19 +107,36 @@ linked_step k s s' alike same = go (is_nonsecure_side (side_of s)) refl where
   go : (t : Bool) → is_nonsecure_side (side_of s) ≡ t → Linked k (stepped (before_in s.core) (ended s)) (stepped (before_in s'.core) (ended s'))
   go true is =
       let t = twins_of_seen s s' alike is in
-      linked_both k s s' (ended s) (ended s') t same (twin_step s s' t)
+      linked_both k s s' (ended s) (ended s') t same (twin_ended s s' t)
   go false is =
       linked_touching k s s' (seen s) (seen s') (ended s) (ended s') alike same
       (touching_step s (seen s) is (board_seen-seen s)) (touching_step s' (seen s') (sym (sides_alike s s' alike) ∙ is) (board_seen-seen s'))
 
 -- ---- runs
 
+-- what a step begins with is seen alike
+hidden_started : (s : State) (events : List ScriptEvent) → is_nonsecure_side (side_of s) ≡ false → seen (started s events) ≡ Hidden s.bus.board
+hidden_started s events is = rw is refl
+
+hidden_seen : (s : State) → is_nonsecure_side (side_of s) ≡ false → seen s ≡ Hidden s.bus.board
+hidden_seen s is = rw is refl
+
+seen_started : (s s' : State) (events : List ScriptEvent) → seen s ≡ seen s' → seen (started s events) ≡ seen (started s' events)
+seen_started s s' events e = go (is_nonsecure_side (side_of s)) refl where
+  go : (t : Bool) → is_nonsecure_side (side_of s) ≡ t → seen (started s events) ≡ seen (started s' events)
+  go true is = seen_of_twins (started s events) (started s' events) (twin_started s s' events (twins_of_seen s s' e is))
+  go false is =
+      let is' : is_nonsecure_side (side_of s') ≡ false = sym (sides_alike s s' e) ∙ is in
+      hidden_started s events is ∙ sym (hidden_seen s is) ∙ e ∙ hidden_seen s' is' ∙ sym (hidden_started s' events is')
+
 -- n steps print the same
 pub same_text : (events : Events) (n k : ℕ) (s s' : State) → seen s ≡ seen s' → Agree events k s s' n → text_from Ns events k s n ≡ text_from Ns events k s' n
 same_text events zero k s s' e agree = refl
 same_text events (suc n) k s s' e agree =
-    let a = linked_step k s s' e agree.0 in
-    rw (a.line, same_text events n (k + 1) (ended s).state (ended s').state a.seen agree.1) refl
+    let r = started s (events k) in
+    let r' = started s' (events k) in
+    let a = linked_step k r r' (seen_started s s' (events k) e) agree.0 in
+    rw (a.line, same_text events n (k + 1) (ended r).state (ended r').state a.seen agree.1) refl
 
 -- nothing of a start is seen but the board
 pub boot_seen : (b : BoardValue) (secure nonsecure : ImageValue) → seen (boot b secure nonsecure) ≡ Hidden b

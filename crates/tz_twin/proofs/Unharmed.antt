@@ -1,22 +1,25 @@
 -- Integrity: the walk over a step of twins, of a state beside itself.
-use Rattle.std.proofs.Common.{◌≡◌, Bool, true, false, refl}
+use Rattle.std.proofs.Common.{◌≡◌, Bool, true, false, List, refl, ◌∙◌}
+use Rattle.tz_model.specs.declared.report.ScriptEvent.{ScriptEvent}
 use Rattle.tz_model.specs.Words.{is_nonsecure_side}
+use Rattle.tz_state.specs.Due.{begun}
 use Rattle.tz_state.specs.State.{State, side_of}
 use Rattle.tz_sem.specs.Ended.{Ended}
-use Rattle.tz_sem.specs.Step.{ended}
+use Rattle.tz_sem.specs.Step.{ended, started}
 use Rattle.tz_twin.specs.Seen.{seen}
-use Rattle.tz_twin.specs.Integrity.{Keeps, IsAtGateway}
+use Rattle.tz_twin.specs.Integrity.{Keeps, CountsAlone, IsAtGateway}
 use Rattle.tz_twin.proofs.Split.{twins_of_seen, board_seen-seen}
-use Rattle.tz_twin.proofs.Both.{Both, Go, Lock, Touch}
-use Rattle.tz_twin.proofs.Stepping.{twin_step}
+use Rattle.tz_twin.proofs.Slots.{then, begun_kept}
+use Rattle.tz_twin.proofs.Both.{Kept, Both, Go, Lock, Touch}
+use Rattle.tz_twin.proofs.Stepping.{twin_ended}
 
 apart : (t : Bool) → t ≡ true → t ≡ false → ⊥
 apart true e f = cc
 apart false e f = cc
 
-keeps_both : (s : State) (e : Ended) → Both s s e e → e.ending.touched ≡ false → Keeps s e.state
+keeps_both : (s : State) (e : Ended) → Both s s e e → e.ending.touched ≡ false → Kept s e.state
 keeps_both s e (Go h) untouched = h.kept
-keeps_both s e (Lock h) untouched = h.kept
+keeps_both s e (Lock h) untouched = h.kept untouched
 keeps_both s e (Touch h h' a a') untouched = absurd (apart e.ending.touched (h (seen s) (board_seen-seen s)).touched untouched)
 
 arrives_both : (s : State) (e : Ended) → Both s s e e → is_nonsecure_side (side_of e.state) ≡ false → e.state.core.run.locked ≡ false → IsAtGateway s
@@ -25,10 +28,28 @@ arrives_both s e (Lock h) secure unlocked = absurd (apart e.state.core.run.locke
 arrives_both s e (Touch h h' a a') secure unlocked = a secure unlocked
 
 itself : (s : State) → is_nonsecure_side (side_of s) ≡ true → Both s s (ended s) (ended s)
-itself s is = twin_step s s (twins_of_seen s s refl is)
+itself s is = twin_ended s s (twins_of_seen s s refl is)
 
-pub leaves_secure : (s : State) → is_nonsecure_side (side_of s) ≡ true → (ended s).ending.touched ≡ false → Keeps s (ended s).state
-leaves_secure s is untouched = keeps_both s (ended s) (itself s is) untouched
+-- what a step begins with is no part of what is kept, but for the Secure timer's count
+kept_from : (s : State) (events : List ScriptEvent) (r : State) → Kept (started s events) r → Keeps s r × CountsAlone s r
+kept_from s events r k =
+    (record {
+      bytes = k.keeps.bytes;
+      stacks = k.keeps.stacks;
+      masks = k.keeps.masks;
+      status = k.keeps.status;
+      exceptions = then s.exceptions (begun s.exceptions events) r.exceptions (begun_kept s.exceptions events) k.keeps.exceptions;
+      sau = k.keeps.sau;
+      mpu = k.keeps.mpu;
+      board = k.keeps.board;
+    }, k.timer)
 
-pub enters_by_gateway : (s : State) → is_nonsecure_side (side_of s) ≡ true → is_nonsecure_side (side_of (ended s).state) ≡ false → (ended s).state.core.run.locked ≡ false → IsAtGateway s
-enters_by_gateway s is secure unlocked = arrives_both s (ended s) (itself s is) secure unlocked
+pub leaves_secure : (s : State) (events : List ScriptEvent) → is_nonsecure_side (side_of s) ≡ true → (ended (started s events)).ending.touched ≡ false
+    → Keeps s (ended (started s events)).state × CountsAlone s (ended (started s events)).state
+leaves_secure s events is untouched =
+    let r = started s events in kept_from s events (ended r).state (keeps_both r (ended r) (itself r is) untouched)
+
+pub enters_by_gateway : (s : State) (events : List ScriptEvent) → is_nonsecure_side (side_of s) ≡ true → is_nonsecure_side (side_of (ended (started s events)).state) ≡ false
+    → (ended (started s events)).state.core.run.locked ≡ false → IsAtGateway (started s events)
+enters_by_gateway s events is secure unlocked =
+    let r = started s events in arrives_both r (ended r) (itself r is) secure unlocked

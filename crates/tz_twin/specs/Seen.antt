@@ -1,5 +1,5 @@
 -- What Non-secure code can see, and runs that agree.
-use Rattle.std.specs.Prelude.{◌≡◌, ℕ, zero, suc, ◌+◌, Bool, ◌&&◌, if◌then◌else◌, Option, Some, None}
+use Rattle.std.specs.Prelude.{◌≡◌, ℕ, zero, suc, ◌+◌, Bool, true, false, ◌&&◌, if◌then◌else◌, Option, Some, None}
 use Rattle.std.specs.FinMap.{get}
 use Rattle.tz_model.specs.declared.report.Sleep.{Sleep}
 use Rattle.tz_model.specs.declared.report.Way.{Way}
@@ -9,10 +9,12 @@ use Rattle.tz_regs.specs.declared.parts.Registers.{Registers}
 use Rattle.tz_regs.specs.declared.parts.Stacks.{Stacks}
 use Rattle.tz_regs.specs.declared.parts.Masks.{Masks}
 use Rattle.tz_regs.specs.declared.parts.SideStatus.{SideStatus}
+use Rattle.tz_regs.specs.declared.parts.BusStatus.{BusStatus}
 use Rattle.tz_state.specs.Memory.{Memory}
 use Rattle.tz_state.specs.declared.request.Exclusive.{Exclusive}
 use Rattle.tz_state.specs.Attribution.{SauState, MapState, is_open}
 use Rattle.tz_state.specs.Protection.{MpuState}
+use Rattle.tz_state.specs.Slots.{ExceptionsValue}
 use Rattle.tz_state.specs.State.{State, map_of, side_of}
 use Rattle.tz_sem.specs.Step.{Stepped, step}
 use Rattle.tz_sem.specs.Run.{Events}
@@ -21,9 +23,15 @@ use Rattle.tz_sem.specs.Run.{Events}
 abbrev pub open_bytes : MapState → Memory → ℕ → Option ℕ
 open_bytes m memory a = if is_open m a then get memory a else None
 
+-- BFSR, BFAR and HFSR, while BFHFNMINS is 1
+abbrev pub open_bus : Bool → BusStatus → Option BusStatus
+open_bus true b = Some b
+open_bus false b = None
+
 -- the public state: the Non-secure bytes; the Non-secure stack pointers with their limits and CONTROL; what
 -- masks exceptions, on both sides; the SAU and the Non-secure MPU; VTOR, CCR and the fault registers of the
--- Non-secure side; the exclusive monitor, the event flag, and what the core waits for
+-- Non-secure side, and BFSR, BFAR and HFSR while they are of that side; all exceptions with their priorities and
+-- targets, and both timers; the exclusive monitor, the event flag, and what the core waits for
 pub record Public : Type 0 where
   pub bytes : ℕ → Option ℕ
   pub stacks : Stacks
@@ -31,6 +39,8 @@ pub record Public : Type 0 where
   pub sau : SauState
   pub mpu : MpuState
   pub status : SideStatus
+  pub bus : Option BusStatus
+  pub exceptions : ExceptionsValue
   pub monitor : Option Exclusive
   pub event : Bool
   pub sleep : Sleep
@@ -44,6 +54,8 @@ public_of s =
       sau = s.bus.sau;
       mpu = s.bus.mpu_ns;
       status = s.core.status.ns;
+      bus = open_bus s.exceptions.bfhfnmins s.core.status.bus;
+      exceptions = s.exceptions;
       monitor = s.bus.monitor;
       event = s.core.event;
       sleep = s.core.run.sleep;

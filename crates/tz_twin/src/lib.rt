@@ -28,5 +28,5 @@ pub fn isolation()
 /// that gets to Secure code without locking ran SG where Non-secure code may call.
 pub fn integrity()
     ensures leaves { (s : State) (events : List ScriptEvent) → LeavesSecure s (step s events) }
-    ensures enters { (s : State) (events : List ScriptEvent) → EntersByGateway s (step s events) }
+    ensures enters { (s : State) (events : List ScriptEvent) → EntersByGateway s events (step s events) }
 {}
