@@ -3,3 +3,4 @@ pub mod Rank
 pub mod Places
 pub mod Numbers
 pub mod Timers
+pub mod Beyond

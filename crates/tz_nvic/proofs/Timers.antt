@@ -4,11 +4,10 @@ use Rattle.std.specs.Prelude.{min, if◌then◌else◌, IfSome}
 use Rattle.tz_state.specs.declared.slot.Timer.{Timer}
 use Rattle.tz_state.specs.Slots.{ExceptionsValue, number_at}
 use Rattle.tz_state.specs.Priority.{rank_of, priority_of, subpriority_of, chosen_place}
-use Rattle.tz_state.specs.Execution.{is_active, active_below, raw_priority}
-use Rattle.tz_state.specs.ControlRegisters.{is_interrupt_pending}
+use Rattle.tz_state.specs.Execution.{is_active, active_below}
 use Rattle.tz_nvic.specs.declared.known.Known.{Known}
 use Rattle.tz_nvic.specs.declared.active.Numbers.{Numbers}
-use Rattle.tz_nvic.specs.Numbers.{numbers_below, number_added, active_numbers}
+use Rattle.tz_nvic.specs.Numbers.{numbers_below, number_added}
 use Rattle.tz_nvic.specs.Known.{IsKnown}
 
 abbrev timed : ExceptionsValue → Timer → Timer → ExceptionsValue

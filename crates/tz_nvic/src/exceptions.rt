@@ -105,6 +105,14 @@ impl Exceptions {
         is_system(slot.number) || self.is_external(slot.number)
     }
 
+    /// The end of the places where slots stand.
+    pub(crate) fn end(&self) -> usize
+        ensures is { result ≡ self.now.interrupts + 32 }
+        ensures few { result ≤ 272 }
+    {
+        self.interrupts as usize + 32
+    }
+
     /// Whether a slot stands at a place.
     pub fn is_place(&self, index: usize) -> bool
         requires { index < 272 }

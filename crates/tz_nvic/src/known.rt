@@ -31,7 +31,7 @@ impl Exceptions {
     /// Looks at the slots.
     fn look<L: Ledger>(&self, steps: &mut Steps<L>) -> Known
         ensures is { IsKnown self.now result }
-        ensures looks { steps.new ≡ steps.old + 272 }
+        ensures looks { steps.new ≤ steps.old + 272 }
     {
         Known {
             chosen: self.chosen_place(steps),
