@@ -1,3 +1,4 @@
 pub mod Least
 pub mod Rank
 pub mod Places
+pub mod Numbers

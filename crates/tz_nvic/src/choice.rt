@@ -1,13 +1,13 @@
 //! The choice among the exceptions.
 
 ghost use Rattle.std.specs.Prelude.{◌≡◌, ◌≤◌, ◌<◌, ◌+◌, true, IfSome, if◌then◌else◌};
-ghost use Rattle.tz_state.specs.Slots.{exists, is_place};
+ghost use Rattle.tz_state.specs.Slots.{is_place};
 ghost use Rattle.tz_state.specs.Least.{lower_of};
-ghost use Rattle.tz_state.specs.Priority.{is_ready, rank_of, chosen_place, chosen};
+ghost use Rattle.tz_state.specs.ControlRegisters.{is_interrupt_pending};
+ghost use Rattle.tz_state.specs.Priority.{is_ready, rank_of, chosen_place};
 
 use crate::exceptions::Exceptions;
 use std::sync::ledger::Ledger;
-use tz_model::Slot;
 use tz_ready::Steps;
 
 impl Exceptions {
@@ -45,7 +45,7 @@ impl Exceptions {
 
     /// The place of the slot that comes first, by a look at each.
     #[tactic(auto, unfolding(tz_state::specs::Least::least_below))]
-    fn chosen_place<L: Ledger>(&self, steps: &mut Steps<L>) -> Option<usize>
+    pub(crate) fn chosen_place<L: Ledger>(&self, steps: &mut Steps<L>) -> Option<usize>
         ensures is { result ≡ chosen_place self.now }
         ensures few { IfSome result (λ i. i < 272) }
         ensures place { IfSome result (λ i. is_place self.now i ≡ true) }
@@ -59,17 +59,15 @@ impl Exceptions {
         best
     }
 
-    /// The exception that comes first (DDI0553, `PendingExceptionDetails`): of those that are pending and
-    /// enabled, that of the least group priority, then subpriority, then number, and of one number the Secure
-    /// one. None exactly where nothing is pending and enabled. It looks at each slot once.
-    pub fn chosen<L: Ledger>(&self, steps: &mut Steps<L>) -> Option<Slot>
-        ensures is { result ≡ chosen self.now }
-        ensures exists { IfSome result (λ slot. exists self.now slot ≡ true) }
-        ensures looks { steps.new ≡ steps.old + 272 }
+    /// Whether an external interrupt of either side is pending, by a look at each.
+    #[tactic(auto, unfolding(tz_state::specs::Pieces::any_below))]
+    pub(crate) fn any_pending(&self) -> bool
+        ensures { result ≡ is_interrupt_pending self.now }
     {
-        match self.chosen_place(steps) {
-            None => None,
-            Some(index) => Some(self.slot_at(index)),
+        let mut found = false;
+        for n in 0..self.interrupts as usize {
+            found = found || self.slots[32 + n].pending;
         }
+        found
     }
 }

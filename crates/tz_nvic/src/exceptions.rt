@@ -1,14 +1,14 @@
 //! The table of slots: what is pending, active and enabled, priorities and targets.
 
 ghost use Rattle.std.specs.Prelude.{◌≡◌, ◌≤◌, ◌<◌, ◌+◌, true, IfOk, IsTrue};
-ghost use Rattle.tz_state.specs.Slots.{at, exists, is_external, is_place, side_at, slot_at, index_of, is_enabled, reset_exceptions};
+ghost use Rattle.tz_state.specs.Slots.{at, exists, is_external, is_place, side_at, slot_at, index_of, is_enabled, with_slot, reset_exceptions};
 ghost use Rattle.tz_state.specs.SlotChanges.{pended, unpended, activated, deactivated, prioritized, switched, targeted};
 
 use crate::place::{PLACES, index_of, is_always_enabled, is_banked, is_system, number_at};
-use crate::slot::{SlotState, Timer};
 use std::alloc::{AllocError, Global};
 use std::marker::Model;
 use tz_model::{Side, Slot};
+use tz_state::{SlotState, Timer};
 
 /// The exceptions of a core.
 #[derive(Drop)]
@@ -209,6 +209,14 @@ impl Exceptions {
     {
         let index = usize::from(number) + 16;
         self.slots[index].target = side;
+    }
+
+    /// Writes all that is kept of the slot at a place.
+    pub fn put_at(&mut self, index: usize, state: SlotState)
+        requires { index < 272 }
+        ensures { self.new ≡ with_slot self.old index state }
+    {
+        self.slots[index] = state;
     }
 
     /// Whether a slot is active. The slot exists.

@@ -5,8 +5,8 @@ ghost use Rattle.tz_state.specs.Slots.{prigroup_of, timer_of};
 ghost use Rattle.tz_state.specs.SlotChanges.{is_fault_side_held, with_prigroup, with_fault_side, with_timer, timer_bits};
 
 use crate::exceptions::Exceptions;
-use crate::slot::Timer;
 use tz_model::Side;
+use tz_state::Timer;
 
 impl Exceptions {
     /// AIRCR.PRIGROUP of a side, at most 7.
@@ -87,6 +87,16 @@ impl Exceptions {
         }
     }
 
+    /// Puts the SysTick timer of a side as it is told, all its bits.
+    pub fn put_timer(&mut self, side: Side, timer: Timer)
+        ensures { self.new ≡ with_timer self.old side timer }
+    {
+        match side {
+            Side::Secure => self.timer_s = timer,
+            Side::NonSecure => self.timer_ns = timer,
+        }
+    }
+
     /// Writes the SysTick timer of a side, the bits that its registers have.
     pub fn set_timer(&mut self, side: Side, timer: Timer)
         ensures { self.new ≡ with_timer self.old side (timer_bits timer) }
@@ -96,9 +106,6 @@ impl Exceptions {
             rvr: timer.rvr & 0x00ff_ffff,
             cvr: timer.cvr & 0x00ff_ffff,
         };
-        match side {
-            Side::Secure => self.timer_s = kept,
-            Side::NonSecure => self.timer_ns = kept,
-        }
+        self.put_timer(side, kept);
     }
 }

@@ -2,13 +2,12 @@
 
 ghost use Rattle.std.specs.Prelude.{◌≡◌, ◌<◌};
 
-use crate::{Exceptions, PLACES, Timer};
+use crate::{Exceptions, PLACES, Steps, Timer};
 use std::marker::Brand;
 use std::process::Abort;
 use std::sync::ledger::{Blank, Ledger};
 use std::test::Fail;
 use tz_model::{Side, Slot};
-use tz_ready::Steps;
 
 const S: Side = Side::Secure;
 

@@ -4,51 +4,49 @@ ghost use Rattle.std.specs.Prelude.{◌≡◌};
 ghost use Rattle.tz_state.specs.Timers.{counts, interrupts, runs_out, counted_down, ticked};
 
 use crate::exceptions::Exceptions;
-use crate::slot::Timer;
+use tz_state::Timer;
 
-impl Timer {
-    /// SYST_CSR.ENABLE: whether it counts.
-    fn counts(&self) -> bool
-        ensures { result ≡ counts self.now }
-    {
-        self.csr % 2 == 1
-    }
+/// SYST_CSR.ENABLE: whether a timer counts.
+fn counts(timer: &Timer) -> bool
+    ensures { result ≡ counts timer.now }
+{
+    timer.csr % 2 == 1
+}
 
-    /// SYST_CSR.TICKINT: whether it pends SysTick.
-    fn interrupts(&self) -> bool
-        ensures { result ≡ interrupts self.now }
-    {
-        self.csr / 2 % 2 == 1
-    }
+/// SYST_CSR.TICKINT: whether it pends SysTick.
+fn interrupts(timer: &Timer) -> bool
+    ensures { result ≡ interrupts timer.now }
+{
+    timer.csr / 2 % 2 == 1
+}
 
-    /// Whether the next count takes it from 1 to 0.
-    fn runs_out(&self) -> bool
-        ensures { result ≡ runs_out self.now }
-    {
-        self.counts() && self.cvr == 1
-    }
+/// Whether the next count takes it from 1 to 0.
+fn runs_out(timer: &Timer) -> bool
+    ensures { result ≡ runs_out timer.now }
+{
+    counts(timer) && timer.cvr == 1
+}
 
-    /// The timer after one count.
-    fn counted_down(&self) -> Timer
-        ensures { result ≡ counted_down self.now }
-    {
-        let csr = if self.runs_out() {
-            self.csr | 0x0001_0000
-        } else {
-            self.csr
-        };
-        let cvr = if !self.counts() {
-            self.cvr
-        } else if self.cvr == 0 {
-            self.rvr
-        } else {
-            self.cvr - 1
-        };
-        Timer {
-            csr,
-            rvr: self.rvr,
-            cvr,
-        }
+/// The timer after one count.
+fn counted_down(timer: &Timer) -> Timer
+    ensures { result ≡ counted_down timer.now }
+{
+    let csr = if runs_out(timer) {
+        timer.csr | 0x0001_0000
+    } else {
+        timer.csr
+    };
+    let cvr = if !counts(timer) {
+        timer.cvr
+    } else if timer.cvr == 0 {
+        timer.rvr
+    } else {
+        timer.cvr - 1
+    };
+    Timer {
+        csr,
+        rvr: timer.rvr,
+        cvr,
     }
 }
 
@@ -58,13 +56,13 @@ impl Exceptions {
     pub fn tick(&mut self)
         ensures { self.new ≡ ticked self.old }
     {
-        let pends_s = self.timer_s.runs_out() && self.timer_s.interrupts();
-        let pends_ns = self.timer_ns.runs_out() && self.timer_ns.interrupts();
+        let pends_s = runs_out(&self.timer_s) && interrupts(&self.timer_s);
+        let pends_ns = runs_out(&self.timer_ns) && interrupts(&self.timer_ns);
         let secure = &mut self.slots[30];
         secure.pending = secure.pending || pends_s;
         let nonsecure = &mut self.slots[31];
         nonsecure.pending = nonsecure.pending || pends_ns;
-        self.timer_s = self.timer_s.counted_down();
-        self.timer_ns = self.timer_ns.counted_down();
+        self.timer_s = counted_down(&self.timer_s);
+        self.timer_ns = counted_down(&self.timer_ns);
     }
 }

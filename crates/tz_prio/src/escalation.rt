@@ -8,17 +8,7 @@ use crate::execution::{can_take, execution};
 use tz_model::{Side, Slot};
 use tz_nvic::Exceptions;
 use tz_regs::{Core, Masks};
-
-/// What is taken in place of a synchronous exception.
-#[derive(Clone, Copy)]
-pub enum Taken {
-    /// The exception itself.
-    AsIs,
-    /// HardFault of a side, with HFSR.FORCED.
-    Hard(Side),
-    /// Nothing: the core locks.
-    Lockup,
-}
+use tz_state::Taken;
 
 /// The side of the HardFault that an exception of a side becomes.
 fn hard_side(exceptions: &Exceptions, side: Side) -> Side

@@ -4,15 +4,14 @@
 //! more urgent.
 #![tactic(auto)]
 
-mod active;
 mod escalation;
 mod execution;
-mod laws;
 mod masks;
+mod negative;
 #[cfg(test)]
 mod tests;
 
-pub use active::raw_priority;
-pub use escalation::{Taken, escalate};
-pub use execution::{can_take, execution_priority};
-pub use laws::masks_alone;
+pub use escalation::escalate;
+pub use execution::{can_take, execution_priority, raw_priority, takes_first, wakes};
+pub use negative::is_negative;
+pub use tz_state::Taken;

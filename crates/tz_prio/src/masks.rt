@@ -1,11 +1,11 @@
 //! The priorities of masks, four above the manual's.
 
 ghost use Rattle.std.specs.Prelude.{◌≡◌, ◌≤◌};
-ghost use Rattle.tz_state.specs.Execution.{basepri_priority, primask_priority, faultmask_set, faultmask_priority, side_priority};
+ghost use Rattle.tz_state.specs.Execution.{basepri_priority, primask_priority, faultmask_set, faultmask_priority, side_priority, without_primask};
 
 use tz_model::Side;
 use tz_nvic::Exceptions;
-use tz_regs::SideMasks;
+use tz_regs::{Masks, SideMasks};
 
 /// That of no mask.
 const IDLE_PRIORITY: u32 = 260;
@@ -71,4 +71,20 @@ pub(crate) fn side_priority(exceptions: &Exceptions, side: Side, masks: &SideMas
     let base = basepri(exceptions, side, masks.basepri);
     let prime = primask(exceptions, side, masks.primask);
     base.min(prime.min(faultmask(exceptions, side, masks.faultmask)))
+}
+
+/// The masks with both PRIMASKs 0.
+pub(crate) fn without_primask(masks: &Masks) -> Masks
+    ensures { result ≡ without_primask masks.now }
+{
+    Masks {
+        s: SideMasks {
+            primask: false,
+            ..masks.s
+        },
+        ns: SideMasks {
+            primask: false,
+            ..masks.ns
+        },
+    }
 }

@@ -1,0 +1,13 @@
+-- What is found below one more place; the numeral 272 must not unfold.
+use Rattle.std.proofs.Common.{◌≡◌, ap, ◌∙◌, add-one, arith}
+use Rattle.tz_nvic.specs.Numbers.{numbers_below}
+use Rattle.tz_nvic.proofs.exceptions.Exceptions.active_numbers.Goals as goal
+
+pub loop-index-preserved : goal.loop-index-preserved
+unfolding numbers_below
+loop-index-preserved c = rw add-one (rw c.loop-index.invariant at c.numbers_with-numbers.ensures)
+
+pub returns : goal.returns
+returns c =
+    let e : c.loop-index.index ≡ 272 = omega arith in
+    c.loop-index.invariant ∙ ap (numbers_below c.args.self.now) e
