@@ -217,7 +217,15 @@ fn enable(exceptions: &mut Exceptions, side: Side, number: u16, on: bool)
 {
     if sees_number(exceptions, side, number) {
         let state = slot_seen(exceptions, side, number);
-        put_number(exceptions, side, number, SlotState { enabled: on, ..state });
+        put_number(
+            exceptions,
+            side,
+            number,
+            SlotState {
+                enabled: on,
+                ..state
+            },
+        );
     }
 }
 

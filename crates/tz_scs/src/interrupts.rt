@@ -140,13 +140,7 @@ fn put_bits(exceptions: &mut Exceptions, side: Side, bank: Bank, first: u32, val
 }
 
 /// Writes a word of an array.
-pub(crate) fn write_bank(
-    exceptions: &mut Exceptions,
-    side: Side,
-    bank: Bank,
-    word: u8,
-    value: u32,
-)
+pub(crate) fn write_bank(exceptions: &mut Exceptions, side: Side, bank: Bank, word: u8, value: u32)
     ensures { exceptions.new ≡ bank_written side exceptions.old bank word value }
 {
     if shows_bank(side, bank) {

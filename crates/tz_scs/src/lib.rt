@@ -13,6 +13,8 @@ mod parts;
 mod pieces;
 mod system;
 mod table;
+#[cfg(test)]
+mod tests;
 mod timers;
 mod views;
 
