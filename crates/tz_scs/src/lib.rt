@@ -1,2 +1,21 @@
-//! The system registers (DDI0553, chapter D1.2).
+//! The system registers by address (DDI0553, chapter D1.2): what each shows to the code of a side, and what
+//! reads and writes change.
+//!
+//! `SystemRegisters` is lent the state that they stand in, and `System` the whole core. Whether the code may
+//! access them at all isn't known here.
 #![tactic(auto)]
+
+mod control;
+mod faults;
+mod interrupts;
+mod numbers;
+mod parts;
+mod pieces;
+mod system;
+mod table;
+#[cfg(test)]
+mod tests;
+mod timers;
+mod views;
+
+pub use system::{System, SystemRegisters};

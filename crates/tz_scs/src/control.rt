@@ -1,0 +1,241 @@
+//! ICSR, AIRCR, VTOR, CCR and SHCSR (DDI0553, chapter D1.2).
+
+ghost use Rattle.std.specs.Prelude.{◌≡◌, ◌<◌, true};
+ghost use Rattle.tz_state.specs.Slots.{is_system};
+ghost use Rattle.tz_state.specs.Pieces.{bit_at};
+ghost use Rattle.tz_state.specs.Priority.{chosen};
+ghost use Rattle.tz_state.specs.ControlRegisters.{shows_active, shows_pending, shows_enabled, pending_number, icsr_value, pends, icsr_written, aircr_value, has_key, aircr_written, vtor_written, ccr_value, ccr_written, shcsr_value, enables, shcsr_written};
+
+use crate::numbers::{put_number, sees_number, slot_seen};
+use crate::pieces::{flag, is_bit};
+use std::marker::Brand;
+use std::sync::ledger::{Blank, Ledger};
+use tz_model::{Side, Slot};
+use tz_nvic::Exceptions;
+use tz_ready::Steps;
+use tz_regs::SideStatus;
+use tz_state::SlotState;
+
+/// The bit that tells a number of the system active.
+fn active_flag(exceptions: &Exceptions, side: Side, number: u16, bit: u32) -> u32
+    requires number { is_system number ≡ true }
+    requires bit { bit < 32 }
+    ensures { result ≡ bit_at (shows_active side exceptions.now number) bit }
+{
+    let shows = sees_number(exceptions, side, number) && slot_seen(exceptions, side, number).active;
+    flag(shows, bit)
+}
+
+/// The bit that tells a number of the system pending.
+fn pending_flag(exceptions: &Exceptions, side: Side, number: u16, bit: u32) -> u32
+    requires number { is_system number ≡ true }
+    requires bit { bit < 32 }
+    ensures { result ≡ bit_at (shows_pending side exceptions.now number) bit }
+{
+    let shows = sees_number(exceptions, side, number)
+        && slot_seen(exceptions, side, number).pending;
+    flag(shows, bit)
+}
+
+/// The bit that tells a number of the system enabled.
+fn enabled_flag(exceptions: &Exceptions, side: Side, number: u16, bit: u32) -> u32
+    requires number { is_system number ≡ true }
+    requires bit { bit < 32 }
+    ensures { result ≡ bit_at (shows_enabled side exceptions.now number) bit }
+{
+    let shows = sees_number(exceptions, side, number)
+        && slot_seen(exceptions, side, number).enabled;
+    flag(shows, bit)
+}
+
+/// VECTPENDING. Non-secure code learns of a Secure exception that there is one, by the number 1.
+fn pending_number(side: Side, chosen: Option<Slot>) -> u32
+    ensures is { result ≡ pending_number side chosen }
+    ensures few { result < 65536 }
+{
+    match chosen {
+        None => 0,
+        Some(slot) => match side {
+            Side::Secure => u32::from(slot.number),
+            Side::NonSecure => {
+                if slot.side == Side::NonSecure {
+                    u32::from(slot.number)
+                } else {
+                    1
+                }
+            }
+        },
+    }
+}
+
+/// The exception that comes first, by a search whose looks aren't counted for anyone.
+fn chosen_counted<L: Ledger>(blank: Blank, exceptions: &Exceptions) -> Option<Slot>
+    requires name { blank.name ≡ L.name }
+    requires parts { blank.parts ≡ L.parts }
+    requires some_part { 0 < blank.parts }
+    ensures { result ≡ chosen exceptions.now }
+{
+    let mut looks = Steps::<L>::start(blank);
+    exceptions.chosen(&mut looks)
+}
+
+/// The exception that comes first.
+fn chosen(exceptions: &Exceptions) -> Option<Slot>
+    ensures { result ≡ chosen exceptions.now }
+{
+    chosen_counted::<Brand>(Blank::new(1), exceptions)
+}
+
+/// What ICSR shows, where `ipsr` is the number of the exception that is handled, 0 for none.
+pub(crate) fn icsr_value(exceptions: &Exceptions, side: Side, ipsr: u16) -> u32
+    ensures { result ≡ icsr_value side exceptions.now ipsr }
+{
+    u32::from(ipsr)
+        | flag(exceptions.returns_to_base(ipsr), 11)
+        | pending_number(side, chosen(exceptions)) * 0x1000
+        | flag(exceptions.is_interrupt_pending(), 22)
+        | pending_flag(exceptions, side, 15, 26)
+        | pending_flag(exceptions, side, 14, 28)
+        | pending_flag(exceptions, side, 2, 31)
+}
+
+/// Pends a number of the system, or makes it not pending, where the view shows it; to do both pends it.
+fn move_pending(exceptions: &mut Exceptions, side: Side, number: u16, set: bool, clear: bool)
+    requires { is_system number ≡ true }
+    ensures { exceptions.new ≡ pends side exceptions.old number set clear }
+{
+    if sees_number(exceptions, side, number) {
+        let state = slot_seen(exceptions, side, number);
+        let pending = set || !clear && state.pending;
+        put_number(exceptions, side, number, SlotState { pending, ..state });
+    }
+}
+
+/// Writes ICSR: PENDSTSET and PENDSTCLR, PENDSVSET and PENDSVCLR, PENDNMISET and PENDNMICLR.
+#[tactic(auto, unfolding(tz_state::specs::ControlRegisters::icsr_written))]
+pub(crate) fn write_icsr(exceptions: &mut Exceptions, side: Side, value: u32)
+    ensures { exceptions.new ≡ icsr_written side exceptions.old value }
+{
+    move_pending(exceptions, side, 15, is_bit(value, 26), is_bit(value, 25));
+    move_pending(exceptions, side, 14, is_bit(value, 28), is_bit(value, 27));
+    move_pending(exceptions, side, 2, is_bit(value, 31), is_bit(value, 30));
+}
+
+/// What AIRCR shows; PRIS is Secure alone.
+pub(crate) fn aircr_value(exceptions: &Exceptions, side: Side) -> u32
+    ensures { result ≡ aircr_value side exceptions.now }
+{
+    let key = 0xFA05 << 16;
+    let bfhfnmins = flag(exceptions.fault_side(), 13);
+    let prigroup = u32::from(exceptions.grouping(side)) * 0x100;
+    match side {
+        Side::Secure => key | flag(exceptions.pris(), 14) | bfhfnmins | prigroup,
+        Side::NonSecure => key | bfhfnmins | prigroup,
+    }
+}
+
+/// Whether a word has the key of AIRCR.
+fn has_key(value: u32) -> bool
+    ensures { result ≡ has_key value }
+{
+    value / 0x1_0000 == 0x05FA
+}
+
+/// Writes AIRCR, where the word has the key: PRIGROUP of the view's side, and by the Secure view PRIS and
+/// BFHFNMINS. BFHFNMINS stays while NMI, BusFault or a HardFault is pending or active.
+pub(crate) fn write_aircr(exceptions: &mut Exceptions, side: Side, value: u32)
+    ensures { exceptions.new ≡ aircr_written side exceptions.old value }
+{
+    if has_key(value) {
+        exceptions.set_grouping(side, (value / 0x100 % 8) as u8);
+        match side {
+            Side::Secure => {
+                exceptions.set_fault_side(is_bit(value, 13));
+                exceptions.set_pris(is_bit(value, 14));
+            }
+            Side::NonSecure => {}
+        }
+    }
+}
+
+/// The registers of a side with VTOR written.
+pub(crate) fn vtor_written(own: SideStatus, value: u32) -> SideStatus
+    ensures { result ≡ vtor_written own value }
+{
+    SideStatus {
+        vtor: value / 128 * 128,
+        ..own
+    }
+}
+
+/// What CCR shows; bit 9 is 1.
+pub(crate) fn ccr_value(own: &SideStatus) -> u32
+    ensures { result ≡ ccr_value own.now }
+{
+    own.ccr | 0x200
+}
+
+/// The registers of a side with CCR written: UNALIGN_TRP and DIV_0_TRP.
+pub(crate) fn ccr_written(own: SideStatus, value: u32) -> SideStatus
+    ensures { result ≡ ccr_written own value }
+{
+    SideStatus {
+        ccr: value & 0x18,
+        ..own
+    }
+}
+
+/// What SHCSR shows.
+pub(crate) fn shcsr_value(exceptions: &Exceptions, side: Side) -> u32
+    ensures { result ≡ shcsr_value side exceptions.now }
+{
+    active_flag(exceptions, side, 4, 0)
+        | active_flag(exceptions, side, 5, 1)
+        | active_flag(exceptions, side, 3, 2)
+        | active_flag(exceptions, side, 6, 3)
+        | active_flag(exceptions, side, 7, 4)
+        | active_flag(exceptions, side, 2, 5)
+        | active_flag(exceptions, side, 11, 7)
+        | active_flag(exceptions, side, 14, 10)
+        | active_flag(exceptions, side, 15, 11)
+        | pending_flag(exceptions, side, 6, 12)
+        | pending_flag(exceptions, side, 4, 13)
+        | pending_flag(exceptions, side, 5, 14)
+        | pending_flag(exceptions, side, 11, 15)
+        | enabled_flag(exceptions, side, 4, 16)
+        | enabled_flag(exceptions, side, 5, 17)
+        | enabled_flag(exceptions, side, 6, 18)
+        | enabled_flag(exceptions, side, 7, 19)
+        | pending_flag(exceptions, side, 7, 20)
+        | pending_flag(exceptions, side, 3, 21)
+}
+
+/// Enables or disables a number of the system, where the view shows it.
+fn enable(exceptions: &mut Exceptions, side: Side, number: u16, on: bool)
+    requires { is_system number ≡ true }
+    ensures { exceptions.new ≡ enables side exceptions.old number on }
+{
+    if sees_number(exceptions, side, number) {
+        let state = slot_seen(exceptions, side, number);
+        put_number(
+            exceptions,
+            side,
+            number,
+            SlotState {
+                enabled: on,
+                ..state
+            },
+        );
+    }
+}
+
+/// Writes SHCSR: what is enabled, and nothing else.
+#[tactic(auto, unfolding(tz_state::specs::ControlRegisters::shcsr_written))]
+pub(crate) fn write_shcsr(exceptions: &mut Exceptions, side: Side, value: u32)
+    ensures { exceptions.new ≡ shcsr_written side exceptions.old value }
+{
+    enable(exceptions, side, 4, is_bit(value, 16));
+    enable(exceptions, side, 5, is_bit(value, 17));
+    enable(exceptions, side, 6, is_bit(value, 18));
+    enable(exceptions, side, 7, is_bit(value, 19));
+}

@@ -1,0 +1,66 @@
+//! What the view of a side shows: registers by their addresses, and what goes with BusFault and SecureFault.
+
+ghost use Rattle.std.specs.Prelude.{◌≡◌};
+ghost use Rattle.tz_state.specs.ControlRegisters.{sees_bus, sees_secure};
+ghost use Rattle.tz_state.specs.Views.{found_by, alias_found, found_at};
+
+use crate::table::register_at;
+use tz_model::Side;
+use tz_state::{Found, Register};
+
+/// Whether a view shows NMI, BusFault and what goes with them, while AIRCR.BFHFNMINS is as told.
+pub(crate) fn sees_bus(side: Side, bfhfnmins: bool) -> bool
+    ensures { result ≡ sees_bus side bfhfnmins }
+{
+    match side {
+        Side::Secure => true,
+        Side::NonSecure => bfhfnmins,
+    }
+}
+
+/// Whether a view shows what is Secure alone.
+pub(crate) fn sees_secure(side: Side) -> bool
+    ensures { result ≡ sees_secure side }
+{
+    match side {
+        Side::Secure => true,
+        Side::NonSecure => false,
+    }
+}
+
+fn found_by(view: Side, register: Option<Register>) -> Option<Found>
+    ensures { result ≡ found_by view register }
+{
+    match register {
+        None => None,
+        Some(register) => Some(Found { view, register }),
+    }
+}
+
+/// The alias gives Secure code the Non-secure view, and nothing to Non-secure code.
+fn alias_found(side: Side, addr: u32) -> Option<Found>
+    ensures { result ≡ alias_found side addr }
+{
+    match side {
+        Side::Secure => {
+            if addr >= 0xE002_E000 && addr <= 0xE002_EFFF {
+                found_by(Side::NonSecure, register_at((addr - 0xE002_E000) / 4 * 4))
+            } else {
+                None
+            }
+        }
+        Side::NonSecure => None,
+    }
+}
+
+/// The register that code of a side finds at an address, and whose view it has of it: its own in the system
+/// control space.
+pub(crate) fn found_at(side: Side, addr: u32) -> Option<Found>
+    ensures { result ≡ found_at side addr }
+{
+    if addr >= 0xE000_E000 && addr <= 0xE000_EFFF {
+        found_by(side, register_at((addr - 0xE000_E000) / 4 * 4))
+    } else {
+        alias_found(side, addr)
+    }
+}
