@@ -13,14 +13,16 @@ pub(crate) fn is_fnc_return(target: u32) -> bool
     target == 0xfeff_fffe || target == 0xfeff_ffff
 }
 
-/// Gives a core back what it was before a load of PC that found FNC_RETURN.
+/// Gives a core back what it was before a load of PC that found FNC_RETURN, but for what accesses write of it.
 pub(crate) fn take_back(core: &mut Core, outcome: &Result<Outcome, Fault>, before: &Core)
     ensures { core.new ≡ core_back outcome.now before.now core.old }
 {
     match outcome {
         Ok(Outcome::Exchange { target, .. }) => {
             if is_fnc_return(*target) {
+                let status = core.status;
                 *core = *before;
+                core.status = status;
             }
         }
         _ => {}

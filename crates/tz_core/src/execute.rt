@@ -2,49 +2,17 @@
 
 ghost use Rattle.std.specs.Prelude.{◌≡◌, []};
 ghost use Rattle.arrayvec.specs.ArrayVec.{array_vec_len};
-ghost use Rattle.tz_regs.specs.Priority.{mask_priority};
-ghost use Rattle.tz_exec.specs.declared.family.Family.TheVariants.{Branch};
-ghost use Rattle.tz_exec.specs.Exec.{system_over, executed_by};
 
-use crate::asking::asker_of;
 use crate::changes::Stores;
 use crate::exchange::take_back;
-use crate::exclusive::run_load_store;
 use crate::port::CorePort;
 use crate::running::Machine;
-use tz_access::Bus;
 use tz_model::{Fault, Insn, Outcome};
-use tz_regs::Core;
-
-/// A branch, or IT.
-fn run_branch(
-    insn: &Insn,
-    core: &mut Core,
-    bus: &mut Bus,
-    stores: &mut Stores,
-) -> Result<Outcome, Fault>
-    requires { array_vec_len stores.old ≡ 0 }
-    ensures { executed_by Branch (record { core = core.old; bus = bus.old }) insn.now ≡ record { state = record { core = core.new; bus = bus.new }; stores = stores.new.items; outcome = result } }
-{
-    let mut port = CorePort {
-        asker: asker_of(core),
-        bus,
-        stores,
-    };
-    tz_branch::execute(insn, core, &mut port)
-}
-
-/// A system instruction, at the execution priority that the masks give.
-fn run_system(insn: &Insn, core: &mut Core, bus: &mut Bus) -> Result<Outcome, Fault>
-    ensures { system_over (mask_priority core.old.masks) insn.now core.old bus.old ≡ record { core = core.new; held = bus.new; outcome = result } }
-{
-    let priority = core.masks.priority();
-    tz_system::execute(insn, core, bus, priority)
-}
+use tz_prio::execution_priority;
 
 impl Machine {
-    ghost use Rattle.tz_exec.specs.declared.family.Family.TheVariants.{Alu, LoadStore, System};
-    ghost use Rattle.tz_exec.specs.Exec.{family_of, executed};
+    ghost use Rattle.tz_exec.specs.declared.family.Family.TheVariants.{Alu, LoadStore, Branch, System};
+    ghost use Rattle.tz_exec.specs.Exec.{family_of, executed_by, executed};
     ghost use Rattle.tz_sem.specs.Step.{taken_back};
 
     /// Data processing.
@@ -55,12 +23,12 @@ impl Machine {
     }
 
     /// Loads and stores; what a load of PC wrote that found FNC_RETURN is taken back.
-    fn load_store(&mut self, insn: &Insn, stores: &mut Stores) -> Result<Outcome, Fault>
+    fn data_access(&mut self, insn: &Insn, stores: &mut Stores) -> Result<Outcome, Fault>
         requires { array_vec_len stores.old ≡ 0 }
         ensures { taken_back LoadStore self.old.core (executed_by LoadStore self.old insn.now) ≡ record { state = self.new; stores = stores.new.items; outcome = result } }
     {
         let before = self.core;
-        let outcome = run_load_store(insn, &mut self.core, &mut self.bus, stores);
+        let outcome = self.run_load_store(insn, stores);
         take_back(&mut self.core, &outcome, &before);
         outcome
     }
@@ -70,14 +38,26 @@ impl Machine {
         requires { array_vec_len stores.old ≡ 0 }
         ensures { executed_by Branch self.old insn.now ≡ record { state = self.new; stores = stores.new.items; outcome = result } }
     {
-        run_branch(insn, &mut self.core, &mut self.bus, stores)
+        let asker = self.asker();
+        let mut port = CorePort {
+            asker,
+            ipsr: self.core.registers.ipsr,
+            status: self.core.status,
+            exceptions: &mut self.exceptions,
+            bus: &mut self.bus,
+            stores,
+        };
+        let outcome = tz_branch::execute(insn, &mut self.core, &mut port);
+        self.core.status = port.status;
+        outcome
     }
 
     /// System instructions, which know the execution priority.
     fn system(&mut self, insn: &Insn) -> Result<Outcome, Fault>
         ensures { executed_by System self.old insn.now ≡ record { state = self.new; stores = []; outcome = result } }
     {
-        run_system(insn, &mut self.core, &mut self.bus)
+        let priority = execution_priority(&self.core, &self.exceptions);
+        tz_system::execute(insn, &mut self.core, &mut self.bus, priority)
     }
 
     /// Runs an instruction up to how it goes on: all but PC and the IT state is as it leaves it, and its
@@ -129,7 +109,7 @@ impl Machine {
             | Insn::LoadExclusive { .. }
             | Insn::StoreExclusive { .. }
             | Insn::LoadAcquire { .. }
-            | Insn::StoreRelease { .. } => self.load_store(insn, stores),
+            | Insn::StoreRelease { .. } => self.data_access(insn, stores),
         }
     }
 }

@@ -1,18 +1,28 @@
-//! The port of the machine: the accesses of its instructions, by the bus.
+//! The port of the machine: the accesses of its instructions, by the bus and to the system registers.
 
-ghost use Rattle.std.specs.Prelude.{◌-◌, ℕ};
+ghost use Rattle.std.specs.Prelude.{◌-◌, ◌≡◌, ℕ, true};
 ghost use Rattle.arrayvec.specs.ArrayVec.{array_vec_len};
-ghost use Rattle.tz_state.specs.Access.{access, Reached};
+ghost use Rattle.tz_state.specs.Access.{access, is_aligned, Reached};
+ghost use Rattle.tz_state.specs.Registers.{SystemState};
+ghost use Rattle.tz_state.specs.Views.{system_value, system_read, system_written};
 
 use crate::changes::Stores;
-use tz_access::Bus;
+use tz_access::{Bus, Place};
 use tz_model::{Fault, Port, Size, Store, cut_to};
+use tz_nvic::Exceptions;
+use tz_regs::Status;
+use tz_scs::SystemRegisters;
 use tz_state::Asker;
 
-/// The accesses of one instruction: who asks for them, the bus, and the stores made.
+/// The accesses of one instruction: who asks for them, what the system registers stand in, and the stores made.
+/// The status is a copy, which goes back into the core after the instruction.
 #[derive(Drop)]
 pub struct CorePort<'a> {
     pub asker: Asker,
+    /// IPSR, 0 in Thread mode.
+    pub ipsr: u16,
+    pub status: Status,
+    pub exceptions: &'a mut Exceptions,
     pub bus: &'a mut Bus,
     pub stores: &'a mut Stores,
 }
@@ -20,22 +30,38 @@ pub struct CorePort<'a> {
 impl Port for CorePort<'_> {
     ghost Held = { Reached };
 
-    ghost held = { λ p. record { asker = p.asker; bus = p.bus.now; stores = p.stores.now.items } };
+    ghost held = { λ p. record {
+      asker = p.asker;
+      system = record { ipsr = p.ipsr; status = p.status; exceptions = p.exceptions.now; bus = p.bus.now };
+      stores = p.stores.now.items;
+    } };
 
     ghost answer = { access };
 
     ghost room = { λ p. 16 - array_vec_len p.stores.now };
 
-    ghost Lent = { ℕ × ℕ };
+    ghost Lent = { ℕ × ℕ × ℕ };
 
-    ghost lent = { λ p. (p.bus.ghost_name, p.stores.ghost_name) };
+    ghost lent = { λ p. (p.exceptions.ghost_name, p.bus.ghost_name, p.stores.ghost_name) };
 
-    #[tactic(auto, unfolding(tz_state::specs::Access::access))]
+    #[tactic(auto, using(crate::proofs::Private::private_aligned), unfolding(tz_state::specs::Access::access))]
     fn load(&mut self, addr: u32, size: Size, must_align: bool, user: bool) -> Result<u32, Fault> {
-        self.bus.load(&self.asker, size, addr, must_align, user)
+        match self.bus.load(&self.asker, size, addr, must_align, user) {
+            Err(fault) => Err(fault),
+            Ok(Some(value)) => Ok(value),
+            Ok(None) => {
+                let mut registers = SystemRegisters {
+                    ipsr: self.ipsr,
+                    status: &mut self.status,
+                    exceptions: self.exceptions,
+                    bus: self.bus,
+                };
+                Ok(registers.read(addr, size, self.asker.side))
+            }
+        }
     }
 
-    #[tactic(auto, unfolding(tz_state::specs::Access::access))]
+    #[tactic(auto, using(crate::proofs::Private::private_aligned), unfolding(tz_state::specs::Access::access))]
     fn store(
         &mut self,
         addr: u32,
@@ -44,19 +70,28 @@ impl Port for CorePort<'_> {
         must_align: bool,
         user: bool,
     ) -> Result<(), Fault> {
+        let cut = cut_to(size, value);
         match self
             .bus
             .store(&self.asker, size, addr, value, must_align, user)
         {
-            Err(fault) => Err(fault),
-            Ok(()) => {
-                self.stores.push(Store {
-                    addr,
-                    size,
-                    value: cut_to(size, value),
-                });
-                Ok(())
+            Err(fault) => return Err(fault),
+            Ok(Place::Memory) => {}
+            Ok(Place::System) => {
+                let mut registers = SystemRegisters {
+                    ipsr: self.ipsr,
+                    status: &mut self.status,
+                    exceptions: self.exceptions,
+                    bus: self.bus,
+                };
+                registers.write(addr, size, self.asker.side, cut);
             }
         }
+        self.stores.push(Store {
+            addr,
+            size,
+            value: cut,
+        });
+        Ok(())
     }
 }

@@ -6,23 +6,24 @@ ghost use Rattle.tz_model.specs.Words.{wrap};
 ghost use Rattle.std.specs.Prelude.{Some, None};
 ghost use Rattle.tz_sem.specs.declared.ending.Cause.TheVariants.{Went};
 ghost use Rattle.tz_model.specs.Codes.{second_of};
-ghost use Rattle.tz_sem.specs.Step.{length_of};
+ghost use Rattle.tz_sem.specs.Step.{length_of, sleep_of};
 
-use crate::asking::fetcher_of;
 use crate::changes::Stores;
 use crate::exchange::is_fnc_return;
 use crate::it_rules::{ignores_condition, is_misplaced, is_passed_over};
 use std::marker::Model;
 use tz_access::Bus;
 use tz_decode::{Decoded, decode};
-use tz_model::{Board, Code, Fault, Insn, Outcome, Report, ScriptEvent, Side};
+use tz_model::{Board, Code, Fault, Insn, Outcome, Report, ScriptEvent, Side, Sleep};
+use tz_nvic::Exceptions;
 use tz_regs::Core;
 use tz_sem::{Cause, Ending};
 
-/// The machine: the core, and its memory with the units that guard it.
+/// The machine: the core, the exceptions, and memory with the units that guard it.
 #[derive(Drop)]
 pub struct Machine {
     pub(crate) core: Core,
+    pub(crate) exceptions: Exceptions,
     pub(crate) bus: Bus,
 }
 
@@ -36,7 +37,7 @@ impl Model for Machine {
 
     ghost coded = { Prim.hlevel (codes, map.code {R = nat_cmp} coded_ℕ coded_ℕ) };
 
-    ghost view = { λ m. record { core = m.core; bus = m.bus } };
+    ghost view = { λ m. record { core = m.core; exceptions = m.exceptions; bus = m.bus } };
 }
 
 /// The address after an instruction.
@@ -56,6 +57,13 @@ fn second_of(code: &Code) -> u16
     code.second.unwrap_or(0)
 }
 
+/// What a core waits for: an event, or an interrupt.
+fn sleep_of(event: bool) -> Sleep
+    ensures { result ≡ sleep_of event }
+{
+    if event { Sleep::Wfe } else { Sleep::Wfi }
+}
+
 /// An instruction ran.
 fn ran(touched: bool, code: &Code) -> Ending
     ensures { result ≡ record { touched = touched; cause = Went; ran = Some code.now; fault = None } }
@@ -71,11 +79,10 @@ fn ran(touched: bool, code: &Code) -> Ending
 impl Machine {
     ghost use Rattle.std.specs.Prelude.{List, [], true};
     ghost use Rattle.tz_model.specs.declared.report.Store.{Store};
-    ghost use Rattle.tz_model.specs.declared.report.ScriptEvent.{ScriptEvent as DueEvent};
     ghost use Rattle.tz_sem.specs.declared.ending.Cause.TheVariants.{Went};
     ghost use Rattle.tz_state.specs.State.{side_of, with_run, with_pc};
     ghost use Rattle.tz_model.specs.Codes.{meaning_of};
-    ghost use Rattle.tz_sem.specs.Step.{branch_ns, moves_to, exchanged, past, skips, goes_on, placed, decoded, enters, looks, unready, ended, step};
+    ghost use Rattle.tz_sem.specs.Step.{branch_ns, moves_to, exchanged, past, skips, goes_on, faults, placed, decoded, enters, looks, unready, instructs, idles, by_sleep, is_entered, ended, step};
     ghost use Rattle.tz_twin.specs.Integrity.{LeavesSecure, EntersByGateway};
 
     /// The state that the machine is in; a locked machine counts as Secure.
@@ -106,6 +113,13 @@ impl Machine {
         &self.core
     }
 
+    /// The exceptions, with both timers.
+    pub fn exceptions(&self) -> &Exceptions
+        ensures { result.now ≡ self.now.exceptions }
+    {
+        &self.exceptions
+    }
+
     /// Memory, with the units that guard it.
     pub fn bus(&self) -> &Bus
         ensures { result.now ≡ self.now.bus }
@@ -127,11 +141,11 @@ impl Machine {
         }
     }
 
-    /// Ends a step that faults, which locks the machine whatever the fault.
+    /// Ends a step that faults: what the fault sets and pends is kept, and the machine locks.
     fn fault(&mut self, touched: bool, fault: Fault) -> Ending
-        ensures state { self.new ≡ with_run self.old (record self.old.core.run { locked = true }) }
-        ensures ending { result ≡ record { touched = touched; cause = Went; ran = None; fault = Some fault } }
+        ensures { (stores : List Store) → faults self.old touched fault stores ≡ record { state = self.new; stores = stores; ending = result } }
     {
+        self.take_fault(fault);
         self.lock(touched, Some(fault))
     }
 
@@ -159,8 +173,13 @@ impl Machine {
         ensures { (stores : List Store) → goes_on insn.now self.old touched code.now stores outcome ≡ record { state = self.new; stores = stores; ending = result } }
     {
         match outcome {
-            Outcome::Next | Outcome::Sleep { event: _ } => {
+            Outcome::Next => {
                 self.pass(insn);
+                self.go_next(touched, code)
+            }
+            Outcome::Sleep { event } => {
+                self.pass(insn);
+                self.core.run.sleep = sleep_of(event);
                 self.go_next(touched, code)
             }
             Outcome::Jump(to) => {
@@ -300,23 +319,18 @@ impl Machine {
         }
     }
 
-    /// Makes one step but for its report: notes the stores, and tells how it ended.
-    #[tactic(auto, unfolding(tz_sem::specs::Step::ended))]
-    fn make_step(&mut self, stores: &mut Stores) -> Ending
+    /// Runs an instruction; where T is 0 it faults before anything is fetched.
+    fn instruct(&mut self, stores: &mut Stores) -> Ending
         requires { array_vec_len stores.old ≡ 0 }
-        ensures { ended self.old ≡ record { state = self.new; stores = stores.new.items; ending = result } }
+        ensures { instructs self.old ≡ record { state = self.new; stores = stores.new.items; ending = result } }
     {
-        if self.core.run.locked {
-            return self.lock(true, None);
-        }
         if !self.core.registers.t {
             let touched = self.looks();
             let fault = self.unready(touched);
             return self.fault(touched, fault);
         }
-        let found = self
-            .bus
-            .fetch_told(self.core.registers.pc, &fetcher_of(&self.core));
+        let fetcher = self.fetcher();
+        let found = self.bus.fetch_told(self.core.registers.pc, &fetcher);
         match found.answer {
             Err(fault) => self.fault(found.touched, fault),
             Ok(fetched) => {
@@ -329,35 +343,100 @@ impl Machine {
         }
     }
 
-    /// Makes one step with its report; what events are due makes no difference yet.
-    fn report_step(&mut self, report: &mut Report)
-        ensures { (events : List DueEvent) → step self.old events ≡ record { state = self.new; report = report.new } }
+    /// Sleeps on.
+    fn idle(&self) -> Ending
+        ensures { idles self.now ≡ record { state = self.now; stores = []; ending = result } }
+    {
+        Ending {
+            touched: self.core.run.side == Side::Secure,
+            cause: Cause::Went,
+            ran: None,
+            fault: None,
+        }
+    }
+
+    /// Goes on, or sleeps on, by what the core waits for.
+    fn go_by_sleep(&mut self, stores: &mut Stores) -> Ending
+        requires { array_vec_len stores.old ≡ 0 }
+        ensures { by_sleep self.old.core.run.sleep self.old ≡ record { state = self.new; stores = stores.new.items; ending = result } }
+    {
+        match self.core.run.sleep {
+            Sleep::Awake => self.instruct(stores),
+            Sleep::Wfi => {
+                if self.is_woken() {
+                    self.wake();
+                    self.instruct(stores)
+                } else {
+                    self.idle()
+                }
+            }
+            Sleep::Wfe => {
+                if self.core.event || self.is_woken() {
+                    self.wake();
+                    self.core.event = false;
+                    self.instruct(stores)
+                } else {
+                    self.idle()
+                }
+            }
+        }
+    }
+
+    /// Ends a step in which an exception would be entered: the machine locks, awake.
+    fn lock_before_entry(&mut self) -> Ending
+        ensures { is_entered self.old ≡ record { state = self.new; stores = []; ending = result } }
+    {
+        let touched = self.core.run.side == Side::Secure;
+        self.wake();
+        self.lock(touched, None)
+    }
+
+    /// Makes one step after what it begins with, but for its report: notes the stores, and tells how it ended.
+    #[tactic(auto, unfolding(tz_sem::specs::Step::ended))]
+    fn make_step(&mut self, stores: &mut Stores) -> Ending
+        requires { array_vec_len stores.old ≡ 0 }
+        ensures { ended self.old ≡ record { state = self.new; stores = stores.new.items; ending = result } }
+    {
+        if self.core.run.locked {
+            return self.lock(true, None);
+        }
+        if self.takes() {
+            return self.lock_before_entry();
+        }
+        self.go_by_sleep(stores)
+    }
+
+    /// Makes one step with its report.
+    fn report_step(&mut self, due: &[ScriptEvent], report: &mut Report)
+        ensures { step self.old due.now ≡ record { state = self.new; report = report.new } }
     {
         let before = self.core.before();
         report.changes.clear();
         report.stores.clear();
+        self.start(due);
         let ending = self.make_step(&mut report.stores);
         self.tell(&before, &ending, report);
     }
 
-    /// Makes one step, and tells in `report` what it did. The events that are due are passed over.
+    /// Makes one step at which these events are due, and tells in `report` what it did.
     pub fn step_into(&mut self, due: &[ScriptEvent], report: &mut Report)
         ensures steps { step self.old due.now ≡ record { state = self.new; report = report.new } }
         ensures leaves_secure { LeavesSecure self.old (record { state = self.new; report = report.new }) }
-        ensures enters_by_gateway { EntersByGateway self.old (record { state = self.new; report = report.new }) }
+        ensures enters_by_gateway { EntersByGateway self.old due.now (record { state = self.new; report = report.new }) }
     {
-        let _due = due;
-        self.report_step(report);
+        self.report_step(due, report);
     }
 
-    /// Makes one step, and tells what it did. The events that are due are passed over.
+    /// Makes one step at which these events are due, and tells what it did. An event of an interrupt that the
+    /// board hasn't is passed over.
     ///
     /// It is the step relation. Where Non-secure code runs and doesn't look at Secure state, that stays
-    /// as it was; where Non-secure code gets to Secure code, it ran SG where it may call.
+    /// as it was, but for the count of the Secure timer and for what pends; where Non-secure code gets to Secure
+    /// code, it ran SG where it may call.
     pub fn step(&mut self, due: &[ScriptEvent]) -> Report
         ensures steps { step self.old due.now ≡ record { state = self.new; report = result } }
         ensures leaves_secure { LeavesSecure self.old (record { state = self.new; report = result }) }
-        ensures enters_by_gateway { EntersByGateway self.old (record { state = self.new; report = result }) }
+        ensures enters_by_gateway { EntersByGateway self.old due.now (record { state = self.new; report = result }) }
     {
         let mut report = Report::new();
         self.step_into(due, &mut report);

@@ -12,6 +12,7 @@ use crate::running::Machine;
 use std::alloc::{AllocError, Global};
 use tz_access::Bus;
 use tz_model::{Board, Image, Segment, Size};
+use tz_nvic::Exceptions;
 use tz_regs::Core;
 
 /// Puts the bytes of segments into memory.
@@ -57,7 +58,9 @@ impl Machine {
             Some((sp, start)) => (sp, start, false),
             None => (0, 0, true),
         };
+        let exceptions = Exceptions::new(alloc, board.interrupts)?;
         Ok(Machine {
+            exceptions,
             core: Core::reset(vtor, board.nonsecure_vtor, sp, start, locked),
             bus,
         })

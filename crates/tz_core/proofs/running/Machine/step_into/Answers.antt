@@ -7,13 +7,13 @@ use Rattle.tz_core.proofs.running.Machine.step_into.Goals as goal
 
 pub returns-clause-leaves_secure : goal.returns-clause-leaves_secure
 returns-clause-leaves_secure c =
-    subst (λ (r : Stepped). LeavesSecure c.args.self.now r) (c.report_step.ensures c.args.due.now)
-    (λ is untouched. leaves_secure c.args.self.now is untouched)
+    subst (λ (r : Stepped). LeavesSecure c.args.self.now r) c.report_step.ensures
+    (λ is untouched. leaves_secure c.args.self.now c.args.due.now is untouched)
 
 pub returns-clause-enters_by_gateway : goal.returns-clause-enters_by_gateway
 returns-clause-enters_by_gateway c =
-    subst (λ (r : Stepped). EntersByGateway c.args.self.now r) (c.report_step.ensures c.args.due.now)
-    (λ is secure unlocked. enters_by_gateway c.args.self.now is secure unlocked)
+    subst (λ (r : Stepped). EntersByGateway c.args.self.now c.args.due.now r) c.report_step.ensures
+    (λ is secure unlocked. enters_by_gateway c.args.self.now c.args.due.now is secure unlocked)
 
 pub returns-clause-steps : goal.returns-clause-steps
-returns-clause-steps c = c.report_step.ensures c.args.due.now
+returns-clause-steps c = c.report_step.ensures
