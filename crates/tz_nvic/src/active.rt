@@ -7,7 +7,7 @@ ghost use Rattle.tz_state.specs.Slots.{number_at};
 ghost use Rattle.tz_nvic.specs.Numbers.{number_added, has_other, active_numbers};
 
 use crate::exceptions::Exceptions;
-use crate::place::{PLACES, number_at};
+use crate::place::number_at;
 
 /// The numbers of the active exceptions, as far as they tell whether there is one beside a given number.
 #[derive(Clone, Copy)]
@@ -80,7 +80,7 @@ impl Exceptions {
         ensures few { result ≤ 260 }
     {
         let mut least = 260;
-        for index in 0..PLACES {
+        for index in 0..self.end() {
             least = self.least_with(index, least);
         }
         least
@@ -104,7 +104,7 @@ impl Exceptions {
         ensures { result ≡ active_numbers self.now }
     {
         let mut numbers = Numbers::Nothing;
-        for index in 0..PLACES {
+        for index in 0..self.end() {
             numbers = self.numbers_with(index, numbers);
         }
         numbers

@@ -49,10 +49,10 @@ impl Exceptions {
         ensures is { result ≡ chosen_place self.now }
         ensures few { IfSome result (λ i. i < 272) }
         ensures place { IfSome result (λ i. is_place self.now i ≡ true) }
-        ensures looks { steps.new ≡ steps.old + 272 }
+        ensures looks { steps.new ≤ steps.old + 272 }
     {
         let mut best: Option<usize> = None;
-        for index in 0..272 {
+        for index in 0..self.end() {
             steps.look();
             best = self.found_with(index, best);
         }

@@ -4,6 +4,7 @@ ghost use Rattle.std.specs.Prelude.{◌≡◌, ◌≤◌, ◌<◌, ◌+◌, true
 ghost use Rattle.tz_state.specs.Slots.{at, exists, is_external, is_place, side_at, slot_at, index_of, is_enabled, with_slot, reset_exceptions};
 ghost use Rattle.tz_state.specs.SlotChanges.{pended, unpended, activated, deactivated, prioritized, switched, targeted};
 
+use crate::known::Known;
 use crate::place::{PLACES, index_of, is_always_enabled, is_banked, is_system, number_at};
 use std::alloc::{AllocError, Global};
 use std::marker::Model;
@@ -21,26 +22,20 @@ pub struct Exceptions {
     pub(crate) bfhfnmins: bool,
     pub(crate) timer_s: Timer,
     pub(crate) timer_ns: Timer,
+    /// What a look at all slots finds, where none has been written since.
+    pub(crate) known: Option<Known>,
 }
 
 impl Model for Exceptions {
-    ghost use Rattle.std.specs.Prelude.{◌≡◌, ◌≤◌, length};
     ghost use Rattle.tz_state.specs.Slots.{ExceptionsValue};
 
     ghost Value = { ExceptionsValue };
 
-    ghost view = { λ e. record {
-      slots = e.slots.items;
-      interrupts = e.interrupts;
-      prigroup_s = e.prigroup_s;
-      prigroup_ns = e.prigroup_ns;
-      pris = e.pris;
-      bfhfnmins = e.bfhfnmins;
-      timer_s = e.timer_s;
-      timer_ns = e.timer_ns;
-    } };
+    ghost use Rattle.tz_nvic.specs.Viewed.{value_of, Holds};
 
-    ghost invariant = { λ e. (length e.slots.items ≡ 272) × (e.interrupts ≤ 240) × (e.prigroup_s ≤ 7) × (e.prigroup_ns ≤ 7) };
+    ghost view = { value_of };
+
+    ghost invariant = { Holds };
 }
 
 /// A slot that is neither pending nor active nor enabled, of priority 0.
@@ -81,6 +76,7 @@ impl Exceptions {
             bfhfnmins: false,
             timer_s: NO_TIMER,
             timer_ns: NO_TIMER,
+            known: None,
         })
     }
 
@@ -107,6 +103,14 @@ impl Exceptions {
         ensures few { IsTrue result → slot.number < 256 }
     {
         is_system(slot.number) || self.is_external(slot.number)
+    }
+
+    /// The end of the places where slots stand.
+    pub(crate) fn end(&self) -> usize
+        ensures is { result ≡ self.now.interrupts + 32 }
+        ensures few { result ≤ 272 }
+    {
+        self.interrupts as usize + 32
     }
 
     /// Whether a slot stands at a place.
@@ -136,13 +140,29 @@ impl Exceptions {
         index_of(slot)
     }
 
+    /// Writes all that is kept of the slot at a place.
+    pub fn put_at(&mut self, index: usize, state: SlotState)
+        requires { index < 272 }
+        ensures { self.new ≡ with_slot self.old index state }
+    {
+        self.known = None;
+        self.slots[index] = state;
+    }
+
     /// Sets a slot pending. The slot exists.
     pub fn pend(&mut self, slot: Slot)
         requires { exists self.old slot ≡ true }
         ensures { self.new ≡ pended self.old slot }
     {
         let index = self.place_of(slot);
-        self.slots[index].pending = true;
+        let state = self.at(index);
+        self.put_at(
+            index,
+            SlotState {
+                pending: true,
+                ..state
+            },
+        );
     }
 
     /// Sets a slot not pending. The slot exists.
@@ -151,7 +171,14 @@ impl Exceptions {
         ensures { self.new ≡ unpended self.old slot }
     {
         let index = self.place_of(slot);
-        self.slots[index].pending = false;
+        let state = self.at(index);
+        self.put_at(
+            index,
+            SlotState {
+                pending: false,
+                ..state
+            },
+        );
     }
 
     /// Makes a slot active and not pending, as when it is taken (DDI0553, `ActivateException`). It exists.
@@ -160,9 +187,15 @@ impl Exceptions {
         ensures { self.new ≡ activated self.old slot }
     {
         let index = self.place_of(slot);
-        let state = &mut self.slots[index];
-        state.pending = false;
-        state.active = true;
+        let state = self.at(index);
+        self.put_at(
+            index,
+            SlotState {
+                pending: false,
+                active: true,
+                ..state
+            },
+        );
     }
 
     /// Makes a slot not active (DDI0553, `DeActivate`). The slot exists.
@@ -171,7 +204,14 @@ impl Exceptions {
         ensures { self.new ≡ deactivated self.old slot }
     {
         let index = self.place_of(slot);
-        self.slots[index].active = false;
+        let state = self.at(index);
+        self.put_at(
+            index,
+            SlotState {
+                active: false,
+                ..state
+            },
+        );
     }
 
     /// Writes the priority register of a slot, all eight bits; NMI and HardFault keep theirs. It exists.
@@ -180,12 +220,13 @@ impl Exceptions {
         ensures { self.new ≡ prioritized self.old slot raw }
     {
         let index = self.place_of(slot);
-        let state = &mut self.slots[index];
-        state.priority = if slot.number == 2 || slot.number == 3 {
+        let state = self.at(index);
+        let priority = if slot.number == 2 || slot.number == 3 {
             state.priority
         } else {
             raw
         };
+        self.put_at(index, SlotState { priority, ..state });
     }
 
     /// Enables or disables a slot; what is always enabled stays so. The slot exists.
@@ -194,12 +235,13 @@ impl Exceptions {
         ensures { self.new ≡ switched self.old slot on }
     {
         let index = self.place_of(slot);
-        let state = &mut self.slots[index];
-        state.enabled = if is_always_enabled(slot.number) {
+        let state = self.at(index);
+        let enabled = if is_always_enabled(slot.number) {
             state.enabled
         } else {
             on
         };
+        self.put_at(index, SlotState { enabled, ..state });
     }
 
     /// Gives an external interrupt of the core to a side (DDI0553, NVIC_ITNS). Nothing else of it moves.
@@ -207,16 +249,16 @@ impl Exceptions {
         requires { is_external self.old number ≡ true }
         ensures { self.new ≡ targeted self.old number side }
     {
+        let _interrupts = self.interrupts;
         let index = usize::from(number) + 16;
-        self.slots[index].target = side;
-    }
-
-    /// Writes all that is kept of the slot at a place.
-    pub fn put_at(&mut self, index: usize, state: SlotState)
-        requires { index < 272 }
-        ensures { self.new ≡ with_slot self.old index state }
-    {
-        self.slots[index] = state;
+        let state = self.at(index);
+        self.put_at(
+            index,
+            SlotState {
+                target: side,
+                ..state
+            },
+        );
     }
 
     /// Whether a slot is active. The slot exists.

@@ -1,23 +1,80 @@
 //! What a look at all slots finds, and the calls that answer from it.
 
-ghost use Rattle.std.specs.Prelude.{◌≡◌, ◌≤◌, ◌+◌, true, IfSome};
-ghost use Rattle.tz_state.specs.Slots.{exists};
-ghost use Rattle.tz_state.specs.Priority.{chosen};
+ghost use Rattle.std.specs.Prelude.{◌≡◌, ◌≤◌, ◌<◌, ◌+◌, true, IfSome};
+ghost use Rattle.tz_state.specs.Slots.{exists, is_place};
+ghost use Rattle.tz_state.specs.Priority.{chosen_place, chosen};
 ghost use Rattle.tz_state.specs.Execution.{raw_priority};
 ghost use Rattle.tz_state.specs.ControlRegisters.{is_interrupt_pending, returns_to_base};
+ghost use Rattle.tz_nvic.specs.Numbers.{active_numbers};
+ghost use Rattle.tz_nvic.specs.Known.{IsKnown};
 
+use crate::active::Numbers;
 use crate::exceptions::Exceptions;
 use std::sync::ledger::Ledger;
 use tz_model::Slot;
 use tz_ready::Steps;
 
+/// What a look at all slots finds.
+#[derive(Clone, Copy)]
+pub(crate) struct Known {
+    /// The place of the slot that comes first.
+    chosen: Option<usize>,
+    /// The least priority of the active slots, four above the manual's.
+    raw: u32,
+    /// Whether an external interrupt is pending.
+    interrupt: bool,
+    /// The numbers of the active slots.
+    numbers: Numbers,
+}
+
 impl Exceptions {
-    /// Looks at the slots once where a change may have altered what they tell, so that `chosen`, `raw_priority`,
+    /// Looks at the slots.
+    fn look<L: Ledger>(&self, steps: &mut Steps<L>) -> Known
+        ensures is { IsKnown self.now result }
+        ensures looks { steps.new ≤ steps.old + 272 }
+    {
+        Known {
+            chosen: self.chosen_place(steps),
+            raw: self.least_active(),
+            interrupt: self.any_pending(),
+            numbers: self.active_numbers(),
+        }
+    }
+
+    /// Looks at the slots once where one may have changed since the last look, so that `chosen`, `raw_priority`,
     /// `is_interrupt_pending` and `returns_to_base` answer without a look until the next change.
     pub fn settle<L: Ledger>(&mut self, steps: &mut Steps<L>)
         ensures same { self.new ≡ self.old }
         ensures looks { steps.new ≤ steps.old + 272 }
-    {}
+    {
+        if self.known.is_none() {
+            let known = self.look(steps);
+            self.known = Some(known);
+        }
+    }
+
+    /// The place of the slot that comes first.
+    fn first_place<L: Ledger>(&self, steps: &mut Steps<L>) -> Option<usize>
+        ensures is { result ≡ chosen_place self.now }
+        ensures few { IfSome result (λ i. i < 272) }
+        ensures place { IfSome result (λ i. is_place self.now i ≡ true) }
+        ensures looks { steps.new ≤ steps.old + 272 }
+    {
+        match &self.known {
+            Some(known) => known.chosen,
+            None => self.chosen_place(steps),
+        }
+    }
+
+    /// The numbers of the active slots.
+    fn numbers(&self) -> Numbers
+        ensures { result ≡ active_numbers self.now }
+    {
+        match &self.known {
+            Some(known) => known.numbers,
+            None => self.active_numbers(),
+        }
+    }
 
     /// The exception that comes first (DDI0553, `PendingExceptionDetails`): of those that are pending and
     /// enabled, that of the least group priority, then subpriority, then number, and of one number the Secure
@@ -27,7 +84,7 @@ impl Exceptions {
         ensures exists { IfSome result (λ slot. exists self.now slot ≡ true) }
         ensures looks { steps.new ≤ steps.old + 272 }
     {
-        match self.chosen_place(steps) {
+        match self.first_place(steps) {
             None => None,
             Some(index) => Some(self.slot_at(index)),
         }
@@ -39,14 +96,20 @@ impl Exceptions {
         ensures is { result ≡ raw_priority self.now }
         ensures few { result ≤ 260 }
     {
-        self.least_active()
+        match &self.known {
+            Some(known) => known.raw,
+            None => self.least_active(),
+        }
     }
 
     /// ICSR.ISRPENDING: whether an external interrupt of either side is pending, enabled or not.
     pub fn is_interrupt_pending(&self) -> bool
         ensures { result ≡ is_interrupt_pending self.now }
     {
-        self.any_pending()
+        match &self.known {
+            Some(known) => known.interrupt,
+            None => self.any_pending(),
+        }
     }
 
     /// ICSR.RETTOBASE in a handler of an exception number, 0 in Thread mode: whether an exception is handled and
@@ -55,6 +118,6 @@ impl Exceptions {
     pub fn returns_to_base(&self, ipsr: u16) -> bool
         ensures { result ≡ returns_to_base self.now ipsr }
     {
-        ipsr != 0 && !self.active_numbers().has_other(ipsr)
+        ipsr != 0 && !self.numbers().has_other(ipsr)
     }
 }

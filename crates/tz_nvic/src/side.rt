@@ -25,6 +25,7 @@ impl Exceptions {
         requires { n ≤ 7 }
         ensures { self.new ≡ with_prigroup self.old side n }
     {
+        self.known = None;
         match side {
             Side::Secure => self.prigroup_s = n,
             Side::NonSecure => self.prigroup_ns = n,
@@ -42,6 +43,7 @@ impl Exceptions {
     pub fn set_pris(&mut self, on: bool)
         ensures { self.new ≡ record self.old { pris = on } }
     {
+        self.known = None;
         self.pris = on;
     }
 
@@ -73,6 +75,7 @@ impl Exceptions {
         ensures { self.new ≡ with_fault_side self.old on }
     {
         if !self.is_fault_side_held() {
+            self.known = None;
             self.bfhfnmins = on;
         }
     }

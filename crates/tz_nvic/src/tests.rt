@@ -2,12 +2,12 @@
 
 ghost use Rattle.std.specs.Prelude.{◌≡◌, ◌<◌};
 
-use crate::{Exceptions, PLACES, Steps, Timer};
+use crate::{Exceptions, PLACES, SlotState, Steps, Timer};
 use std::marker::Brand;
 use std::process::Abort;
 use std::sync::ledger::{Blank, Ledger};
 use std::test::Fail;
-use tz_model::{Side, Slot};
+use tz_model::{ScriptEvent, Side, Slot};
 
 const S: Side = Side::Secure;
 
@@ -28,6 +28,22 @@ fn chosen_by<L: Ledger>(blank: Blank, exceptions: &Exceptions) -> Option<(u16, S
 
 fn chosen(exceptions: &Exceptions) -> Option<(u16, Side)> {
     chosen_by::<Brand>(Blank::new(1), exceptions)
+}
+
+fn settle_by<L: Ledger>(blank: Blank, exceptions: &mut Exceptions)
+    requires name { blank.name ≡ L.name }
+    requires parts { blank.parts ≡ L.parts }
+    requires some_part { 0 < blank.parts }
+    ensures { exceptions.new ≡ exceptions.old }
+{
+    let mut looks = Steps::<L>::start(blank);
+    exceptions.settle(&mut looks);
+}
+
+fn settle(exceptions: &mut Exceptions)
+    ensures { exceptions.new ≡ exceptions.old }
+{
+    settle_by::<Brand>(Blank::new(1), exceptions);
 }
 
 /// Sets a slot pending.
@@ -242,59 +258,232 @@ fn chooses_by_group_and_then_by_the_rest(rt: HostRuntime) -> Result<(), Fail> {
     Ok(())
 }
 
-/// What happens to number 19 or 21 before a choice.
+/// What happens to the exceptions.
 #[derive(Clone, Copy)]
 enum Event {
-    Priority(u16, u8),
-    Target(u16, Side),
-    Disable(u16),
+    Pend(u16),
+    Unpend(u16),
     Activate(u16),
+    Deactivate(u16),
+    Priority(u16, u8),
+    Enabled(u16, bool),
+    Target(u16, Side),
+    Grouping(Side, u8),
+    Pris(bool),
+    FaultSide(bool),
+    /// Puts a Secure slot that is pending, active and enabled, of a priority, at a place.
+    Put(usize, bool, bool, bool, u8),
+    /// Sets SYST_CSR, and SYST_RVR and SYST_CVR to 1, of the Secure side.
+    Timer(u32),
+    Tick,
+    Nothing,
+}
+
+/// What happens to the slot of a number, on the Secure side where it has two.
+fn happen_to(rt: &impl Abort, exceptions: &mut Exceptions, number: u16, event: Event) {
+    let slot = Slot { number, side: S };
+    assert!(rt; exceptions.exists(slot));
+    match event {
+        Event::Pend(_) => exceptions.pend(slot),
+        Event::Unpend(_) => exceptions.unpend(slot),
+        Event::Activate(_) => exceptions.activate(slot),
+        Event::Deactivate(_) => exceptions.deactivate(slot),
+        Event::Priority(_, priority) => exceptions.set_priority(slot, priority),
+        Event::Enabled(_, on) => exceptions.set_enabled(slot, on),
+        _ => {}
+    }
+}
+
+/// Gives an external interrupt to a side.
+fn give(rt: &impl Abort, exceptions: &mut Exceptions, number: u16, side: Side) {
+    assert!(rt; number >= 16 && number < exceptions.interrupts() + 16);
+    exceptions.set_target(number, side);
+    assert!(rt; number >= 16 && number < exceptions.interrupts() + 16);
+    assert_eq!(rt; exceptions.target(number), side);
+}
+
+/// Puts a Secure slot at a place.
+fn put(rt: &impl Abort, exceptions: &mut Exceptions, index: usize, state: SlotState) {
+    assert!(rt; index < PLACES);
+    exceptions.put_at(index, state);
+}
+
+fn group(rt: &impl Abort, exceptions: &mut Exceptions, side: Side, n: u8) {
+    assert!(rt; n < 8);
+    exceptions.set_grouping(side, n);
 }
 
 fn happen(rt: &impl Abort, exceptions: &mut Exceptions, event: Event) {
     match event {
-        Event::Priority(number, priority) => {
-            let slot = Slot { number, side: S };
-            assert!(rt; exceptions.exists(slot));
-            exceptions.set_priority(slot, priority);
-        }
-        Event::Target(number, side) => {
-            assert!(rt; number >= 16 && number < exceptions.interrupts() + 16);
-            exceptions.set_target(number, side);
-            assert!(rt; number >= 16 && number < exceptions.interrupts() + 16);
-            assert_eq!(rt; exceptions.target(number), side);
-        }
-        Event::Disable(number) => {
-            let slot = Slot { number, side: S };
-            assert!(rt; exceptions.exists(slot));
-            exceptions.set_enabled(slot, false);
-        }
-        Event::Activate(number) => {
-            let slot = Slot { number, side: S };
-            assert!(rt; exceptions.exists(slot));
-            exceptions.activate(slot);
-        }
+        Event::Pend(number)
+        | Event::Unpend(number)
+        | Event::Activate(number)
+        | Event::Deactivate(number)
+        | Event::Priority(number, _)
+        | Event::Enabled(number, _) => happen_to(rt, exceptions, number, event),
+        Event::Target(number, side) => give(rt, exceptions, number, side),
+        Event::Grouping(side, n) => group(rt, exceptions, side, n),
+        Event::Pris(on) => exceptions.set_pris(on),
+        Event::FaultSide(on) => exceptions.set_fault_side(on),
+        Event::Put(index, pending, active, enabled, priority) => put(
+            rt,
+            exceptions,
+            index,
+            SlotState {
+                pending,
+                active,
+                enabled,
+                priority,
+                target: S,
+            },
+        ),
+        Event::Timer(csr) => exceptions.put_timer(
+            S,
+            Timer {
+                csr,
+                rvr: 1,
+                cvr: 1,
+            },
+        ),
+        Event::Tick => exceptions.tick(),
+        Event::Nothing => {}
     }
 }
 
-/// Events one after another, and who is chosen after each.
-static EVENTS: [(Event, Option<(u16, Side)>); 4] = [
-    (Event::Priority(19, 0x60), Some((21, S))),
-    (Event::Target(21, NS), Some((21, NS))),
-    (Event::Disable(21), Some((19, S))),
-    (Event::Activate(19), None),
+/// Events one after another, and what is so after each: who is chosen; the least priority of what is active, four
+/// above the manual's; whether an interrupt is pending; and a number with RETTOBASE in its handler.
+static EVENTS: [(Event, Option<(u16, Side)>, u32, bool, u16, bool); 33] = [
+    (Event::Nothing, None, 260, false, 19, true),
+    (Event::Pend(19), None, 260, true, 0, false),
+    (Event::Enabled(19, true), Some((19, S)), 260, true, 19, true),
+    (Event::Pend(21), Some((19, S)), 260, true, 19, true),
+    (Event::Enabled(21, true), Some((19, S)), 260, true, 19, true),
+    (
+        Event::Priority(19, 0x42),
+        Some((21, S)),
+        260,
+        true,
+        19,
+        true,
+    ),
+    (
+        Event::Priority(21, 0x43),
+        Some((19, S)),
+        260,
+        true,
+        19,
+        true,
+    ),
+    (
+        Event::Priority(21, 0x41),
+        Some((21, S)),
+        260,
+        true,
+        19,
+        true,
+    ),
+    (Event::Target(21, NS), Some((21, NS)), 260, true, 19, true),
+    (Event::Grouping(S, 7), Some((19, S)), 260, true, 19, true),
+    (Event::Grouping(S, 0), Some((21, NS)), 260, true, 19, true),
+    (Event::Pris(true), Some((19, S)), 260, true, 19, true),
+    (Event::Activate(19), Some((21, NS)), 70, true, 19, true),
+    (Event::Nothing, Some((21, NS)), 70, true, 21, false),
+    (
+        Event::Priority(19, 0x20),
+        Some((21, NS)),
+        36,
+        true,
+        19,
+        true,
+    ),
+    (Event::Activate(21), None, 36, false, 19, false),
+    (Event::Nothing, None, 36, false, 21, false),
+    (Event::Deactivate(19), None, 164, false, 21, true),
+    (Event::Nothing, None, 164, false, 0, false),
+    (Event::Pris(false), None, 68, false, 21, true),
+    (Event::Grouping(NS, 7), None, 4, false, 21, true),
+    (Event::Target(21, S), None, 68, false, 21, true),
+    (Event::Pend(2), Some((2, S)), 68, false, 21, true),
+    (Event::FaultSide(true), Some((2, S)), 68, false, 21, true),
+    (Event::Unpend(2), None, 68, false, 21, true),
+    (Event::FaultSide(true), None, 68, false, 21, true),
+    (
+        Event::Put(36, true, false, true, 0x10),
+        Some((20, S)),
+        68,
+        true,
+        21,
+        true,
+    ),
+    (Event::Enabled(20, false), None, 68, true, 21, true),
+    (
+        Event::Put(6, false, true, false, 0),
+        None,
+        1,
+        true,
+        21,
+        false,
+    ),
+    (Event::Timer(1), None, 1, true, 21, false),
+    (Event::Tick, None, 1, true, 21, false),
+    (Event::Timer(3), None, 1, true, 21, false),
+    (Event::Tick, Some((15, S)), 1, true, 3, false),
 ];
 
+/// Whether all is so that a row of `EVENTS` tells.
+fn check(rt: &impl Abort, exceptions: &Exceptions, row: usize) {
+    assert!(rt; row < EVENTS.len());
+    let (_, first, raw, pending, ipsr, base) = &EVENTS[row];
+    assert_eq!(rt; chosen(exceptions), *first, "{row}");
+    assert_eq!(rt; exceptions.raw_priority(), *raw, "{row}");
+    assert_eq!(rt; exceptions.is_interrupt_pending(), *pending, "{row}");
+    assert_eq!(rt; exceptions.returns_to_base(*ipsr), *base, "{row}");
+}
+
 #[test]
-fn the_choice_follows_each_change(rt: HostRuntime) -> Result<(), Fail> {
+fn what_is_known_follows_each_change(rt: HostRuntime) -> Result<(), Fail> {
     let mut exceptions = Exceptions::new(rt.alloc(), 8)?;
-    interrupt(&rt, &mut exceptions, 19, S, 0x40);
-    interrupt(&rt, &mut exceptions, 21, S, 0x40);
-    assert_eq!(rt; chosen(&exceptions), Some((19, S)));
-    for (event, wanted) in &EVENTS {
-        happen(&rt, &mut exceptions, *event);
-        assert_eq!(rt; chosen(&exceptions), *wanted);
+    for row in 0..EVENTS.len() {
+        happen(&rt, &mut exceptions, EVENTS[row].0);
+        check(&rt, &exceptions, row);
+        settle(&mut exceptions);
+        check(&rt, &exceptions, row);
     }
+    Ok(())
+}
+
+/// Whether the slots at these places are pending, and no others.
+fn pend_alone(rt: &impl Abort, exceptions: &Exceptions, places: &[usize]) {
+    for index in 0..PLACES {
+        let wanted = places.contains(&index);
+        assert_eq!(rt; exceptions.at(index).pending, wanted, "{index}");
+    }
+}
+
+#[test]
+fn events_of_a_script_pend(rt: HostRuntime) -> Result<(), Fail> {
+    let mut exceptions = Exceptions::new(rt.alloc(), 8)?;
+    exceptions.pend_due(&[]);
+    pend_alone(&rt, &exceptions, &[]);
+    exceptions.pend_due(&[ScriptEvent::Irq(8), ScriptEvent::Irq(0xffff)]);
+    pend_alone(&rt, &exceptions, &[]);
+    exceptions.pend_due(&[ScriptEvent::Irq(7), ScriptEvent::Nmi, ScriptEvent::Irq(0)]);
+    pend_alone(&rt, &exceptions, &[4, 32, 39]);
+    settle(&mut exceptions);
+    exceptions.pend_due(&[]);
+    assert_eq!(rt; chosen(&exceptions), Some((2, S)));
+    exceptions.unpend(Slot { number: 2, side: S });
+    exceptions.set_enabled(
+        Slot {
+            number: 23,
+            side: S,
+        },
+        true,
+    );
+    settle(&mut exceptions);
+    assert_eq!(rt; chosen(&exceptions), Some((23, S)));
+    exceptions.pend_due(&[ScriptEvent::Nmi]);
+    assert_eq!(rt; chosen(&exceptions), Some((2, S)));
     Ok(())
 }
 

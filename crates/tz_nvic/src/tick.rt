@@ -1,10 +1,11 @@
 //! The count of both timers.
 
-ghost use Rattle.std.specs.Prelude.{◌≡◌};
-ghost use Rattle.tz_state.specs.Timers.{counts, interrupts, runs_out, counted_down, ticked};
+ghost use Rattle.std.specs.Prelude.{◌≡◌, ◌<◌};
+ghost use Rattle.tz_state.specs.Timers.{counts, interrupts, runs_out, counted_down, pended_by, ticked_s, ticked_ns, ticked};
 
 use crate::exceptions::Exceptions;
-use tz_state::Timer;
+use tz_model::Side;
+use tz_state::{SlotState, Timer};
 
 /// SYST_CSR.ENABLE: whether a timer counts.
 fn counts(timer: &Timer) -> bool
@@ -51,18 +52,51 @@ fn counted_down(timer: &Timer) -> Timer
 }
 
 impl Exceptions {
+    /// Sets SysTick at a place pending where its timer runs out and asks for it.
+    fn pend_by(&mut self, timer: &Timer, index: usize)
+        requires { index < 272 }
+        ensures { self.new ≡ pended_by timer.now index self.old }
+    {
+        if runs_out(timer) && interrupts(timer) {
+            let state = self.at(index);
+            self.put_at(
+                index,
+                SlotState {
+                    pending: true,
+                    ..state
+                },
+            );
+        }
+    }
+
+    /// Counts the Secure SysTick.
+    fn tick_s(&mut self)
+        ensures { self.new ≡ ticked_s self.old }
+    {
+        let timer = self.timer_s;
+        if counts(&timer) {
+            self.pend_by(&timer, 30);
+            self.put_timer(Side::Secure, counted_down(&timer));
+        }
+    }
+
+    /// Counts the Non-secure SysTick.
+    fn tick_ns(&mut self)
+        ensures { self.new ≡ ticked_ns self.old }
+    {
+        let timer = self.timer_ns;
+        if counts(&timer) {
+            self.pend_by(&timer, 31);
+            self.put_timer(Side::NonSecure, counted_down(&timer));
+        }
+    }
+
     /// Counts each enabled SysTick once. From 0 it begins anew at SYST_RVR; a count from 1 to 0 sets COUNTFLAG
     /// and, with TICKINT, SysTick of its side pending.
     pub fn tick(&mut self)
         ensures { self.new ≡ ticked self.old }
     {
-        let pends_s = runs_out(&self.timer_s) && interrupts(&self.timer_s);
-        let pends_ns = runs_out(&self.timer_ns) && interrupts(&self.timer_ns);
-        let secure = &mut self.slots[30];
-        secure.pending = secure.pending || pends_s;
-        let nonsecure = &mut self.slots[31];
-        nonsecure.pending = nonsecure.pending || pends_ns;
-        self.timer_s = counted_down(&self.timer_s);
-        self.timer_ns = counted_down(&self.timer_ns);
+        self.tick_s();
+        self.tick_ns();
     }
 }

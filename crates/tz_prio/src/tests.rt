@@ -1,10 +1,16 @@
 //! Priorities, row by row. The expected values were worked out by hand from the architecture's rules.
 
-use crate::{Taken, can_take, escalate, execution_priority, raw_priority};
+ghost use Rattle.std.specs.Prelude.{◌≡◌, ◌<◌};
+
+use crate::{
+    Taken, can_take, escalate, execution_priority, is_negative, raw_priority, takes_first, wakes,
+};
+use std::marker::Brand;
 use std::process::Abort;
+use std::sync::ledger::{Blank, Ledger};
 use std::test::Fail;
 use tz_model::{Side, Slot};
-use tz_nvic::Exceptions;
+use tz_nvic::{Exceptions, Steps};
 use tz_regs::Core;
 
 const S: Side = Side::Secure;
@@ -87,6 +93,8 @@ fn masks_give_a_priority(rt: HostRuntime) -> Result<(), Fail> {
         mask(&mut core, NS, nonsecure);
         let found = execution_priority(&core, &exceptions);
         assert_eq!(rt; found, *wanted, "{secure:?} {nonsecure:?}");
+        let negative = is_negative(&core, &exceptions);
+        assert_eq!(rt; negative, *wanted < 0, "{secure:?} {nonsecure:?}");
         assert_eq!(rt; raw_priority(&exceptions), 256);
     }
     Ok(())
@@ -122,6 +130,8 @@ fn active_slots_give_a_priority(rt: HostRuntime) -> Result<(), Fail> {
         assert_eq!(rt; raw_priority(&exceptions), *wanted, "{}", first.0);
         let found = execution_priority(&core, &exceptions);
         assert_eq!(rt; found, *wanted, "{}", first.0);
+        let negative = is_negative(&core, &exceptions);
+        assert_eq!(rt; negative, *wanted < 0, "{}", first.0);
         core.set_primask(S, 1);
         let found = execution_priority(&core, &exceptions);
         assert_eq!(rt; found, (*wanted).min(0), "{}", first.0);
@@ -156,6 +166,122 @@ fn what_is_below_can_be_taken(rt: HostRuntime) -> Result<(), Fail> {
         core.set_basepri(S, *basepri);
         let found = can_take(&core, &exceptions, slot);
         assert_eq!(rt; found, *wanted, "{number} {priority}");
+    }
+    Ok(())
+}
+
+/// Whether the first exception can be taken, and whether it would be with both PRIMASKs 0.
+fn answers_by<L: Ledger>(blank: Blank, core: &Core, exceptions: &Exceptions) -> (bool, bool)
+    requires name { blank.name ≡ L.name }
+    requires parts { blank.parts ≡ L.parts }
+    requires some_part { 0 < blank.parts }
+{
+    let mut looks = Steps::<L>::start(blank);
+    let takes = takes_first(core, exceptions, &mut looks);
+    (takes, wakes(core, exceptions, &mut looks))
+}
+
+fn answers(core: &Core, exceptions: &Exceptions) -> (bool, bool) {
+    answers_by::<Brand>(Blank::new(1), core, exceptions)
+}
+
+/// PRIS; the priorities of number 16, which is Secure, and of 17, which is Non-secure, where they are pending and
+/// enabled; the masks of both sides; whether the first is taken, and whether it ends a sleep.
+static FIRST: [(bool, Option<u8>, Option<u8>, [u32; 3], [u32; 3], bool, bool); 17] = [
+    (false, None, None, [0, 0, 0], [0, 0, 0], false, false),
+    (false, Some(0), None, [0, 0, 0], [0, 0, 0], true, true),
+    (false, Some(0xff), None, [0, 0, 0], [0, 0, 0], true, true),
+    (false, Some(0x10), None, [0, 1, 0], [0, 0, 0], false, true),
+    (false, Some(0x10), None, [0, 0, 0], [0, 1, 0], false, true),
+    (false, None, Some(0x10), [0, 1, 0], [0, 1, 0], false, true),
+    (
+        false,
+        Some(0x10),
+        None,
+        [0x10, 0, 0],
+        [0, 0, 0],
+        false,
+        false,
+    ),
+    (false, Some(0x0e), None, [0x10, 0, 0], [0, 0, 0], true, true),
+    (
+        false,
+        Some(0x10),
+        None,
+        [0x10, 1, 0],
+        [0, 0, 0],
+        false,
+        false,
+    ),
+    (
+        false,
+        Some(0x0e),
+        None,
+        [0x10, 1, 0],
+        [0, 0, 0],
+        false,
+        true,
+    ),
+    (false, Some(0x10), None, [0, 0, 1], [0, 0, 0], false, false),
+    (false, Some(0x10), None, [0, 0, 0], [0, 0, 1], false, false),
+    (true, Some(0x10), None, [0, 0, 0], [0, 1, 0], true, true),
+    (true, Some(0x80), None, [0, 0, 0], [0, 1, 0], false, true),
+    (true, None, Some(0), [0, 0, 0], [0, 1, 0], false, true),
+    (
+        true,
+        Some(0x90),
+        Some(0x10),
+        [0x80, 0, 0],
+        [0, 0, 0],
+        false,
+        false,
+    ),
+    (
+        true,
+        Some(0x7e),
+        Some(0),
+        [0x80, 0, 0],
+        [0, 1, 0],
+        true,
+        true,
+    ),
+];
+
+/// Enables an external interrupt on a side with a priority, and sets it pending.
+fn interrupt(rt: &impl Abort, exceptions: &mut Exceptions, number: u16, side: Side, priority: u8) {
+    assert!(rt; number >= 16 && number < exceptions.interrupts() + 16);
+    exceptions.set_target(number, side);
+    enable(rt, exceptions, number, side, priority);
+    let slot = Slot { number, side };
+    assert!(rt; exceptions.exists(slot));
+    exceptions.pend(slot);
+}
+
+#[test]
+fn the_first_is_taken_or_wakes(rt: HostRuntime) -> Result<(), Fail> {
+    for (pris, first, second, secure, nonsecure, taken, woken) in &FIRST {
+        let mut exceptions = Exceptions::new(rt.alloc(), 8)?;
+        exceptions.set_pris(*pris);
+        if let Some(priority) = first {
+            interrupt(&rt, &mut exceptions, 16, S, *priority);
+        }
+        if let Some(priority) = second {
+            interrupt(&rt, &mut exceptions, 17, NS, *priority);
+        }
+        let mut core = Core::new();
+        mask(&mut core, S, secure);
+        mask(&mut core, NS, nonsecure);
+        let (takes, wakes) = answers(&core, &exceptions);
+        assert_eq!(rt;
+            takes,
+            *taken,
+            "{first:?} {second:?} {secure:?} {nonsecure:?}"
+        );
+        assert_eq!(rt;
+            wakes,
+            *woken,
+            "{first:?} {second:?} {secure:?} {nonsecure:?}"
+        );
     }
     Ok(())
 }

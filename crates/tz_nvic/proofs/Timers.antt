@@ -1,0 +1,51 @@
+-- What a look finds doesn't depend on the timers.
+use Rattle.std.proofs.Common.{◌≡◌, ℕ, zero, suc, Option, Some, None, refl, ap, sym, ◌∙◌}
+use Rattle.std.specs.Prelude.{min, if◌then◌else◌, IfSome}
+use Rattle.tz_state.specs.declared.slot.Timer.{Timer}
+use Rattle.tz_state.specs.Slots.{ExceptionsValue, number_at}
+use Rattle.tz_state.specs.Priority.{rank_of, priority_of, subpriority_of, chosen_place}
+use Rattle.tz_state.specs.Execution.{is_active, active_below}
+use Rattle.tz_nvic.specs.declared.known.Known.{Known}
+use Rattle.tz_nvic.specs.declared.active.Numbers.{Numbers}
+use Rattle.tz_nvic.specs.Numbers.{numbers_below, number_added}
+use Rattle.tz_nvic.specs.Known.{IsKnown}
+
+abbrev timed : ExceptionsValue → Timer → Timer → ExceptionsValue
+timed e s ns = record e { timer_s = s; timer_ns = ns }
+
+same_choice : (e : ExceptionsValue) (s ns : Timer) → chosen_place (timed e s ns) ≡ chosen_place e
+unfolding rank_of priority_of subpriority_of
+same_choice e s ns = refl
+
+same_priority : (e : ExceptionsValue) (s ns : Timer) (i : ℕ) → priority_of (timed e s ns) i ≡ priority_of e i
+unfolding priority_of
+same_priority e s ns i = refl
+
+same_least : (e : ExceptionsValue) (s ns : Timer) (n : ℕ) → active_below (timed e s ns) n ≡ active_below e n
+unfolding active_below
+same_least e s ns zero = refl
+same_least e s ns (suc n) =
+    ap (λ (p : ℕ). if is_active e n then min p (active_below (timed e s ns) n) else active_below (timed e s ns) n) (same_priority e s ns n)
+    ∙ ap (λ (r : ℕ). if is_active e n then min (priority_of e n) r else r) (same_least e s ns n)
+
+same_numbers : (e : ExceptionsValue) (s ns : Timer) (n : ℕ) → numbers_below (timed e s ns) n ≡ numbers_below e n
+unfolding numbers_below
+same_numbers e s ns zero = refl
+same_numbers e s ns (suc n) = ap (λ (r : Numbers). if is_active e n then number_added (number_at n) r else r) (same_numbers e s ns n)
+
+still_known : (e : ExceptionsValue) (s ns : Timer) (k : Known) → IsKnown e k → IsKnown (timed e s ns) k
+still_known e s ns k h =
+    record {
+      chosen = h.chosen ∙ sym (same_choice e s ns);
+      few = h.few;
+      place = h.place;
+      raw = h.raw ∙ sym (same_least e s ns 272);
+      least = h.least;
+      interrupt = h.interrupt;
+      numbers = h.numbers ∙ sym (same_numbers e s ns 272);
+    }
+
+-- what is known stays so while the timers change
+pub known_with_timers : (e : ExceptionsValue) (s ns : Timer) (o : Option Known) → IfSome o (λ k. IsKnown e k) → IfSome o (λ k. IsKnown (timed e s ns) k)
+known_with_timers e s ns None h = h
+known_with_timers e s ns (Some k) h = still_known e s ns k h

@@ -1,0 +1,28 @@
+-- The exceptions as a value.
+use Rattle.std.specs.Prelude.{◌≡◌, ◌≤◌, length, IfSome}
+use Rattle.tz_state.specs.Slots.{ExceptionsValue}
+use Rattle.tz_nvic.specs.Known.{IsKnown}
+use Rattle.tz_nvic.specs.declared.exceptions.Exceptions.TheInside.{Inside}
+
+-- all but what is known of them
+abbrev pub value_of : Inside → ExceptionsValue
+value_of e =
+    record {
+      slots = e.slots.items;
+      interrupts = e.interrupts;
+      prigroup_s = e.prigroup_s;
+      prigroup_ns = e.prigroup_ns;
+      pris = e.pris;
+      bfhfnmins = e.bfhfnmins;
+      timer_s = e.timer_s;
+      timer_ns = e.timer_ns;
+    }
+
+-- each slot has a place, numbers are in range, and what is known is so
+abbrev pub Holds : Inside → Type 0
+Holds e =
+    (length e.slots.items ≡ 272)
+    × (e.interrupts ≤ 240)
+    × (e.prigroup_s ≤ 7)
+    × (e.prigroup_ns ≤ 7)
+    × IfSome e.known (λ k. IsKnown (value_of e) k)
