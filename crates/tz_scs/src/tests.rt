@@ -40,7 +40,7 @@ enum Does {
 /// Whose code accesses, the size, from where the offset counts, the offset, and what the access does.
 type Step = (Side, Size, u32, u32, Does);
 
-/// What the registers stand in.
+/// What a system is lent.
 #[derive(Drop)]
 struct Machine {
     core: Core,
@@ -48,7 +48,7 @@ struct Machine {
     bus: Bus,
 }
 
-/// Machine of a core after a reset with 40 interrupts, on a board with 8 regions of the SAU and of the Secure MPU,
+/// A machine after a reset with 40 interrupts, on a board with 8 regions of the SAU and of the Secure MPU,
 /// and 4 of the Non-secure one.
 fn reset(alloc: Global, profile: Profile) -> Result<Machine, AllocError> {
     let region = Region {
@@ -244,7 +244,7 @@ fn fill_units(machine: &mut Machine) {
     bus.set_sau_register(SauRegister::Rlar, 0x003F_FFE1);
 }
 
-/// Machine whose registers all show something.
+/// A machine whose registers all show something.
 fn filled(rt: &impl Abort, alloc: Global) -> Result<Machine, AllocError> {
     let mut machine = reset(alloc, Profile::V80)?;
     fill_slots(rt, &mut machine);
