@@ -27,6 +27,19 @@ pub struct CorePort<'a> {
     pub stores: &'a mut Stores,
 }
 
+impl CorePort<'_> {
+    /// Notes a store.
+    fn note(&mut self, addr: u32, size: Size, value: u32)
+        requires { array_vec_len self.old.stores.now < 16 }
+        ensures port { self.new ≡ record self.old { stores = self.new.stores } }
+        ensures stores { self.new.stores.now.items ≡ self.old.stores.now.items ++ record { addr = addr; size = size; value = value } ∷ [] }
+        ensures room { array_vec_len self.new.stores.now ≤ array_vec_len self.old.stores.now + 1 }
+        ensures lent { self.new.stores.ghost_name ≡ self.old.stores.ghost_name }
+    {
+        self.stores.push(Store { addr, size, value });
+    }
+}
+
 impl Port for CorePort<'_> {
     ghost Held = { Reached };
 
@@ -75,8 +88,11 @@ impl Port for CorePort<'_> {
             .bus
             .store(&self.asker, size, addr, value, must_align, user)
         {
-            Err(fault) => return Err(fault),
-            Ok(Place::Memory) => {}
+            Err(fault) => Err(fault),
+            Ok(Place::Memory) => {
+                self.note(addr, size, cut);
+                Ok(())
+            }
             Ok(Place::System) => {
                 let mut registers = SystemRegisters {
                     ipsr: self.ipsr,
@@ -85,13 +101,9 @@ impl Port for CorePort<'_> {
                     bus: self.bus,
                 };
                 registers.write(addr, size, self.asker.side, cut);
+                self.note(addr, size, cut);
+                Ok(())
             }
         }
-        self.stores.push(Store {
-            addr,
-            size,
-            value: cut,
-        });
-        Ok(())
     }
 }

@@ -82,7 +82,8 @@ impl Machine {
     ghost use Rattle.tz_sem.specs.declared.ending.Cause.TheVariants.{Went};
     ghost use Rattle.tz_state.specs.State.{side_of, with_run, with_pc};
     ghost use Rattle.tz_model.specs.Codes.{meaning_of};
-    ghost use Rattle.tz_sem.specs.Step.{branch_ns, moves_to, exchanged, past, skips, goes_on, faults, placed, decoded, enters, looks, unready, instructs, idles, by_sleep, is_entered, ended, step};
+    ghost use Rattle.tz_sem.specs.Faulted.{faulted};
+    ghost use Rattle.tz_sem.specs.Step.{branch_ns, moves_to, exchanged, past, skips, goes_on, placed, decoded, enters, looks, unready, instructs, idles, by_sleep, is_entered, ended, step};
     ghost use Rattle.tz_twin.specs.Integrity.{LeavesSecure, EntersByGateway};
 
     /// The state that the machine is in; a locked machine counts as Secure.
@@ -143,7 +144,8 @@ impl Machine {
 
     /// Ends a step that faults: what the fault sets and pends is kept, and the machine locks.
     fn fault(&mut self, touched: bool, fault: Fault) -> Ending
-        ensures { (stores : List Store) → faults self.old touched fault stores ≡ record { state = self.new; stores = stores; ending = result } }
+        ensures state { self.new ≡ with_run (faulted fault self.old) (record (faulted fault self.old).core.run { locked = true }) }
+        ensures ending { result ≡ record { touched = touched; cause = Went; ran = None; fault = Some fault } }
     {
         self.take_fault(fault);
         self.lock(touched, Some(fault))

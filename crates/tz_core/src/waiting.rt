@@ -37,6 +37,21 @@ fn wakes_counted<L: Ledger>(blank: Blank, core: &Core, exceptions: &Exceptions) 
     wakes(core, exceptions, &mut looks)
 }
 
+/// Whether the exception that comes first can be taken.
+fn takes(core: &Core, exceptions: &mut Exceptions) -> bool
+    ensures same { exceptions.new ≡ exceptions.old }
+    ensures takes { result ≡ told.takes_first exceptions.old core.now.masks }
+{
+    takes_counted::<Brand>(Blank::new(1), core, exceptions)
+}
+
+/// Whether an exception ends a sleep.
+fn is_woken(core: &Core, exceptions: &Exceptions) -> bool
+    ensures { result ≡ told.wakes exceptions.now core.now.masks }
+{
+    wakes_counted::<Brand>(Blank::new(1), core, exceptions)
+}
+
 impl Machine {
     ghost use Rattle.tz_model.specs.declared.report.Sleep.TheVariants.{Awake};
     ghost use Rattle.tz_state.specs.State.{with_run};
@@ -56,14 +71,14 @@ impl Machine {
         ensures same { self.new ≡ self.old }
         ensures takes { result ≡ takes_first_of self.old.exceptions self.old.core.masks }
     {
-        takes_counted::<Brand>(Blank::new(1), &self.core, &mut self.exceptions)
+        takes(&self.core, &mut self.exceptions)
     }
 
     /// Whether an exception ends a sleep, which a PRIMASK doesn't hinder.
     pub(crate) fn is_woken(&self) -> bool
         ensures { result ≡ is_woken self.now }
     {
-        wakes_counted::<Brand>(Blank::new(1), &self.core, &self.exceptions)
+        is_woken(&self.core, &self.exceptions)
     }
 
     /// Ends a sleep.

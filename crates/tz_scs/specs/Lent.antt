@@ -10,10 +10,11 @@ use Rattle.tz_scs.specs.declared.system.SystemRegisters.{SystemRegisters}
 abbrev pub state_of : SystemRegisters → SystemState
 state_of r = record { ipsr = r.ipsr; status = r.status.now; exceptions = r.exceptions.now; bus = r.bus.now }
 
--- the same is lent
+-- the same is lent, for the same exception
 abbrev pub SameLoans : SystemRegisters → SystemRegisters → Type 0
 SameLoans r r' =
-    (r.status.ghost_name ≡ r'.status.ghost_name)
+    (r.ipsr ≡ r'.ipsr)
+    × (r.status.ghost_name ≡ r'.status.ghost_name)
     × (r.exceptions.ghost_name ≡ r'.exceptions.ghost_name)
     × (r.bus.ghost_name ≡ r'.bus.ghost_name)
 
