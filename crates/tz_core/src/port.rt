@@ -1,6 +1,6 @@
 //! The port of the machine: the accesses of its instructions, by the bus and to the system registers.
 
-ghost use Rattle.std.specs.Prelude.{◌-◌, ◌≡◌, ℕ, true};
+ghost use Rattle.std.specs.Prelude.{◌-◌, ◌+◌, ◌<◌, ◌≤◌, ◌≡◌, ◌++◌, ◌∷◌, [], ℕ, true};
 ghost use Rattle.arrayvec.specs.ArrayVec.{array_vec_len};
 ghost use Rattle.tz_state.specs.Access.{access, is_aligned, Reached};
 ghost use Rattle.tz_state.specs.Registers.{SystemState};
