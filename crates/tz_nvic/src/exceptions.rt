@@ -22,7 +22,7 @@ pub struct Exceptions {
     pub(crate) bfhfnmins: bool,
     pub(crate) timer_s: Timer,
     pub(crate) timer_ns: Timer,
-    /// What a look at all slots finds, where none has been written since.
+    /// What a look at all slots finds, until something is written that it depends on.
     pub(crate) known: Option<Known>,
 }
 

@@ -41,8 +41,9 @@ impl Exceptions {
         }
     }
 
-    /// Looks at the slots once where one may have changed since the last look, so that `chosen`, `raw_priority`,
-    /// `is_interrupt_pending` and `returns_to_base` answer without a look until the next change.
+    /// Looks at the slots once, where something was written since the last look that it depends on; timers are
+    /// not. Until the next such write `chosen`, `raw_priority`, `is_interrupt_pending` and `returns_to_base`
+    /// answer without a look.
     pub fn settle<L: Ledger>(&mut self, steps: &mut Steps<L>)
         ensures same { self.new ≡ self.old }
         ensures looks { steps.new ≤ steps.old + 272 }
