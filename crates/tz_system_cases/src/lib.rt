@@ -111,6 +111,8 @@ pub fn differences(core: &Core, other: &Core) -> usize {
 pub fn ending(answer: Result<Outcome, Fault>) -> &'static str {
     match answer {
         Ok(Outcome::Next) => "next",
+        Ok(Outcome::Sleep { event: true }) => "sleeps for an event",
+        Ok(Outcome::Sleep { event: false }) => "sleeps",
         Ok(_) => "elsewhere",
         Err(Fault::Undef) => "undefined",
         Err(Fault::StackLimit(Side::NonSecure)) => "limit n",

@@ -1,5 +1,6 @@
 //! The cases, by what they are about.
 
+mod hints;
 mod instructions;
 mod it;
 mod masks;

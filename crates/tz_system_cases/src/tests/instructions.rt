@@ -6,11 +6,9 @@ use tz_system::execute;
 use tz_table::{BarrierOp, Insn, Side};
 
 /// An instruction, and how it ends in Secure and in Non-secure state.
-static ENDINGS: [(Insn, &str, &str); 20] = [
+static ENDINGS: [(Insn, &str, &str); 18] = [
     (Insn::Hint { op: 0 }, "next", "next"),
     (Insn::Hint { op: 1 }, "next", "next"),
-    (Insn::Hint { op: 2 }, "undefined", "undefined"),
-    (Insn::Hint { op: 4 }, "undefined", "undefined"),
     (Insn::Hint { op: 5 }, "next", "next"),
     (Insn::Hint { op: 255 }, "next", "next"),
     (

@@ -3,6 +3,8 @@
 use crate::{NOTHING, demo_bus, difference, ending, filled_for};
 use std::test::Fail;
 use tz_access::Bus;
+use tz_nvic::Exceptions;
+use tz_prio::execution_priority;
 use tz_regs::Core;
 use tz_system::execute;
 use tz_table::{Insn, Side};
@@ -164,6 +166,7 @@ static PRIORITIES: [(u32, u32, u32, u32, u32, u32, i32); 16] = [
 
 #[test]
 fn execution_priority_of_masks(rt: HostRuntime) -> Result<(), Fail> {
+    let exceptions = Exceptions::new(rt.alloc(), 8)?;
     for (
         primask_s,
         basepri_s,
@@ -180,7 +183,11 @@ fn execution_priority_of_masks(rt: HostRuntime) -> Result<(), Fail> {
         core.set_primask(Side::NonSecure, *primask_n);
         core.set_basepri(Side::NonSecure, *basepri_n);
         core.set_faultmask(Side::NonSecure, *faultmask_n);
-        assert_eq!(rt; core.masks.priority(), *want, "{basepri_s} {basepri_n}");
+        assert_eq!(rt;
+            execution_priority(&core, &exceptions),
+            *want,
+            "{basepri_s} {basepri_n}"
+        );
     }
     Ok(())
 }
