@@ -1,17 +1,18 @@
 //! The frames of the machine: words by the bus.
 
-ghost use Rattle.std.specs.Prelude.{◌≡◌, ◌+◌, ◌*◌, true, MatchResult, Some, None};
+ghost use Rattle.std.specs.Prelude.{◌≡◌, ◌+◌, ◌*◌, true, false, MatchResult, Some, None};
 ghost use Rattle.tz_table.specs.declared.units.Size.TheVariants.{Word};
 ghost use Rattle.tz_model.specs.Words.{wrap};
 ghost use Rattle.tz_regs.specs.Banks.{of_side};
-ghost use Rattle.tz_state.specs.Memory.{every, word_at};
+ghost use Rattle.tz_state.specs.Memory.{every, word_at, with_word};
 ghost use Rattle.tz_state.specs.Attribution.{is_open};
-ghost use Rattle.tz_state.specs.Access.{may_touch};
-ghost use Rattle.tz_state.specs.State.{map_in};
-ghost use Rattle.tz_frames.specs.Machine.{vector_verdict};
+ghost use Rattle.tz_state.specs.declared.request.Kind.TheVariants.{Read, Write};
+ghost use Rattle.tz_state.specs.Access.{may_touch, verdict, request_by};
+ghost use Rattle.tz_state.specs.State.{map_in, with_memory};
+ghost use Rattle.tz_frames.specs.Machine.{vector_verdict, in_map_alone};
 
 use crate::frames::Frames;
-use tz_access::Bus;
+use tz_access::{Bus, Place};
 use tz_model::{Fault, RegionSide, Side, Size};
 use tz_state::Asker;
 
