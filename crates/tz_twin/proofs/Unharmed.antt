@@ -32,17 +32,19 @@ itself s is = twin_ended s s (twins_of_seen s s refl is)
 
 -- what a step begins with is no part of what is kept, but for the Secure timer's count
 kept_from : (s : State) (events : List ScriptEvent) (r : State) → Kept (started s events) r → Keeps s r × CountsAlone s r
-kept_from s events r k =
-    (record {
-      bytes = k.keeps.bytes;
-      stacks = k.keeps.stacks;
-      masks = k.keeps.masks;
-      status = k.keeps.status;
-      exceptions = then s.exceptions (begun s.exceptions events) r.exceptions (begun_kept s.exceptions events) k.keeps.exceptions;
-      sau = k.keeps.sau;
-      mpu = k.keeps.mpu;
-      board = k.keeps.board;
-    }, k.timer)
+kept_from s events r k = (
+  record {
+    bytes = k.keeps.bytes;
+    stacks = k.keeps.stacks;
+    masks = k.keeps.masks;
+    status = k.keeps.status;
+    exceptions = then s.exceptions (begun s.exceptions events) r.exceptions (begun_kept s.exceptions events) k.keeps.exceptions;
+    sau = k.keeps.sau;
+    mpu = k.keeps.mpu;
+    board = k.keeps.board;
+  },
+  k.timer,
+)
 
 pub leaves_secure : (s : State) (events : List ScriptEvent) → is_nonsecure_side (side_of s) ≡ true → (ended (started s events)).ending.touched ≡ false
     → Keeps s (ended (started s events)).state × CountsAlone s (ended (started s events)).state
