@@ -4,6 +4,7 @@ mod escalation;
 mod events;
 mod faults_ns;
 mod faults_s;
+mod left;
 mod sleep;
 mod timers;
 
