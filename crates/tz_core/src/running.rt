@@ -66,13 +66,12 @@ fn sleep_of(event: bool) -> Sleep
 
 /// An instruction ran.
 fn ran(touched: bool, code: &Code) -> Ending
-    ensures { result ≡ record { touched = touched; cause = Went; ran = Some code.now; fault = None } }
+    ensures { result ≡ record { touched = touched; cause = Went; ran = Some code.now } }
 {
     Ending {
         touched,
         cause: Cause::Went,
         ran: Some(*code),
-        fault: None,
     }
 }
 
@@ -129,26 +128,25 @@ impl Machine {
     }
 
     /// Locks the machine, by a fault or because it was locked.
-    fn lock(&mut self, touched: bool, fault: Option<Fault>) -> Ending
+    fn lock(&mut self, touched: bool) -> Ending
         ensures state { self.new ≡ with_run self.old (record self.old.core.run { locked = true }) }
-        ensures ending { result ≡ record { touched = touched; cause = Went; ran = None; fault = fault } }
+        ensures ending { result ≡ record { touched = touched; cause = Went; ran = None } }
     {
         self.core.run.locked = true;
         Ending {
             touched,
             cause: Cause::Went,
             ran: None,
-            fault,
         }
     }
 
     /// Ends a step that faults: what the fault sets and pends is kept, and the machine locks.
     fn fault(&mut self, touched: bool, fault: Fault) -> Ending
         ensures state { self.new ≡ with_run (faulted fault self.old) (record (faulted fault self.old).core.run { locked = true }) }
-        ensures ending { result ≡ record { touched = touched; cause = Went; ran = None; fault = Some fault } }
+        ensures ending { result ≡ record { touched = touched; cause = Went; ran = None } }
     {
         self.take_fault(fault);
-        self.lock(touched, Some(fault))
+        self.lock(touched)
     }
 
     /// Moves the IT state on past an instruction, which IT does by itself.
@@ -164,7 +162,7 @@ impl Machine {
     /// Goes on to the next instruction.
     fn go_next(&mut self, touched: bool, code: &Code) -> Ending
         ensures state { self.new ≡ with_pc self.old (wrap (self.old.core.registers.pc + length_of code.now)) }
-        ensures ending { result ≡ record { touched = touched; cause = Went; ran = Some code.now; fault = None } }
+        ensures ending { result ≡ record { touched = touched; cause = Went; ran = Some code.now } }
     {
         self.core.registers.pc = next_of(self.core.registers.pc, code);
         ran(touched, code)
@@ -231,7 +229,6 @@ impl Machine {
                 touched,
                 cause: Cause::Returned,
                 ran: Some(*code),
-                fault: None,
             }
         } else {
             ran(touched, code)
@@ -353,7 +350,6 @@ impl Machine {
             touched: self.core.run.side == Side::Secure,
             cause: Cause::Went,
             ran: None,
-            fault: None,
         }
     }
 
@@ -390,7 +386,7 @@ impl Machine {
     {
         let touched = self.core.run.side == Side::Secure;
         self.wake();
-        self.lock(touched, None)
+        self.lock(touched)
     }
 
     /// Makes one step after what it begins with, but for its report: notes the stores, and tells how it ended.
@@ -400,7 +396,7 @@ impl Machine {
         ensures { ended self.old ≡ record { state = self.new; stores = stores.new.items; ending = result } }
     {
         if self.core.run.locked {
-            return self.lock(true, None);
+            return self.lock(true);
         }
         if self.takes() {
             return self.lock_before_entry();

@@ -46,23 +46,23 @@ abbrev pub length_of : Code → ℕ
 length_of code = length_with code.second
 
 -- the machine locks, by a fault or because it was locked; the stores that were made stand
-abbrev pub locks : State → Bool → Option Fault → List Store → Ended
-locks s touched fault stores =
+abbrev pub locks : State → Bool → List Store → Ended
+locks s touched stores =
     record {
       state = with_run s (record s.core.run { locked = true });
       stores = stores;
-      ending = record { touched = touched; cause = Went; ran = None; fault = fault };
+      ending = record { touched = touched; cause = Went; ran = None };
     }
 
 -- a fault sets its status bits and pends its exception; entries aren't built, so the machine locks then. Its
 -- registers are those before the instruction
 abbrev pub faults : State → Bool → Fault → List Store → Ended
-faults s touched fault stores = locks (faulted fault s) touched (Some fault) stores
+faults s touched fault stores = locks (faulted fault s) touched stores
 
 -- an instruction ran
 abbrev pub ran : State → Bool → Code → List Store → Ended
 ran s touched code stores =
-    record { state = s; stores = stores; ending = record { touched = touched; cause = Went; ran = Some code; fault = None } }
+    record { state = s; stores = stores; ending = record { touched = touched; cause = Went; ran = Some code } }
 
 -- ---- branches between the sides
 
@@ -80,7 +80,7 @@ returned s touched code stores =
     record {
       state = with_run s (record s.core.run { side = NonSecure });
       stores = stores;
-      ending = record { touched = touched; cause = Returned; ran = Some code; fault = None };
+      ending = record { touched = touched; cause = Returned; ran = Some code };
     }
 
 -- BXNS in Secure state: where bit 0 of the target is 0, Non-secure code runs on
@@ -227,7 +227,7 @@ is_secure NonSecure = false
 
 -- an exception ends a sleep; entries aren't built, so the machine locks then
 abbrev pub is_entered : State → Ended
-is_entered s = locks (awake s) (is_secure s.core.run.side) None []
+is_entered s = locks (awake s) (is_secure s.core.run.side) []
 
 -- the core sleeps on
 abbrev pub idles : State → Ended
@@ -235,7 +235,7 @@ idles s =
     record {
       state = s;
       stores = [];
-      ending = record { touched = is_secure s.core.run.side; cause = Went; ran = None; fault = None };
+      ending = record { touched = is_secure s.core.run.side; cause = Went; ran = None };
     }
 
 -- the event flag is cleared
@@ -257,7 +257,7 @@ by_sleep Wfe s = if s.core.event || is_woken s then instructs (without_event (aw
 -- comes before an instruction
 unfoldable pub ended : State → Ended
 ended s =
-    if s.core.run.locked then locks s true None []
+    if s.core.run.locked then locks s true []
     else if takes_first s.exceptions s.core.masks then is_entered s
     else by_sleep s.core.run.sleep s
 

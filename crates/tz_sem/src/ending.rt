@@ -1,6 +1,6 @@
 //! How a step ended, apart from the state that it left.
 
-use tz_model::{Code, Fault};
+use tz_model::Code;
 
 /// What the last thing was that a step did to the side that runs.
 #[derive(Clone, Copy, PartialEq, Eq)]
@@ -19,6 +19,4 @@ pub struct Ending {
     pub cause: Cause,
     /// The code of the instruction that ran, where one did.
     pub ran: Option<Code>,
-    /// The fault that ended it, where one did.
-    pub fault: Option<Fault>,
 }

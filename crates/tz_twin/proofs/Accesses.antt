@@ -16,7 +16,7 @@ use Rattle.tz_state.specs.Attribution.{is_open}
 use Rattle.tz_state.specs.Slots.{at}
 use Rattle.tz_state.specs.Registers.{SystemState}
 use Rattle.tz_state.specs.Views.{system_read, system_written}
-use Rattle.tz_state.specs.Access.{Reached, is_private, may_touch, is_crooked, is_let, verdict, request_by, refused, loaded, stored_in, noted, read_by, write_by, access}
+use Rattle.tz_state.specs.Access.{Reached, is_private, may_touch, is_crooked, is_let, verdict, refused, loaded, stored_in, read_by, write_by, access}
 use Rattle.tz_twin.specs.Integrity.{KeepsBytes}
 use Rattle.tz_twin.proofs.Bytes.{value_same, write_same, write_kept, keeps_nothing_changed, keeps_then}
 use Rattle.tz_twin.proofs.Split.{Open, Rest, open_map, Same}

@@ -1,5 +1,5 @@
 -- The gateway: Non-secure code that runs into Secure memory finds SG or faults, and looked at Secure state.
-use Rattle.std.proofs.Common.{◌≡◌, ℕ, ◌+◌, ◌==◌, Bool, true, false, ◌&&◌, not, cond, List, [], Result, Ok, Err, Option, refl, sym, ap, ◌∙◌}
+use Rattle.std.proofs.Common.{◌≡◌, ℕ, ◌+◌, ◌==◌, Bool, true, false, ◌&&◌, not, cond, List, [], Result, Ok, Err, refl, sym, ap, ◌∙◌}
 use Rattle.tz_table.specs.declared.units.Side.TheVariants.{Secure}
 use Rattle.tz_model.specs.declared.report.Fault.{Fault}
 use Rattle.tz_model.specs.declared.report.Fault.TheVariants.{EntryPoint, Exec, ExecBus}
@@ -17,8 +17,8 @@ use Rattle.tz_twin.proofs.Both.{Touching, Arrives}
 use Rattle.tz_twin.proofs.Leaving.{raised_board}
 
 -- a step that locks and looked at Secure state
-pub touching_locks : (s0 s : State) (before : Seen) (fault : Option Fault) (stores : List Store) → board_seen before ≡ s.bus.board → Touching s0 before (locks s true fault stores)
-touching_locks s0 s before fault stores e = record { touched = refl; seen = ap Hidden (sym e) }
+pub touching_locks : (s0 s : State) (before : Seen) (stores : List Store) → board_seen before ≡ s.bus.board → Touching s0 before (locks s true stores)
+touching_locks s0 s before stores e = record { touched = refl; seen = ap Hidden (sym e) }
 
 -- one that faults, which locks too
 pub touching_faults : (s0 s : State) (before : Seen) (fault : Fault) (stores : List Store) → board_seen before ≡ s.bus.board → Touching s0 before (faults s true fault stores)

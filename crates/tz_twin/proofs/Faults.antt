@@ -13,7 +13,7 @@ use Rattle.tz_table.specs.declared.instruction.Address.TheVariants.{Offset, Pre,
 use Rattle.tz_table.specs.declared.instruction.Insn.{Insn}
 use Rattle.tz_table.specs.declared.instruction.Insn.TheVariants as insns
 use Rattle.tz_model.specs.declared.report.Fault.{Fault}
-use Rattle.tz_model.specs.declared.report.Fault.TheVariants.{Undef, InvPc, StackLimit, Unaligned, DataAccess, Exec, Violation, Precise, DivZero, Call, Breakpoint}
+use Rattle.tz_model.specs.declared.report.Fault.TheVariants.{InvPc, StackLimit, DataAccess, Exec}
 use Rattle.tz_model.specs.Ports.{Access, Load, Store, with_read, after_answer, answers, cut_to}
 use Rattle.tz_regs.specs.Registers.{limit_of}
 use Rattle.tz_regs.specs.ItState.{condition_holds}
@@ -22,9 +22,9 @@ use Rattle.tz_state.specs.declared.request.Kind.TheVariants.{Read, Write}
 use Rattle.tz_state.specs.declared.request.Request.{Request}
 use Rattle.tz_state.specs.State.{Bus, map_in}
 use Rattle.tz_state.specs.Memory.{every}
-use Rattle.tz_state.specs.Access.{Reached, is_crooked, may_touch, is_let, is_private, takes, verdict, request_by, refused, loaded, noted, read_by, write_by, access}
+use Rattle.tz_state.specs.Access.{Reached, is_crooked, may_touch, is_let, is_private, takes, verdict, request_by, loaded, read_by, write_by, access}
 use Rattle.tz_exec.specs.Operations.{computed}
-use Rattle.tz_exec.specs.Local.{Local, Finished, FinishedNamed, reg}
+use Rattle.tz_exec.specs.Local.{Local, reg}
 use Rattle.tz_exec.specs.Alu.{constant_of, shifted_value, shifted_carry, flagged, is_comparison, is_limited, delivered, operated, is_width, is_field, traps_division, finish_alu}
 use Rattle.tz_exec.specs.LoadStore.{below_limit, is_listed, refusal_of, refusal_past, refusal, loaded as loaded_into, finish_load_store}
 use Rattle.tz_exec.specs.Branch.{taken_if, exchange_ns, finish_branch}

@@ -1,6 +1,5 @@
 -- How a step of Non-secure code goes on from what its instruction left: twins stay twins, or both lock.
-use Rattle.std.proofs.Common.{◌≡◌, ℕ, ◌+◌, ◌%◌, ◌==◌, Bool, true, false, List, [], Option, Some, refl, sym, ap, ◌∙◌, subst}
-use Rattle.tz_table.specs.declared.units.Side.{Side}
+use Rattle.std.proofs.Common.{◌≡◌, ℕ, ◌+◌, ◌%◌, ◌==◌, Bool, true, List, [], refl, sym, ap, ◌∙◌, subst}
 use Rattle.tz_table.specs.declared.units.Side.TheVariants.{Secure, NonSecure}
 use Rattle.tz_table.specs.declared.units.Code.{Code}
 use Rattle.tz_table.specs.declared.instruction.Insn.{Insn}
@@ -130,9 +129,9 @@ locked_kept s r k = record {
 }
 
 -- a step that locks
-pub both_lock : (o p : Open) (x x' y y' : Rest) (touched : Bool) (fault : Option Fault) (stores : List Store) → Left o x x' p y y'
-    → Both (join o x) (join o x') (locks (join p y) touched fault stores) (locks (join p y') touched fault stores)
-both_lock o p x x' y y' touched fault stores h =
+pub both_lock : (o p : Open) (x x' y y' : Rest) (touched : Bool) (stores : List Store) → Left o x x' p y y'
+    → Both (join o x) (join o x') (locks (join p y) touched stores) (locks (join p y') touched stores)
+both_lock o p x x' y y' touched stores h =
     Lock (record {
       locked = refl;
       locked' = refl;

@@ -8,7 +8,6 @@ use Rattle.tz_regs.specs.declared.parts.SideStatus.{SideStatus}
 use Rattle.tz_regs.specs.declared.parts.BusStatus.{BusStatus}
 use Rattle.tz_state.specs.declared.register.Register.{Register}
 use Rattle.tz_state.specs.declared.register.Register.TheVariants.{Ictr, Stir, Timer, Bits, Priorities, Control, Fault, Mpu, Sau}
-use Rattle.tz_state.specs.declared.register.TimerRegister.{TimerRegister}
 use Rattle.tz_state.specs.declared.register.ControlRegister.{ControlRegister}
 use Rattle.tz_state.specs.declared.register.ControlRegister.TheVariants.{Cpuid, Icsr, Vtor, Aircr, Ccr, Shpr1, Shpr2, Shpr3, Shcsr}
 use Rattle.tz_state.specs.declared.register.FaultRegister.{FaultRegister}

@@ -298,7 +298,7 @@ touching_sleeps s before Wfe e =
 touching_secured : (s : State) (before : Seen) → Of before s → Touching (secured s) before (ended (secured s))
 unfolding ended
 touching_secured s before e =
-    touching_cond (secured s) before (takes_first s.exceptions s.core.masks) _ _ (touching_locks (secured s) (awake (secured s)) before None [] e)
+    touching_cond (secured s) before (takes_first s.exceptions s.core.masks) _ _ (touching_locks (secured s) (awake (secured s)) before [] e)
     (touching_sleeps s before s.core.run.sleep e)
 
 runs_secure : (side : Side) → is_nonsecure_side side ≡ false → side ≡ Secure
@@ -312,7 +312,7 @@ touching_first s0 before false x y h p = absurd (cc)
 -- a step of a locked machine
 touching_locked : (s : State) (before : Seen) → s.core.run.locked ≡ true → Of before s → Touching s before (ended s)
 unfolding ended
-touching_locked s before is e = touching_first s before s.core.run.locked _ _ is (touching_locks s s before None [] e)
+touching_locked s before is e = touching_first s before s.core.run.locked _ _ is (touching_locks s s before [] e)
 
 -- a step that starts Secure, or locked
 pub touching_step : (s : State) (before : Seen) → is_nonsecure_side (side_of s) ≡ false → Of before s → Touching s before (ended s)

@@ -159,7 +159,7 @@ sleeps_same o x x' Wfe same = both_cond _ _ (o.event || is_woken (join o x)) _ _
 entered_same : (o : Open) (x x' : Rest) → Same o x x' → Both (join o x) (join o x') (is_entered (join o x)) (is_entered (join o x'))
 unfolding resting
 entered_same o x x' same =
-    both_lock o (resting o Awake o.event) x x' x x' false None [] (left_again o x x' o (resting o Awake o.event) x x' refl refl refl refl (left_all o x x' same))
+    both_lock o (resting o Awake o.event) x x' x x' false [] (left_again o x x' o (resting o Awake o.event) x x' refl refl refl refl (left_all o x x' same))
 
 ended_same : (o : Open) (x x' : Rest) → Same o x x' → Both (join o x) (join o x') (ended (join o x)) (ended (join o x'))
 unfolding ended

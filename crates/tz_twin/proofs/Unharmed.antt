@@ -1,5 +1,5 @@
 -- Integrity: the walk over a step of twins, of a state beside itself.
-use Rattle.std.proofs.Common.{◌≡◌, Bool, true, false, List, refl, ◌∙◌}
+use Rattle.std.proofs.Common.{◌≡◌, Bool, true, false, List, refl}
 use Rattle.tz_model.specs.declared.report.ScriptEvent.{ScriptEvent}
 use Rattle.tz_model.specs.Words.{is_nonsecure_side}
 use Rattle.tz_state.specs.Due.{begun}
