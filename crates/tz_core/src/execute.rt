@@ -12,6 +12,8 @@ use tz_prio::execution_priority;
 
 impl Machine {
     ghost use Rattle.tz_exec.specs.declared.family.Family.TheVariants.{Alu, LoadStore, Branch, System};
+    ghost use Rattle.tz_exec.specs.Local.{local_of};
+    ghost use Rattle.tz_exec.specs.Branch.{plan_branch};
     ghost use Rattle.tz_exec.specs.Exec.{family_of, executed_by, executed};
     ghost use Rattle.tz_sem.specs.Step.{taken_back};
 
@@ -33,8 +35,17 @@ impl Machine {
         outcome
     }
 
-    /// Branches, and IT.
-    fn branch(&mut self, insn: &Insn, stores: &mut Stores) -> Result<Outcome, Fault>
+    /// Branches, and IT, but for table branches.
+    #[tactic(auto, using(crate::proofs::Alone::branch_alone))]
+    fn branch(&mut self, insn: &Insn) -> Result<Outcome, Fault>
+        requires { plan_branch insn.now (local_of self.old.core) ≡ [] }
+        ensures { executed_by Branch self.old insn.now ≡ record { state = self.new; stores = []; outcome = result } }
+    {
+        tz_branch::execute_alone(insn, &mut self.core)
+    }
+
+    /// A table branch, which loads.
+    fn table_branch(&mut self, insn: &Insn, stores: &mut Stores) -> Result<Outcome, Fault>
         requires { array_vec_len stores.old ≡ 0 }
         ensures { executed_by Branch self.old insn.now ≡ record { state = self.new; stores = stores.new.items; outcome = result } }
     {
@@ -84,10 +95,10 @@ impl Machine {
             | Insn::BranchIf { .. }
             | Insn::BranchLink { .. }
             | Insn::BranchZero { .. }
-            | Insn::TableBranch { .. }
             | Insn::BranchExchange { .. }
             | Insn::CallExchange { .. }
-            | Insn::IfThen { .. } => self.branch(insn, stores),
+            | Insn::IfThen { .. } => self.branch(insn),
+            Insn::TableBranch { .. } => self.table_branch(insn, stores),
             Insn::Hint { .. }
             | Insn::Barrier { .. }
             | Insn::ChangeState { .. }

@@ -76,7 +76,7 @@ fn ran(touched: bool, code: &Code) -> Ending
 }
 
 impl Machine {
-    ghost use Rattle.std.specs.Prelude.{List, [], true};
+    ghost use Rattle.std.specs.Prelude.{List, [], true, if◌then◌else◌};
     ghost use Rattle.tz_model.specs.declared.report.Store.{Store};
     ghost use Rattle.tz_sem.specs.declared.ending.Cause.TheVariants.{Went};
     ghost use Rattle.tz_state.specs.State.{side_of, with_run, with_pc};
@@ -353,30 +353,41 @@ impl Machine {
         }
     }
 
-    /// Goes on, or sleeps on, by what the core waits for.
-    fn go_by_sleep(&mut self, stores: &mut Stores) -> Ending
-        requires { array_vec_len stores.old ≡ 0 }
-        ensures { by_sleep self.old.core.run.sleep self.old ≡ record { state = self.new; stores = stores.new.items; ending = result } }
+    /// Whether the core goes on; a sleep that ends is over then.
+    fn rouse(&mut self) -> bool
+        ensures { by_sleep self.old.core.run.sleep self.old ≡ if result then instructs self.new else idles self.new }
     {
         match self.core.run.sleep {
-            Sleep::Awake => self.instruct(stores),
+            Sleep::Awake => true,
             Sleep::Wfi => {
                 if self.is_woken() {
                     self.wake();
-                    self.instruct(stores)
+                    true
                 } else {
-                    self.idle()
+                    false
                 }
             }
             Sleep::Wfe => {
                 if self.core.event || self.is_woken() {
                     self.wake();
                     self.core.event = false;
-                    self.instruct(stores)
+                    true
                 } else {
-                    self.idle()
+                    false
                 }
             }
+        }
+    }
+
+    /// Goes on, or sleeps on, by what the core waits for.
+    fn go_by_sleep(&mut self, stores: &mut Stores) -> Ending
+        requires { array_vec_len stores.old ≡ 0 }
+        ensures { by_sleep self.old.core.run.sleep self.old ≡ record { state = self.new; stores = stores.new.items; ending = result } }
+    {
+        if self.rouse() {
+            self.instruct(stores)
+        } else {
+            self.idle()
         }
     }
 
