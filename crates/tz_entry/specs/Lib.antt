@@ -1,0 +1,6 @@
+pub mod Status
+pub mod Stack
+pub mod Gate
+pub mod Registers
+pub mod Enter
+pub mod Leave

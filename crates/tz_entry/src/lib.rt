@@ -1,0 +1,27 @@
+//! Entry of exceptions, return from them, and the calls between the sides: frames, what a fault sets and pends, how
+//! an exception is taken, and how one is left.
+//!
+//! The definitions stand in `specs/`, over whatever frames and ports they reach; bodies that meet them stand in
+//! crates above. The one call is a law.
+#![tactic(auto)]
+
+ghost use Rattle.std.specs.Prelude.{◌≡◌, ℕ, Bool, true};
+ghost use Rattle.tz_model.specs.declared.board.Profile.{Profile};
+ghost use Rattle.tz_regs.specs.declared.parts.Core.{Core};
+ghost use Rattle.tz_entry.specs.Registers.{taken_registers};
+ghost use Rattle.tz_table.specs.declared.units.Side.TheVariants.{NonSecure};
+ghost use Rattle.tz_regs.specs.declared.parts.Registers.{Registers};
+ghost use Rattle.std.specs.Prelude.{replicate};
+
+mod entering;
+mod frame;
+mod leaving;
+
+pub use entering::{Choice, Entered, Entering};
+pub use frame::{Basic, Callee, StackFault};
+pub use leaving::{Left, Returning, Unstacked};
+
+/// A Non-secure exception that interrupts Secure code finds zeros in R0 to R12, whatever stood there.
+pub fn hides_registers()
+    ensures { (profile : Profile) (r : Registers) → (taken_registers profile NonSecure true r).general ≡ replicate 13 0 }
+{}
