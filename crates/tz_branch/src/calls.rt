@@ -3,10 +3,10 @@
 ghost use Rattle.std.specs.Prelude.{◌≡◌, ◌+◌};
 ghost use Rattle.tz_model.specs.Words.{even_of};
 ghost use Rattle.tz_exec.specs.Local.{local_of, finished_in};
-ghost use Rattle.tz_exec.specs.Branch.{finish_link, finish_call, finish_it};
+ghost use Rattle.tz_exec.specs.Branch.{finish_link, links, call_ns, finish_call, finish_it};
 
 use crate::jumps::{reg, target};
-use tz_model::{Fault, Outcome};
+use tz_model::{Fault, Outcome, Side};
 use tz_regs::Core;
 
 /// An address with bit 0 set.
@@ -26,18 +26,42 @@ pub fn branch_link(core: &mut Core, offset: i32) -> Result<Outcome, Fault>
     Ok(Outcome::Jump(to))
 }
 
-/// BLX and BLXNS. Calls of Non-secure code aren't built.
+/// BLX, of two bytes.
 #[tactic(auto, using(tz_exec::proofs::Local::registers_put))]
-pub fn call_exchange(core: &mut Core, rm: u8, ns: bool) -> Result<Outcome, Fault>
-    ensures { finished_in core.old (finish_call rm ns (local_of core.old)) ≡ (core.new, result) }
+fn link(core: &mut Core, to: u32) -> Result<Outcome, Fault>
+    ensures { finished_in core.old (links (local_of core.old) to) ≡ (core.new, result) }
 {
-    if ns {
-        return Err(Fault::Undef);
-    }
-    let to = reg(core, rm);
     core.registers.lr = odd(core.registers.pc.wrapping_add(2));
     core.registers.t = to % 2 == 1;
     Ok(Outcome::Jump(to / 2 * 2))
+}
+
+/// BLXNS.
+#[tactic(auto, using(tz_exec::proofs::Local::core_kept))]
+fn call_ns(core: &mut Core, to: u32) -> Result<Outcome, Fault>
+    ensures { finished_in core.old (call_ns core.old.run.side (local_of core.old) to) ≡ (core.new, result) }
+{
+    match core.run.side {
+        Side::NonSecure => Err(Fault::Undef),
+        Side::Secure => {
+            if to % 2 == 1 {
+                link(core, to)
+            } else {
+                Ok(Outcome::Exchange {
+                    target: to,
+                    ns: true,
+                })
+            }
+        }
+    }
+}
+
+/// BLX and BLXNS.
+pub fn call_exchange(core: &mut Core, rm: u8, ns: bool) -> Result<Outcome, Fault>
+    ensures { finished_in core.old (finish_call rm ns (local_of core.old)) ≡ (core.new, result) }
+{
+    let to = reg(core, rm);
+    if ns { call_ns(core, to) } else { link(core, to) }
 }
 
 /// IT.

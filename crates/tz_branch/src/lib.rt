@@ -17,9 +17,9 @@ use jumps::{branch_if, branch_zero, exchange, table_branch};
 use tz_model::{Fault, Insn, Outcome, Port};
 use tz_regs::Core;
 
-/// Runs an instruction of this family that makes no access, any but a table branch. `Undef` for BXNS in Non-secure
-/// state, for BLXNS, whose calls aren't built, and for instructions of other families. At a fault the core is as it
-/// was.
+/// Runs an instruction of this family that makes no access, any but a table branch. `Undef` for BXNS and BLXNS in
+/// Non-secure state, and for instructions of other families. At a fault the core is as it was. BLXNS whose target's
+/// bit 0 is 0 answers `Exchange` and leaves the core as it is: the call of Non-secure code is the caller's.
 pub fn execute_alone(insn: &Insn, core: &mut Core) -> Result<Outcome, Fault>
     requires { plan_branch insn.now (local_of core.old) ≡ [] }
     ensures { finished_in core.old (finish_branch insn.now (local_of core.old) []) ≡ (core.new, result) }

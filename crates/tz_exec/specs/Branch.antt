@@ -47,10 +47,19 @@ abbrev pub called : Local → ℕ → Local
 called l target =
     with_registers l (record l.registers { lr = even_of (wrap (l.registers.pc + 2)) + 1; t = target % 2 == 1 })
 
--- BLX; a call of Non-secure code isn't built
+abbrev pub links : Local → ℕ → Finished
+links l target = Ok (called l target, Jump (even_of target))
+
+-- BLXNS is undefined in Non-secure state; where bit 0 of the target is 1 it is BLX, and else Non-secure code is
+-- called
+abbrev pub call_ns : Side → Local → ℕ → Finished
+call_ns Secure l target = if target % 2 == 1 then links l target else Ok (l, Exchange target true)
+call_ns NonSecure l target = Err Undef
+
+-- BLX and BLXNS
 abbrev pub finish_call : ℕ → Bool → Local → Finished
-finish_call rm false l = Ok (called l (reg l rm), Jump (even_of (reg l rm)))
-finish_call rm true l = Err Undef
+finish_call rm false l = links l (reg l rm)
+finish_call rm true l = call_ns l.side l (reg l rm)
 
 -- TBB and TBH: a byte or a halfword of a table counts halfwords from the instruction's address plus 4
 abbrev pub entry_of : Bool → ℕ → ℕ → Local → Access

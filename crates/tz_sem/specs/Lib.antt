@@ -1,5 +1,6 @@
 pub mod Ended
-pub mod Faulted
+pub mod Taking
+pub mod Exchange
 pub mod Step
 pub mod Run
 pub mod Boot

@@ -4,11 +4,11 @@ use Rattle.tz_table.specs.declared.units.Side.{Side}
 use Rattle.tz_table.specs.declared.units.Side.TheVariants.{Secure, NonSecure}
 use Rattle.tz_table.specs.declared.units.Code.{Code}
 use Rattle.tz_table.specs.declared.instruction.Insn.{Insn}
-use Rattle.tz_table.specs.declared.instruction.Insn.TheVariants.{IfThen}
+use Rattle.tz_table.specs.declared.instruction.Insn.TheVariants.{IfThen, CallExchange}
 use Rattle.tz_table.specs.declared.decoded.Decoded.{Decoded}
 use Rattle.tz_table.specs.declared.decoded.Decoded.TheVariants.{One, NoCoprocessor, Undefined}
 use Rattle.tz_model.specs.declared.report.Fault.{Fault}
-use Rattle.tz_model.specs.declared.report.Fault.TheVariants.{Undef, NoCp, InvState, InvPc, EntryPoint}
+use Rattle.tz_model.specs.declared.report.Fault.TheVariants.{Undef, NoCp, InvState, EntryPoint}
 use Rattle.tz_model.specs.declared.report.Outcome.{Outcome}
 use Rattle.tz_model.specs.declared.report.Outcome.TheVariants.{Next, Jump, Exchange, Sleep}
 use Rattle.tz_model.specs.declared.report.ScriptEvent.{ScriptEvent}
@@ -33,9 +33,13 @@ use Rattle.tz_exec.specs.ItRules.{is_misplaced, is_passed_over, ignores_conditio
 use Rattle.tz_exec.specs.declared.family.Family.{Family}
 use Rattle.tz_exec.specs.declared.family.Family.TheVariants.{LoadStore}
 use Rattle.tz_exec.specs.Exec.{Executed, family_of, executed}
-use Rattle.tz_sem.specs.declared.ending.Cause.TheVariants.{Went, Returned}
-use Rattle.tz_sem.specs.Ended.{Ended, report_of}
-use Rattle.tz_sem.specs.Faulted.{faulted}
+use Rattle.tz_entry.specs.Gate.{gateway_entered}
+use Rattle.tz_entry.specs.Enter.{is_secure}
+use Rattle.tz_sem.specs.declared.ending.Cause.TheVariants.{Went}
+use Rattle.tz_sem.specs.declared.ending.Course.{Course}
+use Rattle.tz_sem.specs.Ended.{Passed, Ended, with_stores, report_of}
+use Rattle.tz_sem.specs.Taking.{locks, preempted, faults}
+use Rattle.tz_sem.specs.Exchange.{ran, exchanged, calls}
 
 -- the number of bytes of a code
 abbrev pub length_with : Option ℕ → ℕ
@@ -44,71 +48,6 @@ length_with (Some second) = 4
 
 abbrev pub length_of : Code → ℕ
 length_of code = length_with code.second
-
--- the machine locks, by a fault or because it was locked; the stores that were made stand
-abbrev pub locks : State → Bool → List Store → Ended
-locks s touched stores =
-    record {
-      state = with_run s (record s.core.run { locked = true });
-      stores = stores;
-      ending = record { touched = touched; cause = Went; ran = None };
-    }
-
--- a fault sets its status bits and pends its exception; entries aren't built, so the machine locks then. Its
--- registers are those before the instruction
-abbrev pub faults : State → Bool → Fault → List Store → Ended
-faults s touched fault stores = locks (faulted fault s) touched stores
-
--- an instruction ran
-abbrev pub ran : State → Bool → Code → List Store → Ended
-ran s touched code stores =
-    record { state = s; stores = stores; ending = record { touched = touched; cause = Went; ran = Some code } }
-
--- ---- branches between the sides
-
--- the value that a Secure call leaves in LR for Non-secure code to return by (DDI0553, FNC_RETURN)
-abbrev pub is_fnc_return : ℕ → Bool
-is_fnc_return target = target == 0xFEFFFFFE || target == 0xFEFFFFFF
-
--- the code of an exchange goes on at a target, with T
-abbrev pub branched : State → ℕ → Bool → State
-branched s target t = with_registers s (record s.core.registers { pc = even_of target; t = t })
-
--- Secure code returned to Non-secure code
-abbrev pub returned : State → Bool → Code → List Store → Ended
-returned s touched code stores =
-    record {
-      state = with_run s (record s.core.run { side = NonSecure });
-      stores = stores;
-      ending = record { touched = touched; cause = Returned; ran = Some code };
-    }
-
--- BXNS in Secure state: where bit 0 of the target is 0, Non-secure code runs on
-abbrev pub branch_ns : State → Bool → Code → List Store → ℕ → Ended
-branch_ns s touched code stores target =
-    if target % 2 == 0 then returned (branched s target true) touched code stores
-    else ran (branched s target true) touched code stores
-
--- from the state after an instruction
-abbrev pub moves_to : State → Bool → Code → List Store → ℕ → Bool → Ended
-moves_to s touched code stores target ns =
-    if ns then branch_ns s touched code stores target else ran (branched s target (target % 2 == 1)) touched code stores
-
--- BX, BXNS and loads of PC, with the state before the instruction's own move and after it; a return to Secure
--- code that was called is not built, and faults
-abbrev pub exchanged : State → State → Bool → Code → List Store → ℕ → Bool → Ended
-exchanged s after touched code stores target ns =
-    if is_fnc_return target then faults s true (InvPc s.core.run.side) stores else moves_to after touched code stores target ns
-
--- where that fault comes the registers are those before the instruction: a branch changed none, and what a load
--- wrote is taken back
-abbrev pub core_back : Result Outcome Fault → Core → Core → Core
-core_back (Ok (Exchange target ns)) before after = if is_fnc_return target then record before { status = after.status } else after
-core_back outcome before after = after
-
-abbrev pub taken_back : Family → Core → Executed → Executed
-taken_back LoadStore before x = record x { state = with_core x.state (core_back x.outcome before x.state.core) }
-taken_back family before x = x
 
 -- ---- the instruction
 
@@ -124,12 +63,12 @@ abbrev pub past : Insn → State → State
 past i s = with_it s (it_after i s.core.registers.it)
 
 -- to the next instruction
-abbrev pub goes_next : State → Bool → Code → List Store → Ended
-goes_next s touched code stores = ran (with_pc s (wrap (s.core.registers.pc + length_of code))) touched code stores
+abbrev pub goes_next : State → Course → Code → Passed
+goes_next s course code = ran (with_pc s (wrap (s.core.registers.pc + length_of code))) course code
 
 -- an instruction that its IT block skips
-abbrev pub skips : State → Bool → Code → Ended
-skips s touched code = goes_next (with_it s (it_advanced s.core.registers.it)) touched code []
+abbrev pub skips : State → Course → Code → Ended
+skips s course code = with_stores [] (goes_next (with_it s (it_advanced s.core.registers.it)) course code)
 
 -- a core that waits for an event, or for an interrupt
 abbrev pub sleep_of : Bool → Sleeping
@@ -139,52 +78,57 @@ sleep_of false = Wfi
 abbrev pub asleep : Bool → State → State
 asleep event s = with_run s (record s.core.run { sleep = sleep_of event })
 
--- how a step goes on after its instruction
-abbrev pub goes_on : Insn → State → Bool → Code → List Store → Outcome → Ended
-goes_on i s touched code stores Next = goes_next (past i s) touched code stores
-goes_on i s touched code stores (Jump to) = ran (with_pc (past i s) to) touched code stores
-goes_on i s touched code stores (Exchange target ns) = exchanged s (past i s) touched code stores target ns
-goes_on i s touched code stores (Sleep event) = goes_next (asleep event (past i s)) touched code stores
+-- BLXNS, whose exchanges are calls
+abbrev pub is_call : Insn → Bool
+is_call (CallExchange rm ns) = true
+is_call insn = false
 
-abbrev pub concludes : Insn → State → Bool → Code → List Store → Result Outcome Fault → Ended
-concludes i s touched code stores (Ok outcome) = goes_on i s touched code stores outcome
-concludes i s touched code stores (Err fault) = faults s touched fault stores
+-- an exchange; a call has made no stores before
+abbrev pub exchanges : Core → Insn → State → Course → Code → List Store → ℕ → Bool → Ended
+exchanges before i s course code stores target ns =
+    if is_call i then calls (past i) s course code target (wrap (s.core.registers.pc + length_of code))
+    else with_stores stores (exchanged before s (past i s) course code target ns)
 
-abbrev pub executes : Bool → Code → Insn → Executed → Ended
-executes touched code i x = concludes i x.state touched code x.stores x.outcome
+-- how a step goes on after its instruction; `before` is the core before it
+abbrev pub goes_on : Core → Insn → State → Course → Code → List Store → Outcome → Ended
+goes_on before i s course code stores Next = with_stores stores (goes_next (past i s) course code)
+goes_on before i s course code stores (Jump to) = with_stores stores (ran (with_pc (past i s) to) course code)
+goes_on before i s course code stores (Exchange target ns) = exchanges before i s course code stores target ns
+goes_on before i s course code stores (Sleep event) = with_stores stores (goes_next (asleep event (past i s)) course code)
+
+abbrev pub concludes : Core → Insn → State → Course → Code → List Store → Result Outcome Fault → Ended
+concludes before i s course code stores (Ok outcome) = goes_on before i s course code stores outcome
+concludes before i s course code stores (Err fault) = with_stores stores (faults s course fault)
+
+abbrev pub executes : Core → Course → Code → Insn → Executed → Ended
+executes before course code i x = concludes before i x.state course code x.stores x.outcome
+
+abbrev pub faulting : State → Course → Fault → Ended
+faulting s course fault = with_stores [] (faults s course fault)
 
 -- an instruction by where it stands: one that may not stand there is undefined, and one whose condition
 -- fails is skipped
-abbrev pub placed : State → Bool → Code → Insn → Ended
-placed s touched code i =
-    if is_misplaced i s.core.registers then faults s touched Undef []
-    else if is_passed_over s.core.registers && not (ignores_condition s.core.run.side i) then skips s touched code
-    else executes touched code i (taken_back (family_of i) s.core (executed s i))
+abbrev pub placed : State → Course → Code → Insn → Ended
+placed s course code i =
+    if is_misplaced i s.core.registers then faulting s course Undef
+    else if is_passed_over s.core.registers && not (ignores_condition s.core.run.side i) then skips s course code
+    else executes s.core course code i (executed s i)
 
 -- a code by what it means; one of a coprocessor is skipped as an instruction is
-abbrev pub decoded : State → Bool → Code → Decoded → Ended
-decoded s touched code (One i width) = placed s touched code i
-decoded s touched code NoCoprocessor = if is_passed_over s.core.registers then skips s touched code else faults s touched NoCp []
-decoded s touched code (Undefined width) = faults s touched Undef []
+abbrev pub decoded : State → Course → Code → Decoded → Ended
+decoded s course code (One i width) = placed s course code i
+decoded s course code NoCoprocessor = if is_passed_over s.core.registers then skips s course code else faulting s course NoCp
+decoded s course code (Undefined width) = faulting s course Undef
 
--- SG reached from Non-secure state: bit 0 of LR and the IT state are cleared, and Secure code runs on
-abbrev pub enters : State → Ended
-enters s =
-    ran (record s {
-      core = record s.core {
-        run = record s.core.run { side = Secure };
-        registers = record s.core.registers { lr = even_of s.core.registers.lr; pc = wrap (s.core.registers.pc + 4); it = 0 };
-      };
-    }) true (wide sg_half sg_half true).code []
+-- SG reached from Non-secure state: Secure code runs on
+abbrev pub enters : State → Course → Ended
+enters s course = with_stores [] (ran (with_core s (gateway_entered s.core)) course (wide sg_half sg_half true).code)
 
 -- ---- the fetch
 
-abbrev pub fetched : State → Bool → Result Fetched Fault → Ended
-fetched s touched (Err fault) = faults s touched fault []
-fetched s touched (Ok f) = if f.gateway then enters s else decoded s touched f.code (meaning_of f.code)
-
-abbrev pub fetches : State → FetchAnswer → Ended
-fetches s f = fetched s f.touched f.answer
+abbrev pub fetched : State → Course → Result Fetched Fault → Ended
+fetched s course (Err fault) = faulting s course fault
+fetched s course (Ok f) = if f.gateway then enters s course else decoded s course f.code (meaning_of f.code)
 
 -- the running code as it fetches
 abbrev pub fetcher_in : State → Fetcher
@@ -200,6 +144,13 @@ fetcher_in s =
 abbrev pub fetch_in : State → FetchAnswer
 fetch_in s = fetch s.bus (fetcher_in s) s.core.registers.pc
 
+-- the course of a step that has looked at Secure state, or hasn't
+abbrev pub course_in : State → Bool → Course
+course_in s touched = record { touched = touched; negative = is_negative_at (priority_in s) }
+
+abbrev pub fetches : State → FetchAnswer → Ended
+fetches s f = fetched s (course_in s f.touched) f.answer
+
 -- a step that fetches nothing looks at Secure state where it starts Secure, or at a Secure address
 abbrev pub looks : Side → State → Bool
 looks Secure s = true
@@ -214,20 +165,16 @@ unready looked side = InvState
 abbrev pub instructs : State → Ended
 instructs s =
     if s.core.registers.t then fetches s (fetch_in s)
-    else faults s (looks s.core.run.side s) (unready (looks s.core.run.side s) s.core.run.side) []
+    else faulting s (course_in s (looks s.core.run.side s)) (unready (looks s.core.run.side s) s.core.run.side)
 
 -- ---- exceptions and sleep
 
 abbrev pub awake : State → State
 awake s = with_run s (record s.core.run { sleep = Awake })
 
-abbrev pub is_secure : Side → Bool
-is_secure Secure = true
-is_secure NonSecure = false
-
--- an exception ends a sleep; entries aren't built, so the machine locks then
-abbrev pub is_entered : State → Ended
-is_entered s = locks (awake s) (is_secure s.core.run.side) []
+-- what comes first is taken before an instruction, and ends a sleep
+abbrev pub takes : State → Ended
+takes s = with_stores [] (preempted (awake s) (course_in s (is_secure s.core.run.side)) s.core.registers.pc)
 
 -- the core sleeps on
 abbrev pub idles : State → Ended
@@ -257,8 +204,8 @@ by_sleep Wfe s = if s.core.event || is_woken s then instructs (without_event (aw
 -- comes before an instruction
 unfoldable pub ended : State → Ended
 ended s =
-    if s.core.run.locked then locks s true []
-    else if takes_first s.exceptions s.core.masks then is_entered s
+    if s.core.run.locked then with_stores [] (locks s true)
+    else if takes_first s.exceptions s.core.masks then takes s
     else by_sleep s.core.run.sleep s
 
 -- ---- the step

@@ -9,6 +9,23 @@ pub enum Cause {
     Went,
     /// Secure code returned to Non-secure code (DDI0553, `BXNS`).
     Returned,
+    /// Secure code called Non-secure code (DDI0553, `BLXNS`).
+    Called,
+    /// Code that was called from Secure code came back (DDI0553, `FunctionReturn`).
+    CameBack,
+    /// An exception returned to the code that it had interrupted (DDI0553, `ExceptionReturn`).
+    Resumed,
+    /// An exception was taken (DDI0553, `ExceptionEntry`, `TailChain`).
+    Taken,
+}
+
+/// What the stages of a step know of it so far.
+#[derive(Clone, Copy)]
+pub struct Course {
+    /// The step has looked at Secure state.
+    pub touched: bool,
+    /// The execution priority is below 0 after what the step begins with.
+    pub negative: bool,
 }
 
 /// How a step ended.

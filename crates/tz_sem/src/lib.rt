@@ -12,7 +12,7 @@ ghost use Rattle.tz_sem.specs.Step.{step};
 
 mod ending;
 
-pub use ending::{Cause, Ending};
+pub use ending::{Cause, Course, Ending};
 
 /// A locked machine stays as it is, but that the events that are due pend and its timers count.
 pub fn locked_stays()
