@@ -18,7 +18,7 @@ use Rattle.tz_sem.specs.declared.ending.Cause.{Cause}
 use Rattle.tz_sem.specs.declared.ending.Cause.TheVariants.{Went, Returned, Called as Calls, CameBack}
 use Rattle.tz_sem.specs.declared.ending.Course.{Course}
 use Rattle.tz_sem.specs.Ended.{Passed, Ended, with_stores}
-use Rattle.tz_sem.specs.Taking.{with_touch, framed_in, faults, returns}
+use Rattle.tz_sem.specs.Taking.{framed_in, faults, returns}
 
 -- an instruction ran
 abbrev pub ran_by : Cause → State → Course → Code → Passed
@@ -55,10 +55,13 @@ abbrev pub back_with : Core → State → Course → Code → Result Core Fault 
 back_with before s course code (Ok c) = ran_by CameBack (with_core s c) course code
 back_with before s course code (Err fault) = faults (with_core s (core_back before s.core)) course fault
 
+abbrev pub looking : Course → Course
+looking course = record course { touched = true }
+
 -- it is a look at Secure state
 unfoldable pub comes_back : Core → State → Course → Code → Passed
 comes_back before s course code =
-    back_with before s (with_touch course true) code (function_returned framed s.core (framed_in course.negative s))
+    back_with before s (looking course) code (function_returned framed s.core (framed_in course.negative s))
 
 -- ---- all exchanges
 

@@ -34,10 +34,6 @@ locks s touched =
       ending = record { touched = touched; cause = Went; ran = None };
     }
 
--- a look at Secure state within a step
-abbrev pub with_touch : Course → Bool → Course
-with_touch course touched = record course { touched = course.touched || touched }
-
 -- ---- entry
 
 -- what entries and returns reach

@@ -10,6 +10,7 @@ use Rattle.tz_state.specs.Timers.{counted_down}
 use Rattle.tz_state.specs.State.{State, map_of, side_of}
 use Rattle.tz_state.specs.Fetch.{wide, sg_half, gateway_fetch}
 use Rattle.tz_sem.specs.Step.{Stepped, fetcher_in, started}
+use Rattle.tz_twin.specs.Plain.{steps_plainly}
 
 -- each byte that isn't Non-secure is as it was
 abbrev pub KeepsBytes : MapState → Memory → Memory → Type 0
@@ -55,9 +56,9 @@ abbrev pub LeavesSecure : State → Stepped → Type 0
 LeavesSecure s r =
     is_nonsecure_side (side_of s) ≡ true → r.report.touched ≡ false → Keeps s r.state × CountsAlone s r.state
 
--- Non-secure code that got to Secure code, and didn't lock, ran SG; what the step begins with decides whether the
--- Secure MPU counts
+-- Non-secure code that got to Secure code in a plain step, and didn't lock, ran SG; what the step begins with decides
+-- whether the Secure MPU counts
 abbrev pub EntersByGateway : State → List ScriptEvent → Stepped → Type 0
 EntersByGateway s events r =
-    is_nonsecure_side (side_of s) ≡ true → is_nonsecure_side (side_of r.state) ≡ false → r.state.core.run.locked ≡ false
-    → IsAtGateway (started s events)
+    is_nonsecure_side (side_of s) ≡ true → steps_plainly s events ≡ true → is_nonsecure_side (side_of r.state) ≡ false
+    → r.state.core.run.locked ≡ false → IsAtGateway (started s events)

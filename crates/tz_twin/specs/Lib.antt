@@ -1,3 +1,4 @@
 pub mod Seen
+pub mod Plain
 pub mod Trace
 pub mod Integrity

@@ -1,7 +1,9 @@
 -- What Non-secure code can see, and runs that agree.
-use Rattle.std.specs.Prelude.{◌≡◌, ℕ, zero, suc, ◌+◌, Bool, true, false, ◌&&◌, if◌then◌else◌, Option, Some, None}
+use Rattle.std.specs.Prelude.{◌≡◌, ℕ, zero, suc, ◌+◌, Bool, true, false, ◌&&◌, if◌then◌else◌, List, Option, Some, None}
 use Rattle.std.specs.FinMap.{get}
 use Rattle.tz_model.specs.declared.report.Sleep.{Sleep}
+use Rattle.tz_model.specs.declared.report.CrossKind.{CrossKind}
+use Rattle.tz_model.specs.declared.report.CrossKind.TheVariants.{Return, Call, ExcReturn, Chain, Preempt, Refused}
 use Rattle.tz_model.specs.declared.report.Way.{Way}
 use Rattle.tz_model.specs.Board.{BoardValue}
 use Rattle.tz_model.specs.Words.{is_nonsecure_side}
@@ -16,6 +18,8 @@ use Rattle.tz_state.specs.Attribution.{SauState, MapState, is_open}
 use Rattle.tz_state.specs.Protection.{MpuState}
 use Rattle.tz_state.specs.Slots.{ExceptionsValue}
 use Rattle.tz_state.specs.State.{State, map_of, side_of}
+use Rattle.tz_entry.specs.Gate.{fnc_return}
+use Rattle.tz_entry.specs.Registers.{saved_of}
 use Rattle.tz_sem.specs.Step.{Stepped, step}
 use Rattle.tz_sem.specs.Run.{Events}
 
@@ -61,22 +65,41 @@ public_of s =
       sleep = s.core.run.sleep;
     }
 
--- a crossing out of Secure state: its way, the registers that Secure code hands to Non-secure code, and
--- the public state after it
+-- what Secure code hands to the Non-secure code that goes on: all registers where it returns and where an exception
+-- of Non-secure code does; all but LR, which is FNC_RETURN, where it calls; R4 to R11 where a Non-secure exception
+-- follows a Secure one; and nothing where a Non-secure exception interrupts it
+pub data Handed : Type 0 where
+  Nothing : Handed
+  Saved : (r4_to_r11 : List ℕ) → Handed
+  Whole : (registers : Registers) → Handed
+
+abbrev pub handed_by : CrossKind → Registers → Handed
+handed_by Return r = Whole r
+handed_by Call r = Whole (record r { lr = fnc_return })
+handed_by ExcReturn r = Whole r
+handed_by Chain r = Saved (saved_of r.general)
+handed_by Preempt r = Nothing
+handed_by Refused r = Nothing
+
+abbrev pub handed : Option Way → Registers → Handed
+handed None r = Nothing
+handed (Some way) r = handed_by way.kind r
+
+-- a crossing out of Secure state: its way, what Secure code hands to Non-secure code, and the public state after it
 pub record Crossing : Type 0 where
   pub way : Option Way
-  pub handed : Registers
+  pub handed : Handed
   pub public : Public
 
 -- the crossing of a step that looked at Secure state and ends Non-secure
 abbrev pub crossing : Stepped → Option Crossing
 crossing r =
     if r.report.touched && is_nonsecure_side (side_of r.state)
-    then Some (record { way = r.report.way; handed = r.state.core.registers; public = public_of r.state })
+    then Some (record { way = r.report.way; handed = handed r.report.way r.state.core.registers; public = public_of r.state })
     else None
 
--- for n steps from step k on, with the same events: whenever one run leaves Secure state for Non-secure
--- code, so does the other, and Non-secure code finds the same; how it got there, registers, public state
+-- for n steps from step k on, with the same events: whenever one run crosses out of Secure state, so does the
+-- other, in the same way, with the same handed over and the same public state
 abbrev pub Agree : Events → ℕ → State → State → ℕ → Type 0
 Agree events k s s' zero = Unit {0}
 Agree events k s s' (suc n) =
