@@ -10,27 +10,32 @@ use Rattle.tz_state.specs.declared.fetcher.Fetcher.{Fetcher}
 use Rattle.tz_state.specs.Memory.{half_at}
 use Rattle.tz_state.specs.State.{Bus, State, map_in}
 use Rattle.tz_state.specs.Fetch.{is_entry, is_runnable, is_half_mapped, sg_half, wide, gateway_fetch}
-use Rattle.tz_sem.specs.Step.{locks, faults, enters, fetched, fetcher_in}
+use Rattle.tz_sem.specs.declared.ending.Course.{Course}
+use Rattle.tz_sem.specs.Ended.{with_stores}
+use Rattle.tz_sem.specs.Taking.{faults}
+use Rattle.tz_sem.specs.Step.{enters, fetched, faulting, fetcher_in, course_in}
 use Rattle.tz_twin.specs.Seen.{Seen, Hidden}
 use Rattle.tz_twin.proofs.Split.{Open, Rest, join_bus, join, board_seen}
 use Rattle.tz_twin.proofs.Both.{Touching, Arrives}
-use Rattle.tz_twin.proofs.Leaving.{raised_board}
+use Rattle.tz_twin.proofs.Halting.{halts_faults, touching_halts}
 
--- a step that locks and looked at Secure state
-pub touching_locks : (s0 s : State) (before : Seen) (stores : List Store) → board_seen before ≡ s.bus.board → Touching s0 before (locks s true stores)
-touching_locks s0 s before stores e = record { touched = refl; seen = ap Hidden (sym e) }
+-- a step that faults and looked at Secure state
+pub touching_faults : (s0 s : State) (before : Seen) (negative : Bool) (fault : Fault) (stores : List Store) → board_seen before ≡ s.bus.board
+    → Touching s0 before (with_stores stores (faults s (record { touched = true; negative = negative }) fault))
+touching_faults s0 s before negative fault stores e =
+    touching_halts s0 s before stores _ e (halts_faults s (record { touched = true; negative = negative }) fault)
 
--- one that faults, which locks too
-pub touching_faults : (s0 s : State) (before : Seen) (fault : Fault) (stores : List Store) → board_seen before ≡ s.bus.board → Touching s0 before (faults s true fault stores)
-touching_faults s0 s before fault stores e = record { touched = refl; seen = ap Hidden (raised_board _ _ _ ∙ sym e) }
+apart : (t : Bool) → t ≡ true → t ≡ false → ⊥
+apart true e f = cc
+apart false e f = cc
 
 hidden_side : (locked : Bool) → is_nonsecure_side (cond locked Secure Secure) ≡ false
 hidden_side true = refl
 hidden_side false = refl
 
 -- SG that is reached from Non-secure state
-pub touching_enters : (s0 s : State) (before : Seen) → s.core.run.locked ≡ false → board_seen before ≡ s.bus.board → Touching s0 before (enters s)
-touching_enters s0 s before runs e = record { touched = refl; seen = rw runs (ap Hidden (sym e)) }
+pub touching_enters : (s0 s : State) (before : Seen) (negative : Bool) → s.core.run.locked ≡ false → board_seen before ≡ s.bus.board → Touching s0 before (enters s (record { touched = true; negative = negative }))
+touching_enters s0 s before negative runs e = record { touched = refl; seen = λ plain. rw runs (ap Hidden (sym e)) }
 
 -- the answer is a fault, or SG reached through a gateway
 data Gate : Result Fetched Fault → Type 0 where
@@ -51,18 +56,26 @@ gateway_fetch_gate b k pc =
     go true true true true = Enters
     go true true true false = Faults EntryPoint
 
-gate_touching : (o : Open) (x : Rest) (before : Seen) (a : Result Fetched Fault) → Gate a → board_seen before ≡ o.board → Touching (join o x) before (fetched (join o x) true a)
-gate_touching o x before _ (Faults fault) e = touching_faults (join o x) (join o x) before fault [] e
-gate_touching o x before _ Enters e = touching_enters (join o x) (join o x) before refl e
+-- the course of a step that has looked at Secure state
+abbrev pub looked : Open → Rest → Course
+looked o x = course_in (join o x) true
 
-gate_arrives : (o : Open) (x : Rest) (a : Result Fetched Fault) → Gate a → gateway_fetch (join_bus o x) (fetcher_in (join o x)) o.registers.pc ≡ a → Arrives (join o x) (fetched (join o x) true a)
-gate_arrives o x _ (Faults fault) is secure unlocked = absurd (cc)
-gate_arrives o x _ Enters is secure unlocked = is
+gate_touching : (o : Open) (x : Rest) (before : Seen) (a : Result Fetched Fault) → Gate a → board_seen before ≡ o.board → Touching (join o x) before (fetched (join o x) (looked o x) a)
+gate_touching o x before _ (Faults fault) e = touching_faults (join o x) (join o x) before (looked o x).negative fault [] e
+gate_touching o x before _ Enters e = touching_enters (join o x) (join o x) before (looked o x).negative refl e
+
+-- a fault that is no plain step or locks doesn't arrive
+faults_arrive_nowhere : (s : State) (course : Course) (fault : Fault) → Arrives s (faulting s course fault)
+faults_arrive_nowhere s course fault plain secure unlocked = absurd (apart _ ((halts_faults s course fault).hidden plain) unlocked)
+
+gate_arrives : (o : Open) (x : Rest) (a : Result Fetched Fault) → Gate a → gateway_fetch (join_bus o x) (fetcher_in (join o x)) o.registers.pc ≡ a → Arrives (join o x) (fetched (join o x) (looked o x) a)
+gate_arrives o x _ (Faults fault) is plain secure unlocked = faults_arrive_nowhere (join o x) (looked o x) fault plain secure unlocked
+gate_arrives o x _ Enters is plain secure unlocked = is
 
 -- a fetch that begins in Secure memory
 pub touching_gateway : (o : Open) (x : Rest) (before : Seen) → board_seen before ≡ o.board
-    → Touching (join o x) before (fetched (join o x) true (gateway_fetch (join_bus o x) (fetcher_in (join o x)) o.registers.pc))
+    → Touching (join o x) before (fetched (join o x) (looked o x) (gateway_fetch (join_bus o x) (fetcher_in (join o x)) o.registers.pc))
 touching_gateway o x before e = gate_touching o x before _ (gateway_fetch_gate (join_bus o x) (fetcher_in (join o x)) o.registers.pc) e
 
-pub arrives_gateway : (o : Open) (x : Rest) → Arrives (join o x) (fetched (join o x) true (gateway_fetch (join_bus o x) (fetcher_in (join o x)) o.registers.pc))
+pub arrives_gateway : (o : Open) (x : Rest) → Arrives (join o x) (fetched (join o x) (looked o x) (gateway_fetch (join_bus o x) (fetcher_in (join o x)) o.registers.pc))
 arrives_gateway o x = gate_arrives o x _ (gateway_fetch_gate (join_bus o x) (fetcher_in (join o x)) o.registers.pc) refl

@@ -7,19 +7,21 @@ use Rattle.tz_table.specs.declared.units.Code.{Code}
 use Rattle.tz_table.specs.declared.decoded.Decoded.{Decoded}
 use Rattle.tz_table.specs.declared.decoded.Decoded.TheVariants.{One, NoCoprocessor, Undefined}
 use Rattle.tz_table.specs.declared.instruction.Insn.{Insn}
-use Rattle.tz_table.specs.declared.instruction.Insn.TheVariants.{TestTarget}
+use Rattle.tz_table.specs.declared.instruction.Insn.TheVariants.{TestTarget, CallExchange}
 use Rattle.tz_model.specs.declared.report.Fault.{Fault}
 use Rattle.tz_model.specs.declared.report.Fault.TheVariants.{Undef, NoCp, Unaligned}
 use Rattle.tz_model.specs.declared.report.Outcome.{Outcome}
 use Rattle.tz_model.specs.declared.report.Outcome.TheVariants.{Next, Jump, Exchange, Sleep}
 use Rattle.tz_model.specs.declared.report.Store.{Store}
+use Rattle.tz_model.specs.Ports.{answers}
 use Rattle.tz_regs.specs.declared.parts.BusStatus.{BusStatus}
+use Rattle.tz_regs.specs.declared.parts.Core.{Core}
 use Rattle.tz_regs.specs.Special.{Named, named_of}
 use Rattle.tz_state.specs.declared.probe.Probe.{Probe}
 use Rattle.tz_state.specs.declared.request.Exclusive.{Exclusive}
 use Rattle.tz_state.specs.Memory.{Memory}
 use Rattle.tz_state.specs.Access.{is_aligned, Reached, reached_in}
-use Rattle.tz_state.specs.State.{priority_in, asker_in, is_held, with_core}
+use Rattle.tz_state.specs.State.{priority_in, asker_in, is_held}
 use Rattle.tz_state.specs.declared.asker.Asker.{Asker}
 use Rattle.tz_state.specs.Target.{target_word}
 use Rattle.tz_exec.specs.declared.family.Family.{Family}
@@ -30,14 +32,15 @@ use Rattle.tz_exec.specs.LoadStore.{refusal, plan_load_store, finish_load_store}
 use Rattle.tz_exec.specs.Branch.{plan_branch, finish_branch}
 use Rattle.tz_exec.specs.System.{finish_system, clears_monitor, probe_of}
 use Rattle.tz_exec.specs.ItRules.{is_misplaced, is_passed_over, ignores_condition}
-use Rattle.tz_exec.specs.Exec.{Ported, ported, unless_refused, after_accesses, probed, cleared_by, Executed, alone, beside, through, Exclusivity, Free, Marks, Takes, exclusivity, marked_by, marked, loads_stores, stores_exclusive, exclusively, family_of, executed_by}
-use Rattle.tz_sem.specs.Step.{is_fnc_return, core_back, taken_back, executes, placed, decoded}
+use Rattle.tz_exec.specs.Exec.{Ported, ported, unless_refused, after_accesses, probed, cleared_by, Executed, alone, beside, through, Exclusivity, Free, Marks, Takes, exclusivity, marked_by, marked, loads_stores, stores_exclusive, exclusively, family_of, executed_by, executed}
+use Rattle.tz_sem.specs.declared.ending.Course.{Course}
+use Rattle.tz_sem.specs.Step.{is_call, executes, placed, decoded}
 use Rattle.tz_twin.proofs.Split.{Open, Rest, join_bus, join, Same}
 use Rattle.tz_twin.proofs.Both.{Both, both_cond}
 use Rattle.tz_twin.proofs.Registers.{Written, moved}
 use Rattle.tz_twin.proofs.Accesses.{SameAnswers, reached, rested, answers_same}
 use Rattle.tz_twin.proofs.Faults.{is_own, Own, OwnSome, own_answers, own_alu, own_refusal, own_load_store, own_branch, own_system}
-use Rattle.tz_twin.proofs.Leaving.{Leaves, Left, left_all, left_again, both_faults, both_fault, goes_on_same, skips_same}
+use Rattle.tz_twin.proofs.Leaving.{Leaves, Left, left_all, left_again, both_faults, both_fault, CallsNothing, goes_on_same, skips_same}
 
 -- what instructions left of twins: one open part, the same stores and outcome, and rests that are the same to
 -- Non-secure code; a fault of no Secure side
@@ -52,23 +55,28 @@ pub record Alike (o : Open) (x x' : Rest) (e e' : Executed) : Type 0 where
   pub own : Own e.outcome
   pub left : Left o x x' part rest rest'
 
--- the step goes on alike
-concluded : (o p : Open) (x x' y y' : Rest) (touched : Bool) (code : Code) (i : Insn) (stores : List Store) (out : Result Outcome Fault) → Own out → Left o x x' p y y'
-    → Both (join o x) (join o x') (executes touched code i (record { state = join p y; stores = stores; outcome = out })) (executes touched code i (record { state = join p y'; stores = stores; outcome = out }))
-unfolding Own
-concluded o p x x' y y' touched code i stores (Ok outcome) own h = goes_on_same o p x x' y y' touched code i stores outcome h
-concluded o p x x' y y' touched code i stores (Err fault) own h = both_faults o p x x' y y' touched fault stores own h
+-- an instruction that calls nothing
+CallsNone : Insn → Result Outcome Fault → Type 0
+CallsNone i (Ok outcome) = CallsNothing i outcome
+CallsNone i (Err fault) = Unit {0}
 
-executes_same : (o : Open) (x x' : Rest) (touched : Bool) (code : Code) (i : Insn) (e e' : Executed) → Alike o x x' e e'
-    → Both (join o x) (join o x') (executes touched code i e) (executes touched code i e')
-executes_same o x x' touched code i e e' a =
+-- the step goes on alike
+concluded : (o p : Open) (x x' y y' : Rest) (before before' : Core) (course : Course) (code : Code) (i : Insn) (stores : List Store) (out : Result Outcome Fault) → Own out → CallsNone i out → Left o x x' p y y'
+    → Both (join o x) (join o x') (executes before course code i (record { state = join p y; stores = stores; outcome = out })) (executes before' course code i (record { state = join p y'; stores = stores; outcome = out }))
+unfolding Own CallsNone
+concluded o p x x' y y' before before' course code i stores (Ok outcome) own calls h = goes_on_same o p x x' y y' before before' course code i stores outcome calls h
+concluded o p x x' y y' before before' course code i stores (Err fault) own calls h = both_faults o p x x' y y' course fault stores own h
+
+executes_same : (o : Open) (x x' : Rest) (before before' : Core) (course : Course) (code : Code) (i : Insn) (e e' : Executed) → CallsNone i e.outcome → Alike o x x' e e'
+    → Both (join o x) (join o x') (executes before course code i e) (executes before' course code i e')
+executes_same o x x' before before' course code i e e' calls a =
     let here : e ≡ record { state = join a.part a.rest; stores = e.stores; outcome = e.outcome } =
     λ j. record { state = a.state j; stores = e.stores; outcome = e.outcome } in
     let there : e' ≡ record { state = join a.part a.rest'; stores = e.stores; outcome = e.outcome } =
     λ j. record { state = a.state' j; stores = sym a.stores j; outcome = sym a.outcome j } in
-    subst (λ (y : Executed). Both (join o x) (join o x') (executes touched code i y) (executes touched code i e')) (sym here)
-    (subst (λ (y : Executed). Both (join o x) (join o x') (executes touched code i (record { state = join a.part a.rest; stores = e.stores; outcome = e.outcome })) (executes touched code i y)) (sym there)
-    (concluded o a.part x x' a.rest a.rest' touched code i e.stores e.outcome a.own a.left))
+    subst (λ (y : Executed). Both (join o x) (join o x') (executes before course code i y) (executes before' course code i e')) (sym here)
+    (subst (λ (y : Executed). Both (join o x) (join o x') (executes before course code i (record { state = join a.part a.rest; stores = e.stores; outcome = e.outcome })) (executes before' course code i y)) (sym there)
+    (concluded o a.part x x' a.rest a.rest' before before' course code i e.stores e.outcome a.own calls a.left))
 
 alike_cond : (o : Open) (x x' : Rest) (t : Bool) (e f e' f' : Executed) → Alike o x x' e e' → Alike o x x' f f' → Alike o x x' (cond t e f) (cond t e' f')
 alike_cond o x x' true e f e' f' p q = p
@@ -327,96 +335,30 @@ alike_family o x x' i Branch same =
     (answers_same k (plan_branch i l) o x x' [] same)
 alike_family o x x' i System same = alike_system o x x' i same
 
--- ---- what is taken back where an exchange faults
+-- ---- what it calls
 
--- the core before the instruction but for what its accesses left
-core_of_before : Open → Open → Open
-core_of_before o p = record o { board = p.board; sau = p.sau; mpu_ns = p.mpu_ns; monitor = p.monitor; exceptions = p.exceptions; status_ns = p.status_ns }
+-- of Non-secure code BLXNS is undefined
+calls_none : (o : Open) (x : Rest) (i : Insn) → CallsNone i (executed (join o x) i).outcome
+unfolding CallsNone answers
+calls_none o x (CallExchange rm false) = λ e. absurd (cc)
+calls_none o x (CallExchange rm true) = tt
+calls_none o x i = nothing i refl where
+  nothing : (i : Insn) → is_call i ≡ false → CallsNone i (executed (join o x) i).outcome
+  nothing i e = of_outcome (executed (join o x) i).outcome where
+    of_outcome : (out : Result Outcome Fault) → CallsNone i out
+    of_outcome (Ok outcome) = λ h. e
+    of_outcome (Err fault) = tt
 
-rest_of_before : Rest → Rest → Rest
-rest_of_before x y = record y { stacks_s = x.stacks_s }
-
-open_back : Result Outcome Fault → Open → Open → Open
-open_back (Ok (Exchange target ns)) o p = cond (is_fnc_return target) (core_of_before o p) p
-open_back _ o p = p
-
-rest_back : Result Outcome Fault → Rest → Rest → Rest
-rest_back (Ok (Exchange target ns)) x y = cond (is_fnc_return target) (rest_of_before x y) y
-rest_back _ x y = y
-
-state_back : (out : Result Outcome Fault) (o p : Open) (x y : Rest) → with_core (join p y) (core_back out (join o x).core (join p y).core) ≡ join (open_back out o p) (rest_back out x y)
-unfolding open_back rest_back core_of_before rest_of_before
-state_back (Ok (Exchange target ns)) o p x y = go (is_fnc_return target) where
-  go : (t : Bool) → with_core (join p y) (cond t (record (join o x).core { status = (join p y).core.status }) (join p y).core)
-      ≡ join (cond t (record o { board = p.board; sau = p.sau; mpu_ns = p.mpu_ns; monitor = p.monitor; exceptions = p.exceptions; status_ns = p.status_ns }) p) (cond t (record y { stacks_s = x.stacks_s }) y)
-  go true = refl
-  go false = refl
-state_back (Ok Next) o p x y = refl
-state_back (Ok (Jump to)) o p x y = refl
-state_back (Ok (Sleep event)) o p x y = refl
-state_back (Err fault) o p x y = refl
-
-leaves_of_before : (o p : Open) (x y : Rest) → Leaves o x p y → Leaves o x (core_of_before o p) (rest_of_before x y)
-unfolding core_of_before rest_of_before
-leaves_of_before o p x y h = record {
-  board = h.board;
-  sau = h.sau;
-  masks = refl;
-  exceptions = h.exceptions;
-  bytes = h.bytes;
-  stacks = refl;
-  status = h.status;
-  mpu = h.mpu;
-}
-
-left_of_before : (o p : Open) (x x' y y' : Rest) → Left o x x' p y y' → Left o x x' (core_of_before o p) (rest_of_before x y) (rest_of_before x' y')
-unfolding core_of_before rest_of_before
-left_of_before o p x x' y y' h = record {
-  same = record { bytes = h.same.bytes; bus = h.same.bus };
-  leaves = leaves_of_before o p x y h.leaves;
-  leaves' = leaves_of_before o p x' y' h.leaves';
-}
-
-left_back : (out : Result Outcome Fault) (o p : Open) (x x' y y' : Rest) → Left o x x' p y y' → Left o x x' (open_back out o p) (rest_back out x y) (rest_back out x' y')
-unfolding open_back rest_back
-left_back (Ok (Exchange target ns)) o p x x' y y' h = go (is_fnc_return target) where
-  go : (t : Bool) → Left o x x' (cond t (core_of_before o p) p) (cond t (rest_of_before x y) y) (cond t (rest_of_before x' y') y')
-  go true = left_of_before o p x x' y y' h
-  go false = h
-left_back (Ok Next) o p x x' y y' h = h
-left_back (Ok (Jump to)) o p x x' y y' h = h
-left_back (Ok (Sleep event)) o p x x' y y' h = h
-left_back (Err fault) o p x x' y y' h = h
-
-alike_back : (o : Open) (x x' : Rest) (e e' : Executed) → Alike o x x' e e' → Alike o x x' (taken_back LoadStore (join o x).core e) (taken_back LoadStore (join o x').core e')
-alike_back o x x' e e' a = record {
-  part = open_back e.outcome o a.part;
-  rest = rest_back e.outcome x a.rest;
-  rest' = rest_back e.outcome x' a.rest';
-  state = (λ j. with_core (a.state j) (core_back e.outcome (join o x).core (a.state j).core)) ∙ state_back e.outcome o a.part x a.rest;
-  state' = (λ j. with_core (a.state' j) (core_back (sym a.outcome j) (join o x').core (a.state' j).core)) ∙ state_back e.outcome o a.part x' a.rest';
-  stores = a.stores;
-  outcome = a.outcome;
-  own = a.own;
-  left = left_back e.outcome o a.part x x' a.rest a.rest' a.left;
-}
-
-alike_taken : (o : Open) (x x' : Rest) (family : Family) (e e' : Executed) → Alike o x x' e e' → Alike o x x' (taken_back family (join o x).core e) (taken_back family (join o x').core e')
-alike_taken o x x' LoadStore e e' a = alike_back o x x' e e' a
-alike_taken o x x' Alu e e' a = a
-alike_taken o x x' Branch e e' a = a
-alike_taken o x x' System e e' a = a
-
-placed_same : (o : Open) (x x' : Rest) (touched : Bool) (code : Code) (i : Insn) → Same o x x' → Both (join o x) (join o x') (placed (join o x) touched code i) (placed (join o x') touched code i)
+placed_same : (o : Open) (x x' : Rest) (course : Course) (code : Code) (i : Insn) → Same o x x' → Both (join o x) (join o x') (placed (join o x) course code i) (placed (join o x') course code i)
 unfolding is_own
-placed_same o x x' touched code i same =
-    both_cond _ _ (is_misplaced i o.registers) _ _ _ _ (both_fault o x x' touched Undef refl same)
-    (both_cond _ _ (is_passed_over o.registers && not (ignores_condition NonSecure i)) _ _ _ _ (skips_same o x x' touched code same)
-    (executes_same o x x' touched code i _ _ (alike_taken o x x' (family_of i) _ _ (alike_family o x x' i (family_of i) same))))
+placed_same o x x' course code i same =
+    both_cond _ _ (is_misplaced i o.registers) _ _ _ _ (both_fault o x x' course Undef refl same)
+    (both_cond _ _ (is_passed_over o.registers && not (ignores_condition NonSecure i)) _ _ _ _ (skips_same o x x' course code same)
+    (executes_same o x x' (join o x).core (join o x').core course code i _ _ (calls_none o x i) (alike_family o x x' i (family_of i) same)))
 
-pub decoded_same : (o : Open) (x x' : Rest) (touched : Bool) (code : Code) (d : Decoded) → Same o x x' → Both (join o x) (join o x') (decoded (join o x) touched code d) (decoded (join o x') touched code d)
+pub decoded_same : (o : Open) (x x' : Rest) (course : Course) (code : Code) (d : Decoded) → Same o x x' → Both (join o x) (join o x') (decoded (join o x) course code d) (decoded (join o x') course code d)
 unfolding is_own
-decoded_same o x x' touched code (One i width) same = placed_same o x x' touched code i same
-decoded_same o x x' touched code NoCoprocessor same =
-    both_cond _ _ (is_passed_over o.registers) _ _ _ _ (skips_same o x x' touched code same) (both_fault o x x' touched NoCp refl same)
-decoded_same o x x' touched code (Undefined width) same = both_fault o x x' touched Undef refl same
+decoded_same o x x' course code (One i width) same = placed_same o x x' course code i same
+decoded_same o x x' course code NoCoprocessor same =
+    both_cond _ _ (is_passed_over o.registers) _ _ _ _ (skips_same o x x' course code same) (both_fault o x x' course NoCp refl same)
+decoded_same o x x' course code (Undefined width) same = both_fault o x x' course Undef refl same

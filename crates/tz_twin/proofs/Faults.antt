@@ -27,7 +27,7 @@ use Rattle.tz_exec.specs.Operations.{computed}
 use Rattle.tz_exec.specs.Local.{Local, reg}
 use Rattle.tz_exec.specs.Alu.{constant_of, shifted_value, shifted_carry, flagged, is_comparison, is_limited, delivered, operated, is_width, is_field, traps_division, finish_alu}
 use Rattle.tz_exec.specs.LoadStore.{below_limit, is_listed, refusal_of, refusal_past, refusal, loaded as loaded_into, finish_load_store}
-use Rattle.tz_exec.specs.Branch.{taken_if, exchange_ns, finish_branch}
+use Rattle.tz_exec.specs.Branch.{taken_if, exchange_ns, finish_branch, call_ns}
 use Rattle.tz_exec.specs.System.{waits_for_event, finish_hint, finish_write, finish_lazy, finish_test, finish_system}
 
 -- a fault that names no Secure side
@@ -204,6 +204,11 @@ unfolding Own is_own
 own_exchange_ns Secure l target = tt
 own_exchange_ns NonSecure l target = refl
 
+own_call_ns : (side : Side) (l : Local) (target : ℕ) → Own (call_ns side l target)
+unfolding Own is_own
+own_call_ns Secure l target = own_cond (target % 2 == 1) _ _ tt tt
+own_call_ns NonSecure l target = refl
+
 pub own_branch : (i : Insn) (l : Local) (words : List ℕ) → Own (finish_branch i l words)
 unfolding Own is_own
 own_branch (insns.Branch offset) l words = own_taken true offset l
@@ -213,7 +218,7 @@ own_branch (insns.BranchZero nonzero rn offset) l words = own_taken (cond (reg l
 own_branch (insns.TableBranch half rn rm) l words = tt
 own_branch (insns.BranchExchange rm true) l words = own_exchange_ns l.side l (reg l rm)
 own_branch (insns.BranchExchange rm false) l words = tt
-own_branch (insns.CallExchange rm true) l words = refl
+own_branch (insns.CallExchange rm true) l words = own_call_ns l.side l (reg l rm)
 own_branch (insns.CallExchange rm false) l words = tt
 own_branch (insns.IfThen c mask) l words = tt
 own_branch _ l words = refl

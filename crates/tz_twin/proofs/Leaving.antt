@@ -1,32 +1,35 @@
--- How a step of Non-secure code goes on from what its instruction left: twins stay twins, or both lock.
-use Rattle.std.proofs.Common.{◌≡◌, ℕ, ◌+◌, ◌%◌, ◌==◌, Bool, true, List, [], refl, sym, ap, ◌∙◌, subst}
-use Rattle.tz_table.specs.declared.units.Side.TheVariants.{Secure, NonSecure}
+-- How a step of Non-secure code goes on from what its instruction left: twins stay twins, or both stop.
+use Rattle.std.proofs.Common.{◌≡◌, ℕ, ◌+◌, ◌%◌, ◌==◌, Bool, true, false, ◌&&◌, cond, List, [], Some, refl, sym, ap, ◌∙◌, subst}
+use Rattle.tz_table.specs.declared.units.Side.TheVariants.{NonSecure}
 use Rattle.tz_table.specs.declared.units.Code.{Code}
 use Rattle.tz_table.specs.declared.instruction.Insn.{Insn}
 use Rattle.tz_model.specs.declared.report.Fault.{Fault}
-use Rattle.tz_model.specs.declared.report.Fault.TheVariants.{Undef, InvState, InvPc, NoCp, StackLimit, Unaligned, DivZero, DataAccess, Exec, Precise, ExecBus, Violation, EntryPoint, Transition, ExcReturn, Signature, Breakpoint, Call}
 use Rattle.tz_model.specs.declared.report.Outcome.{Outcome}
 use Rattle.tz_model.specs.declared.report.Outcome.TheVariants.{Next, Jump, Exchange, Sleep}
-use Rattle.tz_model.specs.declared.report.Slot.{Slot}
 use Rattle.tz_model.specs.declared.report.Store.{Store}
 use Rattle.tz_model.specs.Words.{wrap, even_of}
+use Rattle.tz_regs.specs.declared.parts.Core.{Core}
 use Rattle.tz_regs.specs.declared.parts.Registers.{Registers}
-use Rattle.tz_regs.specs.declared.parts.Status.{Status}
+use Rattle.tz_regs.specs.Registers.{is_handler}
 use Rattle.tz_regs.specs.ItState.{it_advanced}
-use Rattle.tz_state.specs.declared.taken.Taken.{Taken}
-use Rattle.tz_state.specs.declared.taken.Taken.TheVariants.{AsIs, Hard, Lockup}
-use Rattle.tz_state.specs.Slots.{ExceptionsValue, index_of}
-use Rattle.tz_state.specs.Escalation.{escalated}
+use Rattle.tz_state.specs.Slots.{ExceptionsValue}
 use Rattle.tz_state.specs.State.{State}
 use Rattle.tz_sem.specs.declared.ending.Ending.{Ending}
-use Rattle.tz_sem.specs.Faulted.{slot, status_after, exception_of, with_status, raised_as, faulted}
-use Rattle.tz_sem.specs.Step.{length_of, locks, faults, is_fnc_return, branch_ns, exchanged, it_after, sleep_of, skips, goes_on}
+use Rattle.tz_entry.specs.Gate.{is_fnc_return}
+use Rattle.tz_entry.specs.Leave.{is_exc_return}
+use Rattle.tz_sem.specs.declared.ending.Cause.TheVariants.{Went, Returned}
+use Rattle.tz_sem.specs.declared.ending.Course.{Course}
+use Rattle.tz_sem.specs.Ended.{Passed, Ended, with_stores}
+use Rattle.tz_sem.specs.Taking.{faults}
+use Rattle.tz_sem.specs.Exchange.{branch_ns, exchanged}
+use Rattle.tz_sem.specs.Step.{length_of, it_after, sleep_of, skips, is_call, exchanges, goes_on, faulting}
 use Rattle.tz_twin.specs.Integrity.{KeepsBytes}
 use Rattle.tz_twin.proofs.Bytes.{SameOpen, keeps_nothing_changed}
 use Rattle.tz_twin.proofs.Split.{Open, Rest, open_map, join, Same, twins_join}
-use Rattle.tz_twin.proofs.Slots.{Quiet, quiet, quiet_then, pended_quiet}
+use Rattle.tz_twin.proofs.Slots.{Quiet, quiet}
 use Rattle.tz_twin.proofs.Faults.{is_own}
-use Rattle.tz_twin.proofs.Both.{Kept, Both, Go, Lock, both_cond}
+use Rattle.tz_twin.proofs.Both.{Kept, Both, Go, Stop, both_second}
+use Rattle.tz_twin.proofs.Keeping.{stops_faults, stops_returns, stops_comes_back}
 
 -- what a step of Non-secure code may leave of an open part and a rest: on the same board, with the Secure side kept
 pub record Leaves (o : Open) (x : Rest) (p : Open) (y : Rest) : Type 0 where
@@ -86,7 +89,7 @@ left_again o x x' p q y y' board sau masks exceptions h = record {
   leaves' = leaves_again o x' p q y' board sau masks exceptions h.leaves';
 }
 
-kept_of : (o : Open) (x : Rest) (p : Open) (y : Rest) → Leaves o x p y → Kept (join o x) (join p y)
+pub kept_of : (o : Open) (x : Rest) (p : Open) (y : Rest) → Leaves o x p y → Kept (join o x) (join p y)
 kept_of o x p y h = record {
   keeps = record {
     bytes = h.bytes;
@@ -113,148 +116,16 @@ goes o p x x' y y' stores ending h =
       kept' = kept_of o x' p y' h.leaves';
     })
 
-locked_kept : (s r : State) → Kept s r → Kept s (record r { core = record r.core { run = record r.core.run { locked = true } } })
-locked_kept s r k = record {
-  keeps = record {
-    bytes = k.keeps.bytes;
-    stacks = k.keeps.stacks;
-    masks = k.keeps.masks;
-    status = k.keeps.status;
-    exceptions = k.keeps.exceptions;
-    sau = k.keeps.sau;
-    mpu = k.keeps.mpu;
-    board = k.keeps.board;
-  };
-  timer = k.timer;
-}
-
--- a step that locks
-pub both_lock : (o p : Open) (x x' y y' : Rest) (touched : Bool) (stores : List Store) → Left o x x' p y y'
-    → Both (join o x) (join o x') (locks (join p y) touched stores) (locks (join p y') touched stores)
-both_lock o p x x' y y' touched stores h =
-    Lock (record {
-      locked = refl;
-      locked' = refl;
-      board = h.leaves.board;
-      board' = h.leaves.board;
-      kept = λ e. locked_kept (join o x) (join p y) (kept_of o x p y h.leaves);
-      kept' = λ e. locked_kept (join o x') (join p y') (kept_of o x' p y' h.leaves');
-    })
-
--- ---- a fault
-
--- its status bits are not of the Secure side
-status_kept : (fault : Fault) (c : Status) → is_own fault ≡ true → (status_after NonSecure fault c).s ≡ c.s
-unfolding is_own
-status_kept (InvPc Secure) c e = cc
-status_kept (InvPc NonSecure) c e = refl
-status_kept (StackLimit Secure) c e = cc
-status_kept (StackLimit NonSecure) c e = refl
-status_kept (DataAccess a Secure) c e = cc
-status_kept (DataAccess a NonSecure) c e = refl
-status_kept (Exec Secure) c e = cc
-status_kept (Exec NonSecure) c e = refl
-status_kept Undef c e = refl
-status_kept InvState c e = refl
-status_kept NoCp c e = refl
-status_kept Unaligned c e = refl
-status_kept DivZero c e = refl
-status_kept (Precise a) c e = refl
-status_kept ExecBus c e = refl
-status_kept (Violation a) c e = refl
-status_kept EntryPoint c e = refl
-status_kept Transition c e = refl
-status_kept ExcReturn c e = refl
-status_kept Signature c e = refl
-status_kept Breakpoint c e = refl
-status_kept Call c e = refl
-
--- what pends is no part of what is kept
-raised_kept : (s r : State) (t : Taken) (at : Slot) → Kept s r → Kept s (raised_as t at r)
-raised_kept s r AsIs at k =
-    let q = quiet_then s.exceptions r.exceptions _ (record { keeps = k.keeps.exceptions; timer = k.timer }) (pended_quiet r.exceptions (index_of at) true) in
-    record {
-      keeps = record {
-        bytes = k.keeps.bytes;
-        stacks = k.keeps.stacks;
-        masks = k.keeps.masks;
-        status = k.keeps.status;
-        exceptions = q.keeps;
-        sau = k.keeps.sau;
-        mpu = k.keeps.mpu;
-        board = k.keeps.board;
-      };
-      timer = q.timer;
-    }
-raised_kept s r (Hard side) at k =
-    let q = quiet_then s.exceptions r.exceptions _ (record { keeps = k.keeps.exceptions; timer = k.timer }) (pended_quiet r.exceptions (index_of (slot 3 side)) true) in
-    record {
-      keeps = record {
-        bytes = k.keeps.bytes;
-        stacks = k.keeps.stacks;
-        masks = k.keeps.masks;
-        status = k.keeps.status;
-        exceptions = q.keeps;
-        sau = k.keeps.sau;
-        mpu = k.keeps.mpu;
-        board = k.keeps.board;
-      };
-      timer = q.timer;
-    }
-raised_kept s r Lockup at k = record {
-  keeps = record {
-    bytes = k.keeps.bytes;
-    stacks = k.keeps.stacks;
-    masks = k.keeps.masks;
-    status = k.keeps.status;
-    exceptions = k.keeps.exceptions;
-    sau = k.keeps.sau;
-    mpu = k.keeps.mpu;
-    board = k.keeps.board;
-  };
-  timer = k.timer;
-}
-
-pub raised_board : (r : State) (t : Taken) (at : Slot) → (raised_as t at r).bus.board ≡ r.bus.board
-raised_board r AsIs at = refl
-raised_board r (Hard side) at = refl
-raised_board r Lockup at = refl
-
-faulted_kept : (s : State) (p : Open) (y : Rest) (fault : Fault) → is_own fault ≡ true → Kept s (join p y) → Kept s (faulted fault (join p y))
-faulted_kept s p y fault own k =
-    let r = with_status (join p y) (status_after NonSecure fault (join p y).core.status) in
-    let at = exception_of p.exceptions NonSecure fault in
-    raised_kept s r (escalated r.exceptions r.core.masks at) at
-    (record {
-      keeps = record {
-        bytes = k.keeps.bytes;
-        stacks = k.keeps.stacks;
-        masks = k.keeps.masks;
-        status = status_kept fault (join p y).core.status own ∙ k.keeps.status;
-        exceptions = k.keeps.exceptions;
-        sau = k.keeps.sau;
-        mpu = k.keeps.mpu;
-        board = k.keeps.board;
-      };
-      timer = k.timer;
-    })
-
 -- a step that faults
-pub both_faults : (o p : Open) (x x' y y' : Rest) (touched : Bool) (fault : Fault) (stores : List Store) → is_own fault ≡ true → Left o x x' p y y'
-    → Both (join o x) (join o x') (faults (join p y) touched fault stores) (faults (join p y') touched fault stores)
-both_faults o p x x' y y' touched fault stores own h =
-    Lock (record {
-      locked = refl;
-      locked' = refl;
-      board = raised_board _ _ _ ∙ h.leaves.board;
-      board' = raised_board _ _ _ ∙ h.leaves.board;
-      kept = λ e. locked_kept (join o x) _ (faulted_kept (join o x) p y fault own (kept_of o x p y h.leaves));
-      kept' = λ e. locked_kept (join o x') _ (faulted_kept (join o x') p y' fault own (kept_of o x' p y' h.leaves'));
-    })
+pub both_faults : (o p : Open) (x x' y y' : Rest) (course : Course) (fault : Fault) (stores : List Store) → is_own fault ≡ true → Left o x x' p y y'
+    → Both (join o x) (join o x') (with_stores stores (faults (join p y) course fault)) (with_stores stores (faults (join p y') course fault))
+both_faults o p x x' y y' course fault stores own h =
+    Stop (stops_faults (join o x) (join p y) course fault stores refl own (kept_of o x p y h.leaves))
+    (stops_faults (join o x') (join p y') course fault stores refl own (kept_of o x' p y' h.leaves'))
 
 -- one that faults before an instruction did anything
-pub both_fault : (o : Open) (x x' : Rest) (touched : Bool) (fault : Fault) → is_own fault ≡ true → Same o x x' → Both (join o x) (join o x') (faults (join o x) touched fault []) (faults (join o x') touched fault [])
-both_fault o x x' touched fault own same = both_faults o o x x' x x' touched fault [] own (left_all o x x' same)
+pub both_fault : (o : Open) (x x' : Rest) (course : Course) (fault : Fault) → is_own fault ≡ true → Same o x x' → Both (join o x) (join o x') (faulting (join o x) course fault) (faulting (join o x') course fault)
+both_fault o x x' course fault own same = both_faults o o x x' x x' course fault [] own (left_all o x x' same)
 
 -- ---- how the step goes on, from what the instruction left
 
@@ -267,22 +138,44 @@ left_registers o p x x' y y' r h = left_again o x x' p (with_registers p r) y y'
 abbrev pub past_of : Insn → Open → Open
 past_of i p = with_registers p (record p.registers { it = it_after i p.registers.it })
 
-branch_ns_same : (o p : Open) (x x' y y' : Rest) (touched : Bool) (code : Code) (stores : List Store) (target : ℕ) → Left o x x' p y y'
-    → Both (join o x) (join o x') (branch_ns (join p y) touched code stores target) (branch_ns (join p y') touched code stores target)
-branch_ns_same o p x x' y y' touched code stores target h =
-    let r : Registers = record p.registers { pc = even_of target; t = true } in
-    both_cond _ _ (target % 2 == 0) _ _ _ _
-    (goes o (with_registers p r) x x' y y' stores _ (left_registers o p x x' y y' r h))
-    (goes o (with_registers p r) x x' y y' stores _ (left_registers o p x x' y y' r h))
+branch_ns_same : (o p : Open) (x x' y y' : Rest) (course : Course) (code : Code) (stores : List Store) (target : ℕ) → Left o x x' p y y'
+    → Both (join o x) (join o x') (with_stores stores (branch_ns (join p y) course code target)) (with_stores stores (branch_ns (join p y') course code target))
+branch_ns_same o p x x' y y' course code stores target h = go (target % 2 == 0) where
+  r : Registers
+  r = record p.registers { pc = even_of target; t = true }
 
-exchanged_same : (o p q : Open) (x x' y y' : Rest) (touched : Bool) (code : Code) (stores : List Store) (target : ℕ) (ns : Bool) → Left o x x' p y y' → Left o x x' q y y'
-    → Both (join o x) (join o x') (exchanged (join p y) (join q y) touched code stores target ns) (exchanged (join p y') (join q y') touched code stores target ns)
-unfolding is_own
-exchanged_same o p q x x' y y' touched code stores target ns h g =
-    let r : Registers = record q.registers { pc = even_of target; t = target % 2 == 1 } in
-    both_cond _ _ (is_fnc_return target) _ _ _ _ (both_faults o p x x' y y' true (InvPc NonSecure) stores refl h)
-    (both_cond _ _ ns _ _ _ _ (branch_ns_same o q x x' y y' touched code stores target g)
-    (goes o (with_registers q r) x x' y y' stores _ (left_registers o q x x' y y' r g)))
+  to : Bool → Rest → Ended
+  to t y =
+      record {
+        state = record (join (with_registers p r) y) {
+          core = record (join (with_registers p r) y).core { run = record (join p y).core.run { side = cond t NonSecure NonSecure } };
+        };
+        stores = stores;
+        ending = record { touched = course.touched; cause = cond t Returned Went; ran = Some code };
+      }
+
+  go : (t : Bool) → Both (join o x) (join o x') (to t y) (to t y')
+  go true = goes o (with_registers p r) x x' y y' stores _ (left_registers o p x x' y y' r h)
+  go false = goes o (with_registers p r) x x' y y' stores _ (left_registers o p x x' y y' r h)
+
+passed_cond : (o : Open) (x x' : Rest) (stores : List Store) (t : Bool) (a b a' b' : Passed) → Both (join o x) (join o x') (with_stores stores a) (with_stores stores a') → Both (join o x) (join o x') (with_stores stores b) (with_stores stores b')
+    → Both (join o x) (join o x') (with_stores stores (cond t a b)) (with_stores stores (cond t a' b'))
+passed_cond o x x' stores true a b a' b' p q = p
+passed_cond o x x' stores false a b a' b' p q = q
+
+exchanged_same : (o p q : Open) (x x' y y' : Rest) (before before' : Core) (course : Course) (code : Code) (stores : List Store) (target : ℕ) (ns : Bool) → Left o x x' p y y' → Left o x x' q y y'
+    → Both (join o x) (join o x') (with_stores stores (exchanged before (join p y) (join q y) course code target ns)) (with_stores stores (exchanged before' (join p y') (join q y') course code target ns))
+unfolding exchanged
+exchanged_same o p q x x' y y' before before' course code stores target ns h g =
+    passed_cond o x x' stores (is_fnc_return target) _ _ _ _
+    (Stop (stops_comes_back (join o x) (join p y) before course code stores h.leaves.board) (stops_comes_back (join o x') (join p y') before' course code stores h.leaves'.board))
+    (passed_cond o x x' stores (is_handler p.registers.ipsr && is_exc_return target) _ _ _ _
+    (Stop (stops_returns (join o x) (join q y) course code target stores refl (kept_of o x q y g.leaves)) (stops_returns (join o x') (join q y') course code target stores refl (kept_of o x' q y' g.leaves')))
+    (passed_cond o x x' stores ns _ _ _ _ (branch_ns_same o q x x' y y' course code stores target g)
+    (goes o (with_registers q r) x x' y y' stores _ (left_registers o q x x' y y' r g))))
+  where
+    r : Registers
+    r = record q.registers { pc = even_of target; t = target % 2 == 1 }
 
 -- a part with PC moved
 at_pc : (o p : Open) (x x' y y' : Rest) (stores : List Store) (ending : Ending) (pc : ℕ) → Left o x x' p y y'
@@ -295,20 +188,35 @@ at_pc o p x x' y y' stores ending pc h =
 asleep_of : Bool → Open → Open
 asleep_of event p = record p { sleep = sleep_of event }
 
-pub goes_on_same : (o p : Open) (x x' y y' : Rest) (touched : Bool) (code : Code) (i : Insn) (stores : List Store) (out : Outcome) → Left o x x' p y y'
-    → Both (join o x) (join o x') (goes_on i (join p y) touched code stores out) (goes_on i (join p y') touched code stores out)
+-- an exchange that is no call
+exchanges_same : (o p : Open) (x x' y y' : Rest) (before before' : Core) (course : Course) (code : Code) (i : Insn) (stores : List Store) (target : ℕ) (ns : Bool) → is_call i ≡ false → Left o x x' p y y'
+    → Both (join o x) (join o x') (exchanges before i (join p y) course code stores target ns) (exchanges before' i (join p y') course code stores target ns)
+exchanges_same o p x x' y y' before before' course code i stores target ns plain h =
+    both_second _ _ (is_call i) _ _ _ _ plain
+    (exchanged_same o p (past_of i p) x x' y y' before before' course code stores target ns h (left_registers o p x x' y y' _ h))
+
+abbrev pub is_exchange : Outcome → Bool
+is_exchange (Exchange target ns) = true
+is_exchange outcome = false
+
+-- an instruction that calls nothing
+abbrev pub CallsNothing : Insn → Outcome → Type 0
+CallsNothing i out = is_exchange out ≡ true → is_call i ≡ false
+
+pub goes_on_same : (o p : Open) (x x' y y' : Rest) (before before' : Core) (course : Course) (code : Code) (i : Insn) (stores : List Store) (out : Outcome) → CallsNothing i out → Left o x x' p y y'
+    → Both (join o x) (join o x') (goes_on before i (join p y) course code stores out) (goes_on before' i (join p y') course code stores out)
 unfolding asleep_of
-goes_on_same o p x x' y y' touched code i stores Next h =
+goes_on_same o p x x' y y' before before' course code i stores Next calls h =
     at_pc o (past_of i p) x x' y y' stores _ (wrap (p.registers.pc + length_of code)) (left_registers o p x x' y y' _ h)
-goes_on_same o p x x' y y' touched code i stores (Jump to) h = at_pc o (past_of i p) x x' y y' stores _ to (left_registers o p x x' y y' _ h)
-goes_on_same o p x x' y y' touched code i stores (Exchange target ns) h =
-    exchanged_same o p (past_of i p) x x' y y' touched code stores target ns h (left_registers o p x x' y y' _ h)
-goes_on_same o p x x' y y' touched code i stores (Sleep event) h =
+goes_on_same o p x x' y y' before before' course code i stores (Jump to) calls h = at_pc o (past_of i p) x x' y y' stores _ to (left_registers o p x x' y y' _ h)
+goes_on_same o p x x' y y' before before' course code i stores (Exchange target ns) calls h =
+    exchanges_same o p x x' y y' before before' course code i stores target ns (calls refl) h
+goes_on_same o p x x' y y' before before' course code i stores (Sleep event) calls h =
     at_pc o (asleep_of event (past_of i p)) x x' y y' stores _ (wrap (p.registers.pc + length_of code))
     (left_again o x x' p (asleep_of event (past_of i p)) y y' refl refl refl refl h)
 
 -- an instruction that is skipped
-pub skips_same : (o : Open) (x x' : Rest) (touched : Bool) (code : Code) → Same o x x' → Both (join o x) (join o x') (skips (join o x) touched code) (skips (join o x') touched code)
-skips_same o x x' touched code same =
+pub skips_same : (o : Open) (x x' : Rest) (course : Course) (code : Code) → Same o x x' → Both (join o x) (join o x') (skips (join o x) course code) (skips (join o x') course code)
+skips_same o x x' course code same =
     at_pc o (with_registers o (record o.registers { it = it_advanced o.registers.it })) x x' x x' [] _ (wrap (o.registers.pc + length_of code))
     (left_registers o o x x' x x' _ (left_all o x x' same))

@@ -6,6 +6,9 @@ pub mod Writes
 pub mod Both
 pub mod Accesses
 pub mod Faults
+pub mod Holding
+pub mod Halting
+pub mod Keeping
 pub mod Leaving
 pub mod Executing
 pub mod Fetching

@@ -1,5 +1,6 @@
 -- A step of Secure code looks at Secure state, and what is seen after it is fixed by its crossing: one
 -- fact for each stage of the step, of one run alone.
+use Rattle.std.specs.Prelude.{nat_lt}
 use Rattle.std.proofs.Common.{◌≡◌, ℕ, ◌+◌, ◌%◌, ◌==◌, Bool, true, false, ◌&&◌, ◌||◌, not, cond, List, [], ◌∷◌, Result, Ok, Err, refl, sym, ap, ◌∙◌, subst, Option, Some, None}
 use Rattle.tz_table.specs.declared.units.Side.{Side}
 use Rattle.tz_table.specs.declared.units.Side.TheVariants.{Secure, NonSecure}
@@ -10,7 +11,7 @@ use Rattle.tz_table.specs.declared.decoded.Decoded.{Decoded}
 use Rattle.tz_table.specs.declared.decoded.Decoded.TheVariants.{One, NoCoprocessor, Undefined}
 use Rattle.tz_table.specs.declared.instruction.Insn.{Insn}
 use Rattle.tz_model.specs.declared.report.Fault.{Fault}
-use Rattle.tz_model.specs.declared.report.Fault.TheVariants.{Undef, NoCp, InvState, InvPc}
+use Rattle.tz_model.specs.declared.report.Fault.TheVariants.{Undef, NoCp, InvState, StackLimit}
 use Rattle.tz_model.specs.declared.report.Outcome.{Outcome}
 use Rattle.tz_model.specs.declared.report.Outcome.TheVariants.{Next, Jump, Exchange, Sleep}
 use Rattle.tz_model.specs.declared.report.Store.{Store}
@@ -22,7 +23,7 @@ use Rattle.tz_regs.specs.ItState.{it_advanced}
 use Rattle.tz_regs.specs.Special.{named_of}
 use Rattle.tz_state.specs.declared.request.Exclusive.{Exclusive}
 use Rattle.tz_regs.specs.declared.parts.Core.{Core}
-use Rattle.tz_state.specs.State.{State, priority_in, is_held, side_of, with_core, with_pc}
+use Rattle.tz_state.specs.State.{State, priority_in, is_negative_at, is_held, side_of, with_pc}
 use Rattle.tz_state.specs.Access.{is_aligned, is_private, Reached, reached_in, loaded, read_by, stored_in, write_by, access}
 use Rattle.tz_state.specs.Fetch.{fetch, own_fetch}
 use Rattle.tz_exec.specs.declared.family.Family.{Family}
@@ -34,9 +35,9 @@ use Rattle.tz_exec.specs.Branch.{plan_branch, finish_branch}
 use Rattle.tz_exec.specs.System.{finish_system, clears_monitor, probe_of}
 use Rattle.tz_exec.specs.ItRules.{is_misplaced, is_passed_over, ignores_condition}
 use Rattle.tz_exec.specs.Exec.{Ported, ported, unless_refused, after_accesses, probed, Executed, alone, beside, through, Exclusivity, Free, Marks, Takes, exclusivity, marked, released, loads_stores, exclusively, family_of, executed_by}
-use Rattle.tz_sem.specs.Ended.{Ended}
+use Rattle.tz_sem.specs.Ended.{Passed, Ended, with_stores}
 use Rattle.tz_regs.specs.declared.parts.Before.{Before}
-use Rattle.tz_regs.specs.Registers.{before_in}
+use Rattle.tz_regs.specs.Registers.{is_handler, limit_of, before_in}
 use Rattle.tz_state.specs.Execution.{takes_first}
 use Rattle.tz_state.specs.Protection.{MpuState}
 use Rattle.tz_state.specs.State.{Bus, with_mpu}
@@ -50,11 +51,18 @@ use Rattle.tz_state.specs.Registers.{SystemState, after_read, written}
 use Rattle.tz_state.specs.Views.{narrow_of, narrow_written, sized_written, found_at, found_read, found_written}
 use Rattle.tz_model.specs.declared.report.Sleep.{Sleep as Sleeping}
 use Rattle.tz_model.specs.declared.report.Sleep.TheVariants.{Awake, Wfi, Wfe}
-use Rattle.tz_sem.specs.Step.{length_of, ran, is_fnc_return, branched, branch_ns, core_back, taken_back, exchanged, with_it, past, skips, goes_on, concludes, executes, placed, decoded, fetched, fetcher_in, asleep, instructs, awake, without_event, idles, is_woken, by_sleep, stepped, ended}
+use Rattle.tz_entry.specs.Gate.{call_base, call_stores, called_ns, after_call, is_fnc_return}
+use Rattle.tz_entry.specs.Leave.{is_exc_return}
+use Rattle.tz_sem.specs.declared.ending.Cause.TheVariants.{Went, Returned}
+use Rattle.tz_sem.specs.declared.ending.Course.{Course}
+use Rattle.tz_sem.specs.Taking.{locks}
+use Rattle.tz_sem.specs.Exchange.{ran, branched, branch_ns, exchanged, through_port, called_with, calls}
+use Rattle.tz_sem.specs.Step.{length_of, with_it, past, skips, is_call, goes_on, concludes, executes, placed, decoded, fetched, fetcher_in, course_in, asleep, instructs, awake, without_event, takes, idles, is_woken, by_sleep, stepped, ended}
 use Rattle.tz_twin.specs.Seen.{crossing, Seen, Hidden}
 use Rattle.tz_twin.proofs.Split.{board_seen}
 use Rattle.tz_twin.proofs.Both.{after, Touching}
-use Rattle.tz_twin.proofs.Entering.{touching_locks, touching_faults, touching_enters}
+use Rattle.tz_twin.proofs.Halting.{halts_locks, halts_preempted, halts_faults, halts_returns, halts_comes_back, touching_halts}
+use Rattle.tz_twin.proofs.Entering.{touching_faults, touching_enters}
 use Rattle.tz_twin.proofs.Returning.{secured, touching_returned}
 
 -- the board that is seen is that of a state
@@ -64,65 +72,6 @@ Of before s = board_seen before ≡ s.bus.board
 touching_cond : (s0 : State) (before : Seen) (t : Bool) (x y : Ended) → Touching s0 before x → Touching s0 before y → Touching s0 before (cond t x y)
 touching_cond s0 before true x y p q = p
 touching_cond s0 before false x y p q = q
-
--- an instruction after which Secure code runs on
-stays : (s0 s : State) (before : Seen) (code : Code) (stores : List Store) → Of before s → Touching s0 before (ran (secured s) true code stores)
-stays s0 s before code stores e = record { touched = refl; seen = ap Hidden (sym e) }
-
-touching_branch : (s0 s : State) (before : Seen) (code : Code) (stores : List Store) (target : ℕ) → Of before s → Touching s0 before (branch_ns (secured s) true code stores target)
-touching_branch s0 s before code stores target e =
-    touching_cond s0 before (target % 2 == 0) _ _
-    (touching_returned s0 (branched s target true) before code stores e)
-    (stays s0 (branched s target true) before code stores e)
-
-touching_exchanged : (s0 s p : State) (before : Seen) (code : Code) (stores : List Store) (target : ℕ) (ns : Bool) → Of before s → Of before p
-    → Touching s0 before (exchanged (secured s) (secured p) true code stores target ns)
-touching_exchanged s0 s p before code stores target ns e f =
-    touching_cond s0 before (is_fnc_return target) _ _ (touching_faults s0 (secured s) before (InvPc Secure) stores e)
-    (touching_cond s0 before ns _ _ (touching_branch s0 p before code stores target f)
-    (stays s0 (branched p target (target % 2 == 1)) before code stores f))
-
-touching_goes_on : (s0 s : State) (before : Seen) (code : Code) (i : Insn) (stores : List Store) (out : Outcome) → Of before s → Touching s0 before (goes_on i (secured s) true code stores out)
-touching_goes_on s0 s before code i stores Next e = stays s0 (with_pc (past i s) (wrap (s.core.registers.pc + length_of code))) before code stores e
-touching_goes_on s0 s before code i stores (Jump to) e = stays s0 (with_pc (past i s) to) before code stores e
-touching_goes_on s0 s before code i stores (Exchange target ns) e = touching_exchanged s0 s (past i s) before code stores target ns e e
-touching_goes_on s0 s before code i stores (Sleep event) e = stays s0 (with_pc (asleep event (past i s)) (wrap (s.core.registers.pc + length_of code))) before code stores e
-
-touching_skips : (s0 s : State) (before : Seen) (code : Code) → Of before s → Touching s0 before (skips (secured s) true code)
-touching_skips s0 s before code e = stays s0 (with_pc (with_it s (it_advanced s.core.registers.it)) (wrap (s.core.registers.pc + length_of code))) before code [] e
-
--- ---- the instruction
-
--- an instruction after which Secure code still runs, on the same board
-record Stays (s : State) (e : Executed) : Type 0 where
-  pub side : e.state.core.run.side ≡ Secure
-  pub locked : e.state.core.run.locked ≡ false
-  pub board : e.state.bus.board ≡ s.bus.board
-
-touching_concludes : (s0 s : State) (before : Seen) (code : Code) (i : Insn) (stores : List Store) (out : Result Outcome Fault) → Of before s → Touching s0 before (concludes i (secured s) true code stores out)
-touching_concludes s0 s before code i stores (Ok outcome) e = touching_goes_on s0 s before code i stores outcome e
-touching_concludes s0 s before code i stores (Err fault) e = touching_faults s0 (secured s) before fault stores e
-
-touching_executes : (s0 s : State) (before : Seen) (code : Code) (i : Insn) (e : Executed) → Of before s → Stays s e → Touching s0 before (executes true code i e)
-touching_executes s0 s before code i e is h =
-    let same : e.state ≡ secured e.state =
-    λ j. record e.state { core = record e.state.core { run = record e.state.core.run { side = h.side j; locked = h.locked j } } } in
-    subst (λ (r : State). Touching s0 before (concludes i r true code e.stores e.outcome)) (sym same)
-    (touching_concludes s0 e.state before code i e.stores e.outcome (is ∙ sym h.board))
-
-stays_cond : (s : State) (t : Bool) (e f : Executed) → Stays s e → Stays s f → Stays s (cond t e f)
-stays_cond s true e f p q = p
-stays_cond s false e f p q = q
-
-stays_alone : (s : State) (f : Finished) → Stays s (alone (secured s) (finished_in (secured s).core f))
-stays_alone s (Ok f) = record { side = refl; locked = refl; board = refl }
-stays_alone s (Err fault) = record { side = refl; locked = refl; board = refl }
-
-stays_named : (s : State) (clears : Bool) (f : FinishedNamed) → Stays s (beside (secured s) (ported (cond clears (record s.bus { monitor = None }) s.bus) (finished_named (secured s).core f)))
-stays_named s true (Ok f) = record { side = refl; locked = refl; board = refl }
-stays_named s false (Ok f) = record { side = refl; locked = refl; board = refl }
-stays_named s true (Err fault) = record { side = refl; locked = refl; board = refl }
-stays_named s false (Err fault) = record { side = refl; locked = refl; board = refl }
 
 -- system registers leave the board
 mpu_board : (b : Bus) (side : Side) (m : MpuState) → (with_mpu b side m).board ≡ b.board
@@ -189,6 +138,122 @@ unfolding answers
 answers_board [] r = refl
 answers_board (q ∷ more) r = after_board (access r q) r (λ left. answers access left more) (access_board r q) (λ h. answers_board more h)
 
+-- the course of a step that has looked at Secure state
+abbrev pub seeing : Bool → Course
+seeing negative = record { touched = true; negative = negative }
+
+-- an instruction after which Secure code runs on
+stays : (s0 s : State) (before : Seen) (negative : Bool) (code : Code) (stores : List Store) → Of before s → Touching s0 before (with_stores stores (ran (secured s) (seeing negative) code))
+stays s0 s before negative code stores e = record { touched = refl; seen = λ plain. ap Hidden (sym e) }
+
+touching_branch : (s0 s : State) (before : Seen) (negative : Bool) (code : Code) (stores : List Store) (target : ℕ) → s0.core.run.side ≡ Secure → Of before s
+    → Touching s0 before (with_stores stores (branch_ns (secured s) (seeing negative) code target))
+touching_branch s0 s before negative code stores target starts e = go (target % 2 == 0) where
+  r : State
+  r = branched s target true
+
+  to : Bool → Ended
+  to t =
+      record {
+        state = record r { core = record r.core { run = record r.core.run { side = cond t NonSecure Secure; locked = false } } };
+        stores = stores;
+        ending = record { touched = true; cause = cond t Returned Went; ran = Some code };
+      }
+
+  go : (t : Bool) → Touching s0 before (to t)
+  go true = touching_returned s0 r before negative code stores starts e
+  go false = stays s0 r before negative code stores e
+
+touching_passed : (s0 : State) (before : Seen) (stores : List Store) (t : Bool) (p q : Passed) → Touching s0 before (with_stores stores p) → Touching s0 before (with_stores stores q) → Touching s0 before (with_stores stores (cond t p q))
+touching_passed s0 before stores true p q h g = h
+touching_passed s0 before stores false p q h g = g
+
+touching_exchanged : (s0 s p : State) (before : Seen) (core : Core) (negative : Bool) (code : Code) (stores : List Store) (target : ℕ) (ns : Bool) → s0.core.run.side ≡ Secure → Of before s → Of before p
+    → Touching s0 before (with_stores stores (exchanged core (secured s) (secured p) (seeing negative) code target ns))
+unfolding exchanged
+touching_exchanged s0 s p before core negative code stores target ns starts e f =
+    touching_passed s0 before stores (is_fnc_return target) _ _
+    (touching_halts s0 (secured s) before stores _ e (halts_comes_back core (secured s) (seeing negative) code))
+    (touching_passed s0 before stores (is_handler s.core.registers.ipsr && is_exc_return target) _ _
+    (touching_halts s0 (secured p) before stores _ f (halts_returns (secured p) (seeing negative) code target))
+    (touching_passed s0 before stores ns _ _ (touching_branch s0 p before negative code stores target starts f)
+    (stays s0 (branched p target (target % 2 == 1)) before negative code stores f)))
+
+-- ---- a call of Non-secure code
+
+touching_called_with : (s0 s : State) (before : Seen) (i : Insn) (negative : Bool) (code : Code) (c : Core) (h : Reached) (out : Result Unit Fault) → board_seen before ≡ h.system.bus.board
+    → Touching s0 before (called_with (past i) s (seeing negative) code (record { core = c; held = h; outcome = out }))
+touching_called_with s0 s before i negative code c h (Ok done) e = record { touched = refl; seen = λ plain. absurd (cc) }
+touching_called_with s0 s before i negative code c h (Err fault) e =
+    touching_halts s0 (through_port s c h) before h.stores _ e (halts_faults (through_port s c h) (seeing negative) fault)
+
+touching_called : (s0 s : State) (before : Seen) (i : Insn) (negative : Bool) (code : Code) (target : ℕ) (a : Reached × Result (List ℕ) Fault) → board_seen before ≡ a.0.system.bus.board
+    → Touching s0 before (called_with (past i) s (seeing negative) code (after_call s.core target a))
+touching_called s0 s before i negative code target (h, Ok words) e = touching_called_with s0 s before i negative code (called_ns s.core target) h (Ok tt) e
+touching_called s0 s before i negative code target (h, Err fault) e = touching_called_with s0 s before i negative code s.core h (Err fault) e
+
+touching_calls : (s0 s : State) (before : Seen) (i : Insn) (negative : Bool) (code : Code) (target next : ℕ) → Of before s → Touching s0 before (calls (past i) s (seeing negative) code target next)
+unfolding calls
+touching_calls s0 s before i negative code target next e = go (nat_lt (call_base s.core) (limit_of s.core.registers.ipsr s.core.stacks_s)) where
+  a : Reached × Result (List ℕ) Fault
+  a = answers access (reached_in s) (call_stores s.core next)
+
+  board : board_seen before ≡ a.0.system.bus.board
+  board = e ∙ sym (answers_board (call_stores s.core next) (reached_in s))
+
+  go : (t : Bool)
+      → Touching s0 before (called_with (past i) s (seeing negative) code (cond t (record { core = s.core; held = reached_in s; outcome = Err (StackLimit Secure) }) (after_call s.core target a)))
+  go true = touching_called_with s0 s before i negative code s.core (reached_in s) (Err (StackLimit Secure)) e
+  go false = touching_called s0 s before i negative code target a board
+
+touching_goes_on : (s0 s : State) (before : Seen) (core : Core) (negative : Bool) (code : Code) (i : Insn) (stores : List Store) (out : Outcome) → s0.core.run.side ≡ Secure → Of before s
+    → Touching s0 before (goes_on core i (secured s) (seeing negative) code stores out)
+touching_goes_on s0 s before core negative code i stores Next starts e = stays s0 (with_pc (past i s) (wrap (s.core.registers.pc + length_of code))) before negative code stores e
+touching_goes_on s0 s before core negative code i stores (Jump to) starts e = stays s0 (with_pc (past i s) to) before negative code stores e
+touching_goes_on s0 s before core negative code i stores (Exchange target ns) starts e =
+    touching_cond s0 before (is_call i) _ _ (touching_calls s0 (secured s) before i negative code target (wrap (s.core.registers.pc + length_of code)) e)
+    (touching_exchanged s0 s (past i s) before core negative code stores target ns starts e e)
+touching_goes_on s0 s before core negative code i stores (Sleep event) starts e =
+    stays s0 (with_pc (asleep event (past i s)) (wrap (s.core.registers.pc + length_of code))) before negative code stores e
+
+touching_skips : (s0 s : State) (before : Seen) (negative : Bool) (code : Code) → Of before s → Touching s0 before (skips (secured s) (seeing negative) code)
+touching_skips s0 s before negative code e = stays s0 (with_pc (with_it s (it_advanced s.core.registers.it)) (wrap (s.core.registers.pc + length_of code))) before negative code [] e
+
+-- ---- the instruction
+
+-- an instruction after which Secure code still runs, on the same board
+record Stays (s : State) (e : Executed) : Type 0 where
+  pub side : e.state.core.run.side ≡ Secure
+  pub locked : e.state.core.run.locked ≡ false
+  pub board : e.state.bus.board ≡ s.bus.board
+
+touching_concludes : (s0 s : State) (before : Seen) (core : Core) (negative : Bool) (code : Code) (i : Insn) (stores : List Store) (out : Result Outcome Fault) → s0.core.run.side ≡ Secure → Of before s
+    → Touching s0 before (concludes core i (secured s) (seeing negative) code stores out)
+touching_concludes s0 s before core negative code i stores (Ok outcome) starts e = touching_goes_on s0 s before core negative code i stores outcome starts e
+touching_concludes s0 s before core negative code i stores (Err fault) starts e = touching_faults s0 (secured s) before negative fault stores e
+
+touching_executes : (s0 s : State) (before : Seen) (core : Core) (negative : Bool) (code : Code) (i : Insn) (e : Executed) → s0.core.run.side ≡ Secure → Of before s → Stays s e
+    → Touching s0 before (executes core (seeing negative) code i e)
+touching_executes s0 s before core negative code i e starts is h =
+    let same : e.state ≡ secured e.state =
+    λ j. record e.state { core = record e.state.core { run = record e.state.core.run { side = h.side j; locked = h.locked j } } } in
+    subst (λ (r : State). Touching s0 before (concludes core i r (seeing negative) code e.stores e.outcome)) (sym same)
+    (touching_concludes s0 e.state before core negative code i e.stores e.outcome starts (is ∙ sym h.board))
+
+stays_cond : (s : State) (t : Bool) (e f : Executed) → Stays s e → Stays s f → Stays s (cond t e f)
+stays_cond s true e f p q = p
+stays_cond s false e f p q = q
+
+stays_alone : (s : State) (f : Finished) → Stays s (alone (secured s) (finished_in (secured s).core f))
+stays_alone s (Ok f) = record { side = refl; locked = refl; board = refl }
+stays_alone s (Err fault) = record { side = refl; locked = refl; board = refl }
+
+stays_named : (s : State) (clears : Bool) (f : FinishedNamed) → Stays s (beside (secured s) (ported (cond clears (record s.bus { monitor = None }) s.bus) (finished_named (secured s).core f)))
+stays_named s true (Ok f) = record { side = refl; locked = refl; board = refl }
+stays_named s false (Ok f) = record { side = refl; locked = refl; board = refl }
+stays_named s true (Err fault) = record { side = refl; locked = refl; board = refl }
+stays_named s false (Err fault) = record { side = refl; locked = refl; board = refl }
+
 stays_ported : (s : State) (h : Reached) (f : Finished) → h.system.bus.board ≡ s.bus.board → Stays s (through (secured s) (ported h (finished_in (secured s).core f)))
 stays_ported s h (Ok f) e = record { side = refl; locked = refl; board = e }
 stays_ported s h (Err fault) e = record { side = refl; locked = refl; board = e }
@@ -231,60 +296,41 @@ stays_family s i System =
     let n = named_of (secured s).core in
     stays_named s (clears_monitor i) (finish_system p i n (probed s.bus (probe_of p i n)))
 
--- what is taken back leaves Secure code running too
-stays_core : (s : State) (e : Executed) (c : Core) → c.run.side ≡ Secure → c.run.locked ≡ false → Stays s e → Stays s (record e { state = with_core e.state c })
-stays_core s e c side locked h = record { side = side; locked = locked; board = h.board }
+touching_placed : (s : State) (before : Seen) (negative : Bool) (code : Code) (i : Insn) → Of before s → Touching (secured s) before (placed (secured s) (seeing negative) code i)
+touching_placed s before negative code i e =
+    touching_cond (secured s) before (is_misplaced i s.core.registers) _ _ (touching_faults (secured s) (secured s) before negative Undef [] e)
+    (touching_cond (secured s) before (is_passed_over s.core.registers && not (ignores_condition Secure i)) _ _ (touching_skips (secured s) s before negative code e)
+    (touching_executes (secured s) s before (secured s).core negative code i _ refl e (stays_family s i (family_of i))))
 
-stays_back : (s : State) (e : Executed) (out : Result Outcome Fault) → Stays s e → Stays s (record e { state = with_core e.state (core_back out (secured s).core e.state.core) })
-stays_back s e (Ok (Exchange target ns)) h = go (is_fnc_return target) where
-  go : (t : Bool) → Stays s (record e { state = with_core e.state (cond t (record (secured s).core { status = e.state.core.status }) e.state.core) })
-  go true = stays_core s e (record (secured s).core { status = e.state.core.status }) refl refl h
-  go false = stays_core s e e.state.core h.side h.locked h
-stays_back s e (Ok Next) h = stays_core s e e.state.core h.side h.locked h
-stays_back s e (Ok (Jump to)) h = stays_core s e e.state.core h.side h.locked h
-stays_back s e (Ok (Sleep event)) h = stays_core s e e.state.core h.side h.locked h
-stays_back s e (Err fault) h = stays_core s e e.state.core h.side h.locked h
-
-stays_taken : (s : State) (family : Family) (e : Executed) → Stays s e → Stays s (taken_back family (secured s).core e)
-stays_taken s LoadStore e h = stays_back s e e.outcome h
-stays_taken s Alu e h = h
-stays_taken s Branch e h = h
-stays_taken s System e h = h
-
-touching_placed : (s : State) (before : Seen) (code : Code) (i : Insn) → Of before s → Touching (secured s) before (placed (secured s) true code i)
-touching_placed s before code i e =
-    touching_cond (secured s) before (is_misplaced i s.core.registers) _ _ (touching_faults (secured s) (secured s) before Undef [] e)
-    (touching_cond (secured s) before (is_passed_over s.core.registers && not (ignores_condition Secure i)) _ _ (touching_skips (secured s) s before code e)
-    (touching_executes (secured s) s before code i _ e (stays_taken s (family_of i) _ (stays_family s i (family_of i)))))
-
-touching_decoded : (s : State) (before : Seen) (code : Code) (d : Decoded) → Of before s → Touching (secured s) before (decoded (secured s) true code d)
-touching_decoded s before code (One i width) e = touching_placed s before code i e
-touching_decoded s before code NoCoprocessor e =
-    touching_cond (secured s) before (is_passed_over s.core.registers) _ _ (touching_skips (secured s) s before code e) (touching_faults (secured s) (secured s) before NoCp [] e)
-touching_decoded s before code (Undefined width) e = touching_faults (secured s) (secured s) before Undef [] e
+touching_decoded : (s : State) (before : Seen) (negative : Bool) (code : Code) (d : Decoded) → Of before s → Touching (secured s) before (decoded (secured s) (seeing negative) code d)
+touching_decoded s before negative code (One i width) e = touching_placed s before negative code i e
+touching_decoded s before negative code NoCoprocessor e =
+    touching_cond (secured s) before (is_passed_over s.core.registers) _ _ (touching_skips (secured s) s before negative code e)
+    (touching_faults (secured s) (secured s) before negative NoCp [] e)
+touching_decoded s before negative code (Undefined width) e = touching_faults (secured s) (secured s) before negative Undef [] e
 
 -- ---- the step
 
-touching_fetched : (s : State) (before : Seen) (f : Result Fetched Fault) → Of before s → Touching (secured s) before (fetched (secured s) true f)
-touching_fetched s before (Err fault) e = touching_faults (secured s) (secured s) before fault [] e
-touching_fetched s before (Ok f) e =
-    touching_cond (secured s) before f.gateway _ _ (touching_enters (secured s) (secured s) before refl e) (touching_decoded s before f.code (meaning_of f.code) e)
+touching_fetched : (s : State) (before : Seen) (negative : Bool) (f : Result Fetched Fault) → Of before s → Touching (secured s) before (fetched (secured s) (seeing negative) f)
+touching_fetched s before negative (Err fault) e = touching_faults (secured s) (secured s) before negative fault [] e
+touching_fetched s before negative (Ok f) e =
+    touching_cond (secured s) before f.gateway _ _ (touching_enters (secured s) (secured s) before negative refl e) (touching_decoded s before negative f.code (meaning_of f.code) e)
 
 -- an instruction of Secure code, with what comes where T is 0
 touching_instructs : (s : State) (before : Seen) → Of before s → Touching (secured s) before (instructs (secured s))
 unfolding fetch
 touching_instructs s before e =
     touching_cond (secured s) before s.core.registers.t _ _
-    (touching_fetched s before (own_fetch s.bus (fetcher_in (secured s)) s.core.registers.pc) e)
-    (touching_faults (secured s) (secured s) before InvState [] e)
+    (touching_fetched s before (is_negative_at (priority_in (secured s))) (own_fetch s.bus (fetcher_in (secured s)) s.core.registers.pc) e)
+    (touching_faults (secured s) (secured s) before (is_negative_at (priority_in (secured s))) InvState [] e)
 
 -- what is told before doesn't know of sleep and the event flag
 touching_woken : (s r : State) (before : Seen) (x : Ended) → before_in (secured r).core ≡ before_in (secured s).core → Touching (secured r) before x → Touching (secured s) before x
 touching_woken s r before x same t =
-    record { touched = t.touched; seen = t.seen ∙ ap (λ (b : Before). after before (crossing (stepped b x))) same }
+    record { touched = t.touched; seen = λ plain. t.seen plain ∙ ap (λ (b : Before). after before (crossing (stepped b x))) same }
 
 touching_idles : (s : State) (before : Seen) → Of before s → Touching (secured s) before (idles (secured s))
-touching_idles s before e = record { touched = refl; seen = ap Hidden (sym e) }
+touching_idles s before e = record { touched = refl; seen = λ plain. ap Hidden (sym e) }
 
 touching_sleeps : (s : State) (before : Seen) (sleep : Sleeping) → Of before s → Touching (secured s) before (by_sleep sleep (secured s))
 touching_sleeps s before Awake e = touching_instructs s before e
@@ -294,11 +340,16 @@ touching_sleeps s before Wfe e =
     touching_cond (secured s) before (s.core.event || is_woken (secured s)) _ _
     (touching_woken s (without_event (awake s)) before _ refl (touching_instructs (without_event (awake s)) before e)) (touching_idles s before e)
 
+-- an exception that comes before an instruction
+touching_taken : (s : State) (before : Seen) → Of before s → Touching (secured s) before (takes (secured s))
+touching_taken s before e =
+    touching_halts (secured s) (awake (secured s)) before [] _ e (halts_preempted (awake (secured s)) (course_in (secured s) true) s.core.registers.pc)
+
 -- a step of Secure code
 touching_secured : (s : State) (before : Seen) → Of before s → Touching (secured s) before (ended (secured s))
 unfolding ended
 touching_secured s before e =
-    touching_cond (secured s) before (takes_first s.exceptions s.core.masks) _ _ (touching_locks (secured s) (awake (secured s)) before [] e)
+    touching_cond (secured s) before (takes_first s.exceptions s.core.masks) _ _ (touching_taken s before e)
     (touching_sleeps s before s.core.run.sleep e)
 
 runs_secure : (side : Side) → is_nonsecure_side side ≡ false → side ≡ Secure
@@ -312,7 +363,7 @@ touching_first s0 before false x y h p = absurd (cc)
 -- a step of a locked machine
 touching_locked : (s : State) (before : Seen) → s.core.run.locked ≡ true → Of before s → Touching s before (ended s)
 unfolding ended
-touching_locked s before is e = touching_first s before s.core.run.locked _ _ is (touching_locks s s before [] e)
+touching_locked s before is e = touching_first s before s.core.run.locked _ _ is (touching_halts s s before [] _ e (halts_locks s true))
 
 -- a step that starts Secure, or locked
 pub touching_step : (s : State) (before : Seen) → is_nonsecure_side (side_of s) ≡ false → Of before s → Touching s before (ended s)

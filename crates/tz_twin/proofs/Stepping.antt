@@ -15,15 +15,17 @@ use Rattle.tz_state.specs.Fetch.{fetch, needs_second, half_verdict, with_second,
 use Rattle.tz_state.specs.Execution.{takes_first}
 use Rattle.tz_state.specs.Due.{begun}
 use Rattle.tz_model.specs.Codes.{meaning_of}
+use Rattle.tz_sem.specs.declared.ending.Course.{Course}
 use Rattle.tz_sem.specs.Ended.{Ended}
-use Rattle.tz_sem.specs.Step.{fetched, fetches, fetcher_in, fetch_in, looks, unready, instructs, is_entered, idles, is_woken, by_sleep, ended, started}
+use Rattle.tz_sem.specs.Step.{fetched, fetches, fetcher_in, fetch_in, looks, unready, instructs, course_in, takes, idles, is_woken, by_sleep, ended, started}
 use Rattle.tz_twin.specs.Seen.{Seen}
 use Rattle.tz_twin.proofs.Fetching.{own_fetch_same, own_fetch_own}
 use Rattle.tz_twin.proofs.Faults.{is_own, Own}
 use Rattle.tz_twin.proofs.Split.{Open, Rest, open_map, join_bus, join, Same, Twins, twins_join, by_join}
-use Rattle.tz_twin.proofs.Both.{Kept, Touching, Both, Go, Lock, Touch, both_cond, both_second}
+use Rattle.tz_twin.proofs.Both.{Kept, Touching, Stops, Both, Go, Stop, Touch, both_cond, both_second}
+use Rattle.tz_twin.proofs.Keeping.{stops_preempted}
 use Rattle.tz_twin.proofs.Executing.{decoded_same}
-use Rattle.tz_twin.proofs.Leaving.{goes, left_all, left_again, both_lock, both_fault}
+use Rattle.tz_twin.proofs.Leaving.{kept_of, goes, left_all, left_again, both_fault}
 use Rattle.tz_twin.proofs.Entering.{touching_gateway, arrives_gateway}
 
 -- an answer that isn't the gateway
@@ -53,11 +55,11 @@ own_unready true NonSecure = refl
 own_unready true Secure = refl
 own_unready false side = refl
 
-fetched_same : (o : Open) (x x' : Rest) (touched : Bool) (a : Result Fetched Fault) → IsPlain a → Own a → Same o x x'
-    → Both (join o x) (join o x') (fetched (join o x) touched a) (fetched (join o x') touched a)
+fetched_same : (o : Open) (x x' : Rest) (course : Course) (a : Result Fetched Fault) → IsPlain a → Own a → Same o x x'
+    → Both (join o x) (join o x') (fetched (join o x) course a) (fetched (join o x') course a)
 unfolding IsPlain Own
-fetched_same o x x' touched (Err fault) plain own same = both_fault o x x' touched fault own same
-fetched_same o x x' touched (Ok f) plain own same = both_second _ _ f.gateway _ _ _ _ plain (decoded_same o x x' touched f.code (meaning_of f.code) same)
+fetched_same o x x' course (Err fault) plain own same = both_fault o x x' course fault own same
+fetched_same o x x' course (Ok f) plain own same = both_second _ _ f.gateway _ _ _ _ plain (decoded_same o x x' course f.code (meaning_of f.code) same)
 
 -- a fetch of Non-secure code, by whether it begins in Non-secure memory
 fetches_same : (o : Open) (x x' : Rest) → Same o x x' → Both (join o x) (join o x') (fetches (join o x) (fetch_in (join o x))) (fetches (join o x') (fetch_in (join o x')))
@@ -76,7 +78,7 @@ fetches_same o x x' same = go (is_own_fetch (open_map o) NonSecure pc) where
   inside =
       subst (λ (a : Result Fetched Fault). Both (join o x) (join o x') (fetches (join o x) (own_touch (own_fetch (join_bus o x) k pc))) (fetches (join o x') (own_touch a)))
       (own_fetch_same k o x x' k.secure_privileged k'.secure_privileged pc same.bytes)
-      (fetched_same o x x' (is_entry_fault (own_fetch (join_bus o x) k pc)) (own_fetch (join_bus o x) k pc) (own_fetch_plain (join_bus o x) k pc) (own_fetch_own (join_bus o x) k pc refl) same)
+      (fetched_same o x x' (course_in (join o x) (is_entry_fault (own_fetch (join_bus o x) k pc))) (own_fetch (join_bus o x) k pc) (own_fetch_plain (join_bus o x) k pc) (own_fetch_own (join_bus o x) k pc refl) same)
 
   go : (t : Bool) → Both (join o x) (join o x') (fetches (join o x) (cond t (own_touch (own_fetch (join_bus o x) k pc)) (record { touched = true; answer = gateway_fetch (join_bus o x) k pc })))
       (fetches (join o x') (cond t (own_touch (own_fetch (join_bus o x') k' pc)) (record { touched = true; answer = gateway_fetch (join_bus o x') k' pc })))
@@ -96,7 +98,7 @@ touching_resting o x sleep event before e t = record { touched = t.touched; seen
 instructs_same : (o : Open) (x x' : Rest) → Same o x x' → Both (join o x) (join o x') (instructs (join o x)) (instructs (join o x'))
 instructs_same o x x' same =
     both_cond _ _ o.registers.t _ _ _ _ (fetches_same o x x' same)
-    (both_fault o x x' (looks NonSecure (join o x)) (unready (looks NonSecure (join o x)) NonSecure) (own_unready (looks NonSecure (join o x)) NonSecure) same)
+    (both_fault o x x' (course_in (join o x) (looks NonSecure (join o x))) (unready (looks NonSecure (join o x)) NonSecure) (own_unready (looks NonSecure (join o x)) NonSecure) same)
 
 -- ---- exceptions and sleep
 
@@ -116,6 +118,11 @@ resting_kept o x sleep event r k = record {
   timer = k.timer;
 }
 
+resting_stops : (o : Open) (x : Rest) (sleep : Sleep) (event : Bool) (e : Ended) → Stops (join (resting o sleep event) x) e → Stops (join o x) e
+unfolding resting
+resting_stops o x sleep event e h =
+    record { hidden = h.hidden; board = h.board; kept = λ u. resting_kept o x sleep event e.state (h.kept u) }
+
 -- a step from such a part is one from that part
 rested_both : (o : Open) (x x' : Rest) (sleep : Sleep) (event : Bool) (e e' : Ended) → Both (join (resting o sleep event) x) (join (resting o sleep event) x') e e' → Both (join o x) (join o x') e e'
 unfolding resting
@@ -127,15 +134,7 @@ rested_both o x x' sleep event e e' (Go h) =
       kept = resting_kept o x sleep event e.state h.kept;
       kept' = resting_kept o x' sleep event e'.state h.kept';
     })
-rested_both o x x' sleep event e e' (Lock h) =
-    Lock (record {
-      locked = h.locked;
-      locked' = h.locked';
-      board = h.board;
-      board' = h.board';
-      kept = λ u. resting_kept o x sleep event e.state (h.kept u);
-      kept' = λ u. resting_kept o x' sleep event e'.state (h.kept' u);
-    })
+rested_both o x x' sleep event e e' (Stop h h') = Stop (resting_stops o x sleep event e h) (resting_stops o x' sleep event e' h')
 rested_both o x x' sleep event e e' (Touch t t' a a') =
     Touch (λ before is. touching_resting o x sleep event before e (t before is)) (λ before is. touching_resting o x' sleep event before e' (t' before is)) a a'
 
@@ -156,15 +155,18 @@ sleeps_same o x x' Awake same = instructs_same o x x' same
 sleeps_same o x x' Wfi same = both_cond _ _ (is_woken (join o x)) _ _ _ _ (wakes_same o x x' o.event same) (idles_same o x x' same)
 sleeps_same o x x' Wfe same = both_cond _ _ (o.event || is_woken (join o x)) _ _ _ _ (wakes_same o x x' false same) (idles_same o x x' same)
 
-entered_same : (o : Open) (x x' : Rest) → Same o x x' → Both (join o x) (join o x') (is_entered (join o x)) (is_entered (join o x'))
+taken_same : (o : Open) (x x' : Rest) → Same o x x' → Both (join o x) (join o x') (takes (join o x)) (takes (join o x'))
 unfolding resting
-entered_same o x x' same =
-    both_lock o (resting o Awake o.event) x x' x x' false [] (left_again o x x' o (resting o Awake o.event) x x' refl refl refl refl (left_all o x x' same))
+taken_same o x x' same =
+    let p = resting o Awake o.event in
+    let h = left_again o x x' o p x x' refl refl refl refl (left_all o x x' same) in
+    Stop (stops_preempted (join o x) (join p x) (course_in (join o x) false) o.registers.pc [] refl (kept_of o x p x h.leaves))
+    (stops_preempted (join o x') (join p x') (course_in (join o x') false) o.registers.pc [] refl (kept_of o x' p x' h.leaves'))
 
 ended_same : (o : Open) (x x' : Rest) → Same o x x' → Both (join o x) (join o x') (ended (join o x)) (ended (join o x'))
 unfolding ended
 ended_same o x x' same =
-    both_cond _ _ (takes_first o.exceptions o.masks) _ _ _ _ (entered_same o x x' same) (sleeps_same o x x' o.sleep same)
+    both_cond _ _ (takes_first o.exceptions o.masks) _ _ _ _ (taken_same o x x' same) (sleeps_same o x x' o.sleep same)
 
 -- a step of twins, after what it begins with
 pub twin_ended : (s s' : State) → Twins s s' → Both s s' (ended s) (ended s')

@@ -1,0 +1,205 @@
+-- Entries and returns of Non-secure code, of one run: where they don't look at Secure state, they keep the Secure side.
+use Rattle.std.proofs.Common.{◌≡◌, ℕ, Bool, true, false, ◌||◌, cond, List, Result, Ok, Err, refl, sym, ap, ◌∙◌, subst}
+use Rattle.std.specs.FinMap.{get}
+use Rattle.tz_table.specs.declared.units.Side.{Side}
+use Rattle.tz_table.specs.declared.units.Side.TheVariants.{Secure, NonSecure}
+use Rattle.tz_table.specs.declared.units.Code.{Code}
+use Rattle.tz_model.specs.declared.report.Fault.{Fault}
+use Rattle.tz_model.specs.declared.report.Fault.TheVariants as faults_of
+use Rattle.tz_model.specs.declared.report.Store.{Store}
+use Rattle.tz_regs.specs.declared.parts.Core.{Core}
+use Rattle.tz_state.specs.Memory.{Memory}
+use Rattle.tz_state.specs.Attribution.{MapState}
+use Rattle.tz_state.specs.Slots.{ExceptionsValue}
+use Rattle.tz_state.specs.State.{Bus, State, map_of, with_core, with_memory}
+use Rattle.tz_frames.specs.Machine.{Framed, framed}
+use Rattle.tz_entry.specs.declared.entering.Entered.{Entered}
+use Rattle.tz_entry.specs.declared.entering.Entered.TheVariants as entered
+use Rattle.tz_entry.specs.declared.leaving.Left.{Left}
+use Rattle.tz_entry.specs.declared.leaving.Left.TheVariants as left
+use Rattle.tz_entry.specs.Status.{Raised, faulted}
+use Rattle.tz_entry.specs.Enter.{Done, enters}
+use Rattle.tz_entry.specs.Leave.{Leaving, leaves}
+use Rattle.tz_sem.specs.declared.ending.Course.{Course}
+use Rattle.tz_sem.specs.Ended.{Passed, Ended, with_stores}
+use Rattle.tz_sem.specs.Taking.{state_of, locks, framed_in, taken_by, after_entry, preempted, goes_on_at, passed_by, after_raise, faults, left_by, after_return, returns}
+use Rattle.tz_sem.specs.Exchange.{comes_back}
+use Rattle.tz_twin.specs.Integrity.{KeepsBytes}
+use Rattle.tz_twin.proofs.Bytes.{keeps_then}
+use Rattle.tz_twin.proofs.Slots.{then}
+use Rattle.tz_twin.proofs.Faults.{is_own}
+use Rattle.tz_twin.proofs.Both.{Kept, Stops}
+use Rattle.tz_twin.proofs.Holding.{KeptBy, entered_touched, left_touched, enters_held, leaves_held, enters_kept, leaves_kept, faulted_kept, faulted_side}
+use Rattle.tz_twin.proofs.Halting.{Halts, halts_preempted, halts_faults, halts_returns, halts_comes_back}
+
+-- the map of what is kept is the one before
+same_map : (s0 s : State) → Kept s0 s → map_of s ≡ map_of s0
+same_map s0 s k = λ i. record { regions = (k.keeps.board i).regions; sau = k.keeps.sau i }
+
+-- what an entry or a return leaves after what was kept before
+pub kept_then : (s0 s : State) (c : Core) (e : ExceptionsValue) (b : Bus) → Kept s0 s → KeptBy s.core c s.exceptions e (map_of s) s.bus.memory b.memory → b ≡ with_memory s.bus b.memory
+    → Kept s0 (state_of c e b)
+kept_then s0 s c e b k h held = record {
+  keeps = record {
+    bytes = keeps_then (map_of s0) s0.bus.memory s.bus.memory b.memory k.keeps.bytes (subst (λ m. KeepsBytes m s.bus.memory b.memory) (same_map s0 s k) h.bytes);
+    stacks = h.stacks ∙ k.keeps.stacks;
+    masks = h.masks ∙ k.keeps.masks;
+    status = h.status ∙ k.keeps.status;
+    exceptions = then s0.exceptions s.exceptions e k.keeps.exceptions h.exceptions;
+    sau = ap (λ (b : Bus). b.sau) held ∙ k.keeps.sau;
+    mpu = ap (λ (b : Bus). b.mpu_s) held ∙ k.keeps.mpu;
+    board = ap (λ (b : Bus). b.board) held ∙ k.keeps.board;
+  };
+  timer = h.timer ∙ k.timer;
+}
+
+-- what neither the monitor nor a lock tells
+kept_locked : (s r : State) → Kept s r → Kept s (record r { core = record r.core { run = record r.core.run { locked = true } } })
+kept_locked s r k = record {
+  keeps = record {
+    bytes = k.keeps.bytes;
+    stacks = k.keeps.stacks;
+    masks = k.keeps.masks;
+    status = k.keeps.status;
+    exceptions = k.keeps.exceptions;
+    sau = k.keeps.sau;
+    mpu = k.keeps.mpu;
+    board = k.keeps.board;
+  };
+  timer = k.timer;
+}
+
+kept_released : (s r : State) (b : Bus) → b.sau ≡ r.bus.sau → b.mpu_s ≡ r.bus.mpu_s → b.board ≡ r.bus.board → b.memory ≡ r.bus.memory → Kept s r → Kept s (record r { bus = b })
+kept_released s r b sau mpu board memory k = record {
+  keeps = record {
+    bytes = λ a e. ap (λ (n : Memory). get n a) memory ∙ k.keeps.bytes a e;
+    stacks = k.keeps.stacks;
+    masks = k.keeps.masks;
+    status = k.keeps.status;
+    exceptions = k.keeps.exceptions;
+    sau = sau ∙ k.keeps.sau;
+    mpu = mpu ∙ k.keeps.mpu;
+    board = board ∙ k.keeps.board;
+  };
+  timer = k.timer;
+}
+
+or_right : (t u : Bool) → (t || u) ≡ false → u ≡ false
+or_right true u e = cc
+or_right false u e = e
+
+or_left : (t u : Bool) → (t || u) ≡ false → t ≡ false
+or_left true u e = cc
+or_left false u e = refl
+
+kept_taken_by : (s0 s : State) (course : Course) (r : Entered) → (entered_touched r ≡ false → Kept s0 s) → (taken_by s course r).ending.touched ≡ false → Kept s0 (taken_by s course r).state
+kept_taken_by s0 s course (entered.Taken given touched) k e = kept_released s0 s _ refl refl refl refl (k (or_right course.touched touched e))
+kept_taken_by s0 s course (entered.Lockup touched) k e = kept_locked s0 s (k (or_right course.touched touched e))
+
+pub kept_preempted : (s0 s : State) (course : Course) (back : ℕ) → s.core.run.side ≡ NonSecure → Kept s0 s → (preempted s course back).ending.touched ≡ false → Kept s0 (preempted s course back).state
+unfolding preempted
+kept_preempted s0 s course back is k e =
+    let f = framed_in course.negative s in
+    let d = enters framed s.bus.board.profile s.core s.exceptions f back in
+    kept_taken_by s0 (state_of d.core d.exceptions d.held.bus) course d.result
+    (λ u. kept_then s0 s d.core d.exceptions d.held.bus k (enters_kept s.bus.board.profile s.core s.exceptions f back is u) (enters_held s.bus.board.profile s.core s.exceptions f back)) e
+
+kept_left_by : (s0 s : State) (course : Course) (code : Code) (r : Left) → (left_touched r ≡ false → Kept s0 s) → (left_by s course code r).ending.touched ≡ false → Kept s0 (left_by s course code r).state
+kept_left_by s0 s course code (left.Resumed touched) k e = kept_released s0 s _ refl refl refl refl (k (or_right course.touched touched e))
+kept_left_by s0 s course code (left.Chained given touched) k e = kept_released s0 s _ refl refl refl refl (k (or_right course.touched touched e))
+kept_left_by s0 s course code (left.Lockup touched) k e = kept_locked s0 s (k (or_right course.touched touched e))
+
+kept_returns : (s0 s : State) (course : Course) (code : Code) (value : ℕ) → s.core.run.side ≡ NonSecure → Kept s0 s → (returns s course code value).ending.touched ≡ false → Kept s0 (returns s course code value).state
+unfolding returns
+kept_returns s0 s course code value is k e =
+    let f = framed_in course.negative s in
+    let l = leaves framed s.bus.board.profile s.core s.exceptions f value in
+    kept_left_by s0 (state_of l.core l.exceptions l.held.bus) course code l.result
+    (λ u. kept_then s0 s l.core l.exceptions l.held.bus k (leaves_kept s.bus.board.profile s.core s.exceptions f value is u) (leaves_held s.bus.board.profile s.core s.exceptions f value)) e
+
+-- ---- a fault
+
+passed_side : (fault : Fault) (c : Core) → (passed_by fault c).run.side ≡ c.run.side
+passed_side faults_of.Call c = refl
+passed_side _ c = refl
+
+kept_passed : (s0 : State) (fault : Fault) (c : Core) (e : ExceptionsValue) (b : Bus) → Kept s0 (state_of c e b) → Kept s0 (state_of (passed_by fault c) e b)
+kept_passed s0 fault c e b k = record {
+  keeps = record {
+    bytes = k.keeps.bytes;
+    stacks = stacks fault ∙ k.keeps.stacks;
+    masks = masks fault ∙ k.keeps.masks;
+    status = status fault ∙ k.keeps.status;
+    exceptions = k.keeps.exceptions;
+    sau = k.keeps.sau;
+    mpu = k.keeps.mpu;
+    board = k.keeps.board;
+  };
+  timer = k.timer;
+} where
+  stacks : (fault : Fault) → (passed_by fault c).stacks_s ≡ c.stacks_s
+  stacks faults_of.Call = refl
+  stacks _ = refl
+
+  masks : (fault : Fault) → (passed_by fault c).masks.s ≡ c.masks.s
+  masks faults_of.Call = refl
+  masks _ = refl
+
+  status : (fault : Fault) → (passed_by fault c).status.s ≡ c.status.s
+  status faults_of.Call = refl
+  status _ = refl
+
+kept_raised : (s0 s : State) (course : Course) (fault : Fault) (r : Raised) → r.core.run.side ≡ NonSecure → Kept s0 (state_of r.core r.exceptions s.bus)
+    → (after_raise s course fault r).ending.touched ≡ false → Kept s0 (after_raise s course fault r).state
+kept_raised s0 s course fault r is k e = go r.locks e where
+  locked : Passed
+  locked = locks (state_of r.core r.exceptions s.bus) course.touched
+
+  entry : Passed
+  entry = preempted (state_of (passed_by fault r.core) r.exceptions s.bus) course (goes_on_at fault s.core.registers.pc)
+
+  go : (t : Bool) → (cond t locked entry).ending.touched ≡ false → Kept s0 (cond t locked entry).state
+  go true h = kept_locked s0 (state_of r.core r.exceptions s.bus) k
+  go false h =
+      kept_preempted s0 (state_of (passed_by fault r.core) r.exceptions s.bus) course (goes_on_at fault s.core.registers.pc) (passed_side fault r.core ∙ is)
+      (kept_passed s0 fault r.core r.exceptions s.bus k) h
+
+pub kept_faults : (s0 s : State) (course : Course) (fault : Fault) → s.core.run.side ≡ NonSecure → is_own fault ≡ true → Kept s0 s → (faults s course fault).ending.touched ≡ false
+    → Kept s0 (faults s course fault).state
+unfolding faults
+kept_faults s0 s course fault is own k e =
+    let r = faulted s.core.run.side fault s.core s.exceptions in
+    let h = subst (λ (side : Side). KeptBy s.core (faulted side fault s.core s.exceptions).core s.exceptions (faulted side fault s.core s.exceptions).exceptions (map_of s) s.bus.memory s.bus.memory)
+    (sym is) (faulted_kept (map_of s) s.bus.memory fault s.core s.exceptions own) in
+    kept_raised s0 s course fault r (faulted_side fault s.core s.exceptions ∙ is) (kept_then s0 s r.core r.exceptions s.bus k h refl) e
+
+-- ---- as ends of a step
+
+-- on the board of a state
+on_board : (s0 s : State) → Kept s0 s → s.bus.board ≡ s0.bus.board
+on_board s0 s k = k.keeps.board
+
+pub stops_preempted : (s0 s : State) (course : Course) (back : ℕ) (stores : List Store) → s.core.run.side ≡ NonSecure → Kept s0 s → Stops s0 (with_stores stores (preempted s course back))
+stops_preempted s0 s course back stores is k =
+    let h = halts_preempted s course back in
+    record { hidden = h.hidden; board = h.board ∙ on_board s0 s k; kept = λ e. kept_preempted s0 s course back is k e }
+
+pub stops_faults : (s0 s : State) (course : Course) (fault : Fault) (stores : List Store) → s.core.run.side ≡ NonSecure → is_own fault ≡ true → Kept s0 s → Stops s0 (with_stores stores (faults s course fault))
+stops_faults s0 s course fault stores is own k =
+    let h = halts_faults s course fault in
+    record { hidden = h.hidden; board = h.board ∙ on_board s0 s k; kept = λ e. kept_faults s0 s course fault is own k e }
+
+pub stops_returns : (s0 s : State) (course : Course) (code : Code) (value : ℕ) (stores : List Store) → s.core.run.side ≡ NonSecure → Kept s0 s → Stops s0 (with_stores stores (returns s course code value))
+stops_returns s0 s course code value stores is k =
+    let h = halts_returns s course code value in
+    record { hidden = h.hidden; board = h.board ∙ on_board s0 s k; kept = λ e. kept_returns s0 s course code value is k e }
+
+differs : (t : Bool) → t ≡ true → t ≡ false → ⊥
+differs true e f = cc
+differs false e f = cc
+
+-- FNC_RETURN has looked at Secure state
+pub stops_comes_back : (s0 s : State) (before : Core) (course : Course) (code : Code) (stores : List Store) → s.bus.board ≡ s0.bus.board → Stops s0 (with_stores stores (comes_back before s course code))
+stops_comes_back s0 s before course code stores board =
+    let h = halts_comes_back before s course code in
+    record { hidden = h.hidden; board = h.board ∙ board; kept = λ e. absurd (differs (comes_back before s course code).ending.touched (h.touched refl) e) }
