@@ -1,0 +1,13 @@
+//! Exceptions as they are raised, taken and left (DDI0553, chapter B3): what a fault sets and pends, entry and
+//! return, over any `Frames`.
+//!
+//! Each call is its definition in `tz_entry`. Nothing here reaches memory but through the frames.
+#![tactic(auto)]
+
+mod choice;
+mod raise;
+mod status;
+
+pub use choice::takes;
+pub use raise::raise_fault;
+pub use tz_entry::{Entered, Left};
