@@ -5,9 +5,14 @@
 #![tactic(auto)]
 
 mod choice;
+mod choices;
+mod entering;
 mod raise;
+mod sides;
 mod status;
+mod vector;
 
 pub use choice::takes;
+pub use entering::enter;
 pub use raise::raise_fault;
 pub use tz_entry::{Entered, Left};
