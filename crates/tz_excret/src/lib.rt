@@ -7,12 +7,18 @@
 mod choice;
 mod choices;
 mod entering;
+mod frame;
+mod leaving;
+mod noted;
 mod raise;
+mod release;
 mod sides;
 mod status;
 mod vector;
 
 pub use choice::takes;
 pub use entering::enter;
+pub use leaving::leave;
+pub use noted::is_exc_return;
 pub use raise::raise_fault;
 pub use tz_entry::{Entered, Left};

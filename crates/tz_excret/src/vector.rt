@@ -33,7 +33,9 @@ fn clear_scratch(registers: &mut Registers)
     ensures { registers.new ≡ scratch_cleared registers.old }
 {
     let r = registers.general;
-    registers.general = [0, 0, 0, 0, r[4], r[5], r[6], r[7], r[8], r[9], r[10], r[11], 0];
+    registers.general = [
+        0, 0, 0, 0, r[4], r[5], r[6], r[7], r[8], r[9], r[10], r[11], 0,
+    ];
     registers.apsr = NO_FLAGS;
 }
 
