@@ -1,0 +1,2 @@
+pub mod Banked
+pub mod Tries

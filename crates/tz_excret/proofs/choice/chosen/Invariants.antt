@@ -1,0 +1,4 @@
+use Rattle.tz_excret.proofs.choice.chosen.Given as goal
+
+abbrev pub ghosts-chosen_counted : goal.ghosts-chosen_counted
+ghosts-chosen_counted a = record { name = a.blank.name; parts = a.blank.parts }

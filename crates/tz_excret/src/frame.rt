@@ -1,0 +1,159 @@
+//! The frames of a return (DDI0553, `PopStack`).
+
+ghost use Rattle.std.specs.Prelude.{◌≡◌, ◌≤◌};
+ghost use Rattle.tz_regs.specs.Special.{apsr_from};
+ghost use Rattle.tz_entry.specs.Registers.{number_in, general_of, resumed_registers};
+ghost use Rattle.tz_entry.specs.Leave.{has_callee, returns_to_process, returns_privileged, return_sp, unstacked, frames_size, sp_above, resumed, modes_agree};
+
+use crate::sides::side_by;
+use tz_entry::{Basic, Callee, Returning, Unstacked};
+use tz_frames::Frames;
+use tz_regs::{Apsr, Core, Registers};
+use tz_stack::{StackFault, pop_additional, pop_basic, set_side_sp};
+
+/// Whether the additional frame was written: Secure code was interrupted, by a Non-secure exception first or last.
+fn has_callee(returning: &Returning) -> bool
+    ensures { result ≡ has_callee returning.now }
+{
+    returning.secure && (!returning.es || !returning.dcrs)
+}
+
+/// Whether the frames are on a process stack.
+fn returns_to_process(core: &Core, returning: &Returning) -> bool
+    ensures { result ≡ returns_to_process core.now returning.now }
+{
+    returning.thread && core.stacks(side_by(returning.secure)).spsel
+}
+
+/// Whether they are read with privilege.
+fn returns_privileged(core: &Core, returning: &Returning) -> bool
+    ensures { result ≡ returns_privileged core.now returning.now }
+{
+    !returning.thread || !core.stacks(side_by(returning.secure)).npriv
+}
+
+/// The stack pointer that the frames begin at.
+fn return_sp(core: &Core, returning: &Returning) -> u32
+    ensures { result ≡ return_sp core.now returning.now }
+{
+    core.sp(
+        side_by(returning.secure),
+        returns_to_process(core, returning),
+    )
+}
+
+/// Reads the frames of a return: the additional one, where there is one, and the basic one above it.
+///
+/// `Access` with the fault of the first word that can't be read, `Signature` where the additional frame doesn't begin
+/// with the integrity signature.
+#[tactic(auto, unfolding(tz_entry::specs::Leave::unstacked))]
+pub(crate) fn unstack<P: Frames>(
+    core: &Core,
+    port: &mut P,
+    returning: &Returning,
+) -> Result<Unstacked, StackFault>
+    ensures read { result ≡ unstacked P.answer core.now returning.now (P.held port.old) }
+    ensures kept { P.held port.new ≡ P.held port.old }
+    ensures room { P.room port.new ≡ P.room port.old }
+    ensures lent { P.lent port.new ≡ P.lent port.old }
+{
+    let side = side_by(returning.secure);
+    let privileged = returns_privileged(core, returning);
+    let sp = return_sp(core, returning);
+    if has_callee(returning) {
+        let callee = pop_additional(port, sp, privileged)?;
+        let basic = pop_basic(port, sp.wrapping_add(40), side, privileged)?;
+        Ok(Unstacked {
+            callee: Some(callee),
+            basic,
+        })
+    } else {
+        let basic = pop_basic(port, sp, side, privileged)?;
+        Ok(Unstacked {
+            callee: None,
+            basic,
+        })
+    }
+}
+
+/// The flags in RETPSR.
+fn flags_of(retpsr: u32) -> Apsr
+    ensures { result ≡ apsr_from retpsr }
+{
+    Apsr {
+        n: retpsr / 0x8000_0000 % 2 == 1,
+        z: retpsr / 0x4000_0000 % 2 == 1,
+        c: retpsr / 0x2000_0000 % 2 == 1,
+        v: retpsr / 0x1000_0000 % 2 == 1,
+        q: retpsr / 0x0800_0000 % 2 == 1,
+    }
+}
+
+/// R0 to R12 of what was read; R4 to R11 are the old ones where no additional frame was.
+fn general_of(old: &[u32; 13], callee: &Option<Callee>, b: &Basic) -> [u32; 13]
+    ensures { result ≡ general_of old.now callee.now b.now }
+{
+    match callee {
+        None => [
+            b.r0, b.r1, b.r2, b.r3, old[4], old[5], old[6], old[7], old[8], old[9], old[10],
+            old[11], b.r12,
+        ],
+        Some(k) => [
+            b.r0, b.r1, b.r2, b.r3, k.r4, k.r5, k.r6, k.r7, k.r8, k.r9, k.r10, k.r11, b.r12,
+        ],
+    }
+}
+
+/// Writes the registers of the code that goes on.
+fn resume_registers(registers: &mut Registers, unstacked: &Unstacked)
+    ensures { registers.new ≡ resumed_registers registers.old unstacked.now.callee unstacked.now.basic }
+{
+    let basic = &unstacked.basic;
+    let retpsr = basic.retpsr;
+    registers.general = general_of(&registers.general, &unstacked.callee, basic);
+    registers.lr = basic.lr;
+    registers.pc = basic.back / 2 * 2;
+    registers.apsr = flags_of(retpsr);
+    registers.it = (retpsr / 0x0200_0000 % 4 + 4 * (retpsr / 0x400 % 64)) as u8;
+    registers.t = retpsr / 0x0100_0000 % 2 == 1;
+    registers.ipsr = (retpsr % 0x200) as u16;
+}
+
+/// How many bytes the frames have.
+fn frames_size(callee: &Option<Callee>) -> u32
+    ensures is { result ≡ frames_size callee.now }
+    ensures few { result ≤ 72 }
+{
+    match callee {
+        None => 32,
+        Some(_) => 72,
+    }
+}
+
+/// The stack pointer above the frames.
+fn sp_above(sp: u32, unstacked: &Unstacked) -> u32
+    ensures { result ≡ sp_above sp unstacked.now }
+{
+    sp.wrapping_add(frames_size(&unstacked.callee) + 4 * (unstacked.basic.retpsr / 0x200 % 2))
+}
+
+/// The code that was interrupted goes on.
+pub(crate) fn resume(core: &mut Core, returning: &Returning, unstacked: &Unstacked)
+    ensures { core.new ≡ resumed returning.now unstacked.now core.old }
+{
+    let side = side_by(returning.secure);
+    let process = returns_to_process(core, returning);
+    let above = sp_above(return_sp(core, returning), unstacked);
+    set_side_sp(core, side, process, above);
+    resume_registers(&mut core.registers, unstacked);
+    core.run.side = side;
+    core.event = true;
+}
+
+/// Whether the mode that a value returns to is that of the number in a frame: Thread mode with 0.
+pub(crate) fn modes_agree(returning: &Returning, basic: &Basic) -> bool
+    ensures { result ≡ modes_agree returning.now basic.now }
+{
+    let zero = basic.retpsr % 0x200 == 0;
+    if returning.thread { zero } else { !zero }
+}
