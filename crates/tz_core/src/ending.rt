@@ -2,24 +2,62 @@
 
 ghost use Rattle.std.specs.Prelude.{◌≡◌};
 ghost use Rattle.arrayvec.specs.ArrayVec.{array_vec_len};
-ghost use Rattle.tz_sem.specs.Ended.{kind_of};
+ghost use Rattle.tz_sem.specs.Ended.{kind_of_entry, kind_of, lr_of, kind_without};
 
 use crate::changes::tell_changes;
 use crate::running::Machine;
 use tz_model::{CrossKind, Report, Side, StepKind, Way};
-use tz_regs::Before;
+use tz_regs::{Before, Core};
 use tz_sem::{Cause, Ending};
 
-/// The kind of a crossing, by the side that the step started on and by what it did.
-fn kind_of(start: Side, cause: Cause) -> Option<CrossKind>
-    ensures { result ≡ kind_of start cause }
+/// The kind of a crossing that takes a Non-secure exception: EXC_RETURN.S in LR tells that Secure code was
+/// interrupted.
+fn kind_of_entry(lr: u32) -> CrossKind
+    ensures { result ≡ kind_of_entry lr }
+{
+    if lr / 0x40 % 2 == 1 {
+        CrossKind::Preempt
+    } else {
+        CrossKind::Chain
+    }
+}
+
+/// The kind of a crossing, by the side that the step started on, by what it did and by LR after it.
+fn kind_of(start: Side, cause: Cause, lr: u32) -> Option<CrossKind>
+    ensures { result ≡ kind_of start cause lr }
 {
     match start {
         Side::NonSecure => Some(CrossKind::Refused),
         Side::Secure => match cause {
             Cause::Returned => Some(CrossKind::Return),
-            Cause::Went => None,
+            Cause::Called => Some(CrossKind::Call),
+            Cause::Resumed => Some(CrossKind::ExcReturn),
+            Cause::Taken => Some(kind_of_entry(lr)),
+            Cause::Went | Cause::CameBack => None,
         },
+    }
+}
+
+/// LR, where an exception was taken.
+fn lr_of(cause: Cause, lr: u32) -> Option<u32>
+    ensures { result ≡ lr_of cause lr }
+{
+    match cause {
+        Cause::Taken => Some(lr),
+        _ => None,
+    }
+}
+
+/// What a step was in which no instruction ran.
+fn kind_without(core: &Core, cause: Cause) -> StepKind
+    ensures { result ≡ kind_without core.now cause }
+{
+    match cause {
+        Cause::Taken => StepKind::Taken {
+            number: core.registers.ipsr,
+            lr: core.registers.lr,
+        },
+        _ => StepKind::Idle,
     }
 }
 
@@ -34,11 +72,12 @@ impl Machine {
         if !ending.touched || self.side() == Side::Secure {
             return None;
         }
-        match kind_of(before.side, ending.cause) {
+        let lr = self.core.registers.lr;
+        match kind_of(before.side, ending.cause, lr) {
             Some(kind) => Some(Way {
                 kind,
                 number: self.core.registers.ipsr,
-                lr: None,
+                lr: lr_of(ending.cause, lr),
             }),
             None => None,
         }
@@ -67,7 +106,7 @@ impl Machine {
                 tell_changes(&mut report.changes, before, &self.core);
             }
             None => {
-                report.kind = StepKind::Idle;
+                report.kind = kind_without(&self.core, ending.cause);
                 report.stores.clear();
             }
         }

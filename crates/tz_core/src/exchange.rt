@@ -1,30 +1,166 @@
-//! The value that a Secure call leaves for its return, and what a load that finds it takes back.
+//! Branches between the sides and back: BX, BXNS, BLXNS, FNC_RETURN and EXC_RETURN.
 
-ghost use Rattle.std.specs.Prelude.{◌≡◌};
-ghost use Rattle.tz_sem.specs.Step.{is_fnc_return, core_back};
+ghost use Rattle.std.specs.Prelude.{◌≡◌, ◌+◌, Some};
+ghost use Rattle.tz_model.specs.Words.{wrap};
+ghost use Rattle.tz_sem.specs.declared.ending.Cause.{Cause as Ends};
+ghost use Rattle.tz_sem.specs.Exchange.{core_back, looking};
+ghost use Rattle.tz_sem.specs.Step.{is_call};
 
-use tz_model::{Fault, Outcome};
+use crate::changes::Stores;
+use crate::port::CorePort;
+use crate::running::{Machine, next_of};
+use tz_excret::is_exc_return;
+use tz_frames::BusFrames;
+use tz_gate::{branch_ns, call_ns, function_return, is_fnc_return};
+use tz_model::{Code, Insn, Side};
 use tz_regs::Core;
+use tz_sem::{Cause, Course, Ending};
 
-/// FNC_RETURN.
-pub(crate) fn is_fnc_return(target: u32) -> bool
-    ensures { result ≡ is_fnc_return target }
+/// An instruction ran, and did this to the side that runs.
+pub(crate) fn ran_by(cause: Cause, course: Course, code: &Code) -> Ending
+    ensures { result ≡ record { touched = course.touched; cause = cause; ran = Some code.now } }
 {
-    target == 0xfeff_fffe || target == 0xfeff_ffff
+    Ending {
+        touched: course.touched,
+        cause,
+        ran: Some(*code),
+    }
 }
 
-/// Gives a core back what it was before a load of PC that found FNC_RETURN, but for what accesses write of it.
-pub(crate) fn take_back(core: &mut Core, outcome: &Result<Outcome, Fault>, before: &Core)
-    ensures { core.new ≡ core_back outcome.now before.now core.old }
+/// The course of a step that looks at Secure state.
+fn looking(course: Course) -> Course
+    ensures { result ≡ looking course }
 {
-    match outcome {
-        Ok(Outcome::Exchange { target, .. }) => {
-            if is_fnc_return(*target) {
-                let status = core.status;
-                *core = *before;
-                core.status = status;
+    Course {
+        touched: true,
+        negative: course.negative,
+    }
+}
+
+/// Gives a core back what it was before an instruction, but for what accesses write of it.
+fn take_back(core: &mut Core, before: &Core)
+    ensures { core.new ≡ core_back before.now core.old }
+{
+    let status = core.status;
+    *core = *before;
+    core.status = status;
+}
+
+/// BLXNS, whose exchanges are calls.
+pub(crate) fn is_call(insn: &Insn) -> bool
+    ensures { result ≡ is_call insn.now }
+{
+    match *insn {
+        Insn::CallExchange { .. } => true,
+        _ => false,
+    }
+}
+
+impl Machine {
+    ghost use Rattle.tz_sem.specs.Exchange.{branch_ns as branches_ns, moves_to, comes_back, exchanged, calls};
+    ghost use Rattle.tz_sem.specs.Step.{past, length_of};
+
+    /// BXNS in Secure state.
+    fn branch_ns(&mut self, course: Course, code: &Code, target: u32) -> Ending
+        ensures { branches_ns self.old course code.now target ≡ record { state = self.new; ending = result } }
+    {
+        branch_ns(&mut self.core, target);
+        if target % 2 == 0 {
+            ran_by(Cause::Returned, course, code)
+        } else {
+            ran_by(Cause::Went, course, code)
+        }
+    }
+
+    /// Moves to a target of an exchange.
+    fn move_to(&mut self, course: Course, code: &Code, target: u32, ns: bool) -> Ending
+        ensures { moves_to self.old course code.now target ns ≡ record { state = self.new; ending = result } }
+    {
+        if ns {
+            return self.branch_ns(course, code, target);
+        }
+        let registers = &mut self.core.registers;
+        registers.pc = target / 2 * 2;
+        registers.t = target % 2 == 1;
+        ran_by(Cause::Went, course, code)
+    }
+
+    /// FNC_RETURN; where it faults the core is what it was before the instruction.
+    #[tactic(auto, unfolding(tz_sem::specs::Exchange::comes_back))]
+    fn come_back(&mut self, before: &Core, course: Course, code: &Code) -> Ending
+        ensures { comes_back before.now self.old course code.now ≡ record { state = self.new; ending = result } }
+    {
+        let mut frames = BusFrames {
+            vtor_s: self.core.status.s.vtor,
+            vtor_ns: self.core.status.ns.vtor,
+            secure_privileged: self.core.privileged(Side::Secure),
+            negative: course.negative,
+            room: 40,
+            bus: &mut self.bus,
+        };
+        match function_return(&mut self.core, &mut frames) {
+            Ok(()) => ran_by(Cause::CameBack, looking(course), code),
+            Err(fault) => {
+                take_back(&mut self.core, before);
+                self.fault(looking(course), fault)
             }
         }
-        _ => {}
+    }
+
+    /// Exchanges to a target: BX, BXNS and loads of PC.
+    #[tactic(auto, unfolding(tz_sem::specs::Exchange::exchanged))]
+    pub(crate) fn exchange(
+        &mut self,
+        insn: &Insn,
+        before: &Core,
+        course: Course,
+        code: &Code,
+        target: u32,
+        ns: bool,
+    ) -> Ending
+        ensures { exchanged before.now self.old (past insn.now self.old) course code.now target ns ≡ record { state = self.new; ending = result } }
+    {
+        if is_fnc_return(target) {
+            return self.come_back(before, course, code);
+        }
+        self.pass(insn);
+        if self.core.handler() && is_exc_return(target) {
+            return self.return_by(course, code, target);
+        }
+        self.move_to(course, code, target, ns)
+    }
+
+    /// BLXNS: calls Non-secure code. Its two stores are those of the step.
+    #[tactic(auto, unfolding(tz_sem::specs::Exchange::calls))]
+    pub(crate) fn call(
+        &mut self,
+        insn: &Insn,
+        course: Course,
+        code: &Code,
+        target: u32,
+        stores: &mut Stores,
+    ) -> Ending
+        ensures { calls (past insn.now) self.old course code.now target (wrap (self.old.core.registers.pc + length_of code.now)) ≡ record { state = self.new; stores = stores.new.items; ending = result } }
+    {
+        stores.clear();
+        let next = next_of(self.core.registers.pc, code);
+        let asker = self.asker();
+        let mut port = CorePort {
+            asker,
+            ipsr: self.core.registers.ipsr,
+            status: self.core.status,
+            exceptions: &mut self.exceptions,
+            bus: &mut self.bus,
+            stores,
+        };
+        let called = call_ns(&mut self.core, &mut port, target, next);
+        self.core.status = port.status;
+        match called {
+            Ok(()) => {
+                self.pass(insn);
+                ran_by(Cause::Called, course, code)
+            }
+            Err(fault) => self.fault(course, fault),
+        }
     }
 }

@@ -4,7 +4,6 @@ ghost use Rattle.std.specs.Prelude.{◌≡◌, []};
 ghost use Rattle.arrayvec.specs.ArrayVec.{array_vec_len};
 
 use crate::changes::Stores;
-use crate::exchange::take_back;
 use crate::port::CorePort;
 use crate::running::Machine;
 use tz_model::{Fault, Insn, Outcome};
@@ -14,8 +13,7 @@ impl Machine {
     ghost use Rattle.tz_exec.specs.declared.family.Family.TheVariants.{Alu, LoadStore, Branch, System};
     ghost use Rattle.tz_exec.specs.Local.{local_of};
     ghost use Rattle.tz_exec.specs.Branch.{plan_branch};
-    ghost use Rattle.tz_exec.specs.Exec.{family_of, executed_by, executed};
-    ghost use Rattle.tz_sem.specs.Step.{taken_back};
+    ghost use Rattle.tz_exec.specs.Exec.{executed_by, executed};
 
     /// Data processing.
     fn data(&mut self, insn: &Insn) -> Result<Outcome, Fault>
@@ -24,15 +22,12 @@ impl Machine {
         tz_alu::execute(insn, &mut self.core)
     }
 
-    /// Loads and stores; what a load of PC wrote that found FNC_RETURN is taken back.
+    /// Loads and stores.
     fn data_access(&mut self, insn: &Insn, stores: &mut Stores) -> Result<Outcome, Fault>
         requires { array_vec_len stores.old ≡ 0 }
-        ensures { taken_back LoadStore self.old.core (executed_by LoadStore self.old insn.now) ≡ record { state = self.new; stores = stores.new.items; outcome = result } }
+        ensures { executed_by LoadStore self.old insn.now ≡ record { state = self.new; stores = stores.new.items; outcome = result } }
     {
-        let before = self.core;
-        let outcome = self.run_load_store(insn, stores);
-        take_back(&mut self.core, &outcome, &before);
-        outcome
+        self.run_load_store(insn, stores)
     }
 
     /// Branches, and IT, but for table branches.
@@ -75,7 +70,7 @@ impl Machine {
     /// stores are noted. At a fault the core is as it was, and the stores before it stand.
     pub(crate) fn execute(&mut self, insn: &Insn, stores: &mut Stores) -> Result<Outcome, Fault>
         requires { array_vec_len stores.old ≡ 0 }
-        ensures { taken_back (family_of insn.now) self.old.core (executed self.old insn.now) ≡ record { state = self.new; stores = stores.new.items; outcome = result } }
+        ensures { executed self.old insn.now ≡ record { state = self.new; stores = stores.new.items; outcome = result } }
     {
         match *insn {
             Insn::DataImm { .. }

@@ -10,11 +10,11 @@ mod ending;
 mod exchange;
 mod exclusive;
 mod execute;
-mod faulting;
 mod it_rules;
 mod port;
 mod running;
 mod start;
+mod taking;
 mod waiting;
 
 pub use running::Machine;

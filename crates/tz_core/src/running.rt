@@ -3,21 +3,22 @@
 ghost use Rattle.std.specs.Prelude.{◌≡◌, ◌+◌};
 ghost use Rattle.arrayvec.specs.ArrayVec.{array_vec_len};
 ghost use Rattle.tz_model.specs.Words.{wrap};
-ghost use Rattle.std.specs.Prelude.{Some, None};
-ghost use Rattle.tz_sem.specs.declared.ending.Cause.TheVariants.{Went};
 ghost use Rattle.tz_model.specs.Codes.{second_of};
 ghost use Rattle.tz_sem.specs.Step.{length_of, sleep_of};
 
 use crate::changes::Stores;
-use crate::exchange::is_fnc_return;
+use crate::exchange::{is_call, ran_by};
 use crate::it_rules::{ignores_condition, is_misplaced, is_passed_over};
 use std::marker::Model;
 use tz_access::Bus;
 use tz_decode::{Decoded, decode};
+use tz_excret::takes;
+use tz_gate::secure_gateway;
 use tz_model::{Board, Code, Fault, Insn, Outcome, Report, ScriptEvent, Side, Sleep};
 use tz_nvic::Exceptions;
+use tz_prio::is_negative;
 use tz_regs::Core;
-use tz_sem::{Cause, Ending};
+use tz_sem::{Cause, Course, Ending};
 
 /// The machine: the core, the exceptions, and memory with the units that guard it.
 #[derive(Drop)]
@@ -41,7 +42,7 @@ impl Model for Machine {
 }
 
 /// The address after an instruction.
-fn next_of(pc: u32, code: &Code) -> u32
+pub(crate) fn next_of(pc: u32, code: &Code) -> u32
     ensures { result ≡ wrap (pc + length_of code.now) }
 {
     match code.second {
@@ -64,25 +65,11 @@ fn sleep_of(event: bool) -> Sleep
     if event { Sleep::Wfe } else { Sleep::Wfi }
 }
 
-/// An instruction ran.
-fn ran(touched: bool, code: &Code) -> Ending
-    ensures { result ≡ record { touched = touched; cause = Went; ran = Some code.now } }
-{
-    Ending {
-        touched,
-        cause: Cause::Went,
-        ran: Some(*code),
-    }
-}
-
 impl Machine {
-    ghost use Rattle.std.specs.Prelude.{List, [], true, if◌then◌else◌};
-    ghost use Rattle.tz_model.specs.declared.report.Store.{Store};
-    ghost use Rattle.tz_sem.specs.declared.ending.Cause.TheVariants.{Went};
-    ghost use Rattle.tz_state.specs.State.{side_of, with_run, with_pc};
+    ghost use Rattle.std.specs.Prelude.{[], true, if◌then◌else◌};
+    ghost use Rattle.tz_state.specs.State.{side_of};
     ghost use Rattle.tz_model.specs.Codes.{meaning_of};
-    ghost use Rattle.tz_sem.specs.Faulted.{faulted};
-    ghost use Rattle.tz_sem.specs.Step.{branch_ns, moves_to, exchanged, past, skips, goes_on, placed, decoded, enters, looks, unready, instructs, idles, by_sleep, is_entered, ended, step};
+    ghost use Rattle.tz_sem.specs.Step.{past, goes_next, skips, goes_on, faulting, placed, decoded, enters, looks, unready, course_in, instructs, idles, by_sleep, takes, ended, step};
     ghost use Rattle.tz_twin.specs.Integrity.{LeavesSecure, EntersByGateway};
 
     /// The state that the machine is in; a locked machine counts as Secure.
@@ -127,30 +114,8 @@ impl Machine {
         &self.bus
     }
 
-    /// Locks the machine, by a fault or because it was locked.
-    fn lock(&mut self, touched: bool) -> Ending
-        ensures state { self.new ≡ with_run self.old (record self.old.core.run { locked = true }) }
-        ensures ending { result ≡ record { touched = touched; cause = Went; ran = None } }
-    {
-        self.core.run.locked = true;
-        Ending {
-            touched,
-            cause: Cause::Went,
-            ran: None,
-        }
-    }
-
-    /// Ends a step that faults: what the fault sets and pends is kept, and the machine locks.
-    fn fault(&mut self, touched: bool, fault: Fault) -> Ending
-        ensures state { self.new ≡ with_run (faulted fault self.old) (record (faulted fault self.old).core.run { locked = true }) }
-        ensures ending { result ≡ record { touched = touched; cause = Went; ran = None } }
-    {
-        self.take_fault(fault);
-        self.lock(touched)
-    }
-
     /// Moves the IT state on past an instruction, which IT does by itself.
-    fn pass(&mut self, insn: &Insn)
+    pub(crate) fn pass(&mut self, insn: &Insn)
         ensures { self.new ≡ past insn.now self.old }
     {
         match *insn {
@@ -160,137 +125,102 @@ impl Machine {
     }
 
     /// Goes on to the next instruction.
-    fn go_next(&mut self, touched: bool, code: &Code) -> Ending
-        ensures state { self.new ≡ with_pc self.old (wrap (self.old.core.registers.pc + length_of code.now)) }
-        ensures ending { result ≡ record { touched = touched; cause = Went; ran = Some code.now } }
+    fn go_next(&mut self, course: Course, code: &Code) -> Ending
+        ensures { goes_next self.old course code.now ≡ record { state = self.new; ending = result } }
     {
         self.core.registers.pc = next_of(self.core.registers.pc, code);
-        ran(touched, code)
+        ran_by(Cause::Went, course, code)
     }
 
     /// Goes on after an instruction.
-    fn go_on(&mut self, insn: &Insn, touched: bool, code: &Code, outcome: Outcome) -> Ending
-        ensures { (stores : List Store) → goes_on insn.now self.old touched code.now stores outcome ≡ record { state = self.new; stores = stores; ending = result } }
+    fn go_on(
+        &mut self,
+        insn: &Insn,
+        before: &Core,
+        course: Course,
+        code: &Code,
+        outcome: Outcome,
+        stores: &mut Stores,
+    ) -> Ending
+        ensures { goes_on before.now insn.now self.old course code.now stores.old.items outcome ≡ record { state = self.new; stores = stores.new.items; ending = result } }
     {
         match outcome {
             Outcome::Next => {
                 self.pass(insn);
-                self.go_next(touched, code)
+                self.go_next(course, code)
             }
             Outcome::Sleep { event } => {
                 self.pass(insn);
                 self.core.run.sleep = sleep_of(event);
-                self.go_next(touched, code)
+                self.go_next(course, code)
             }
             Outcome::Jump(to) => {
                 self.pass(insn);
                 self.core.registers.pc = to;
-                ran(touched, code)
+                ran_by(Cause::Went, course, code)
             }
-            Outcome::Exchange { target, ns } => self.exchange(insn, touched, code, target, ns),
-        }
-    }
-
-    /// Moves to a target of an exchange.
-    fn move_to(&mut self, touched: bool, code: &Code, target: u32, ns: bool) -> Ending
-        ensures { (stores : List Store) → moves_to self.old touched code.now stores target ns ≡ record { state = self.new; stores = stores; ending = result } }
-    {
-        if ns {
-            return self.branch_ns(touched, code, target);
-        }
-        let registers = &mut self.core.registers;
-        registers.pc = target / 2 * 2;
-        registers.t = target % 2 == 1;
-        ran(touched, code)
-    }
-
-    /// Exchanges to a target.
-    fn exchange(&mut self, insn: &Insn, touched: bool, code: &Code, target: u32, ns: bool) -> Ending
-        ensures { (stores : List Store) → exchanged self.old (past insn.now self.old) touched code.now stores target ns ≡ record { state = self.new; stores = stores; ending = result } }
-    {
-        if is_fnc_return(target) {
-            let side = self.core.run.side;
-            return self.fault(true, Fault::InvPc(side));
-        }
-        self.pass(insn);
-        self.move_to(touched, code, target, ns)
-    }
-
-    /// BXNS in Secure state.
-    fn branch_ns(&mut self, touched: bool, code: &Code, target: u32) -> Ending
-        ensures { (stores : List Store) → branch_ns self.old touched code.now stores target ≡ record { state = self.new; stores = stores; ending = result } }
-    {
-        let registers = &mut self.core.registers;
-        registers.pc = target / 2 * 2;
-        registers.t = true;
-        if target % 2 == 0 {
-            self.core.run.side = Side::NonSecure;
-            Ending {
-                touched,
-                cause: Cause::Returned,
-                ran: Some(*code),
+            Outcome::Exchange { target, ns } => {
+                if is_call(insn) {
+                    return self.call(insn, course, code, target, stores);
+                }
+                self.exchange(insn, before, course, code, target, ns)
             }
-        } else {
-            ran(touched, code)
         }
     }
 
     /// SG, reached from Non-secure state.
-    fn enter(&mut self) -> Ending
-        ensures { enters self.old ≡ record { state = self.new; stores = []; ending = result } }
+    fn enter(&mut self, course: Course) -> Ending
+        ensures { enters self.old course ≡ record { state = self.new; stores = []; ending = result } }
     {
-        self.core.run.side = Side::Secure;
-        let registers = &mut self.core.registers;
-        registers.lr = registers.lr / 2 * 2;
-        registers.pc = registers.pc.wrapping_add(4);
-        registers.it = 0;
+        secure_gateway(&mut self.core);
         let code = Code {
             first: 0xe97f,
             second: Some(0xe97f),
         };
-        ran(true, &code)
+        ran_by(Cause::Went, course, &code)
     }
 
     /// Skips an instruction whose condition fails.
-    fn skip(&mut self, touched: bool, code: &Code) -> Ending
-        ensures { skips self.old touched code.now ≡ record { state = self.new; stores = []; ending = result } }
+    fn skip(&mut self, course: Course, code: &Code) -> Ending
+        ensures { skips self.old course code.now ≡ record { state = self.new; stores = []; ending = result } }
     {
         self.core.registers.advance_it();
-        self.go_next(touched, code)
+        self.go_next(course, code)
     }
 
     /// Runs an instruction, unless it may not stand where it does, or its condition fails.
-    fn run(&mut self, insn: &Insn, code: &Code, touched: bool, stores: &mut Stores) -> Ending
+    fn run(&mut self, insn: &Insn, code: &Code, course: Course, stores: &mut Stores) -> Ending
         requires { array_vec_len stores.old ≡ 0 }
-        ensures { placed self.old touched code.now insn.now ≡ record { state = self.new; stores = stores.new.items; ending = result } }
+        ensures { placed self.old course code.now insn.now ≡ record { state = self.new; stores = stores.new.items; ending = result } }
     {
         if is_misplaced(insn, &self.core.registers) {
-            return self.fault(touched, Fault::Undef);
+            return self.fault(course, Fault::Undef);
         }
         if is_passed_over(&self.core.registers) && !ignores_condition(self.core.run.side, insn) {
-            return self.skip(touched, code);
+            return self.skip(course, code);
         }
+        let before = self.core;
         match self.execute(insn, stores) {
-            Ok(outcome) => self.go_on(insn, touched, code, outcome),
-            Err(fault) => self.fault(touched, fault),
+            Ok(outcome) => self.go_on(insn, &before, course, code, outcome, stores),
+            Err(fault) => self.fault(course, fault),
         }
     }
 
     /// Runs the instruction that a code means.
-    fn run_code(&mut self, code: &Code, touched: bool, stores: &mut Stores) -> Ending
+    fn run_code(&mut self, code: &Code, course: Course, stores: &mut Stores) -> Ending
         requires { array_vec_len stores.old ≡ 0 }
-        ensures { decoded self.old touched code.now (meaning_of code.now) ≡ record { state = self.new; stores = stores.new.items; ending = result } }
+        ensures { decoded self.old course code.now (meaning_of code.now) ≡ record { state = self.new; stores = stores.new.items; ending = result } }
     {
         match decode(code.first, second_of(code)) {
-            Decoded::One(insn, _) => self.run(&insn, code, touched, stores),
+            Decoded::One(insn, _) => self.run(&insn, code, course, stores),
             Decoded::NoCoprocessor => {
                 if is_passed_over(&self.core.registers) {
-                    self.skip(touched, code)
+                    self.skip(course, code)
                 } else {
-                    self.fault(touched, Fault::NoCp)
+                    self.fault(course, Fault::NoCp)
                 }
             }
-            Decoded::Undefined(_) => self.fault(touched, Fault::Undef),
+            Decoded::Undefined(_) => self.fault(course, Fault::Undef),
         }
     }
 
@@ -318,25 +248,47 @@ impl Machine {
         }
     }
 
+    /// The course of a step that has looked at Secure state, or hasn't.
+    fn course(&self, touched: bool) -> Course
+        ensures { result ≡ course_in self.now touched }
+    {
+        Course {
+            touched,
+            negative: is_negative(&self.core, &self.exceptions),
+        }
+    }
+
+    /// Faults before anything is fetched, since T is 0.
+    fn fault_unready(&mut self) -> Ending
+        ensures { faulting self.old (course_in self.old (looks self.old.core.run.side self.old)) (unready (looks self.old.core.run.side self.old) self.old.core.run.side) ≡ record { state = self.new; stores = []; ending = result } }
+    {
+        let touched = self.looks();
+        let fault = self.unready(touched);
+        let course = self.course(touched);
+        self.fault(course, fault)
+    }
+
     /// Runs an instruction; where T is 0 it faults before anything is fetched.
     fn instruct(&mut self, stores: &mut Stores) -> Ending
         requires { array_vec_len stores.old ≡ 0 }
         ensures { instructs self.old ≡ record { state = self.new; stores = stores.new.items; ending = result } }
     {
         if !self.core.registers.t {
-            let touched = self.looks();
-            let fault = self.unready(touched);
-            return self.fault(touched, fault);
+            return self.fault_unready();
         }
         let fetcher = self.fetcher();
         let found = self.bus.fetch_told(self.core.registers.pc, &fetcher);
+        let course = Course {
+            touched: found.touched,
+            negative: fetcher.negative,
+        };
         match found.answer {
-            Err(fault) => self.fault(found.touched, fault),
+            Err(fault) => self.fault(course, fault),
             Ok(fetched) => {
                 if fetched.gateway {
-                    self.enter()
+                    self.enter(course)
                 } else {
-                    self.run_code(&fetched.code, found.touched, stores)
+                    self.run_code(&fetched.code, course, stores)
                 }
             }
         }
@@ -391,13 +343,14 @@ impl Machine {
         }
     }
 
-    /// Ends a step in which an exception would be entered: the machine locks, awake.
-    fn lock_before_entry(&mut self) -> Ending
-        ensures { is_entered self.old ≡ record { state = self.new; stores = []; ending = result } }
+    /// Takes the exception that comes first before an instruction, which ends a sleep.
+    fn take(&mut self) -> Ending
+        ensures { takes self.old ≡ record { state = self.new; stores = []; ending = result } }
     {
-        let touched = self.core.run.side == Side::Secure;
+        let course = self.course(self.core.run.side == Side::Secure);
+        let back = self.core.registers.pc;
         self.wake();
-        self.lock(touched)
+        self.preempt(course, back)
     }
 
     /// Makes one step after what it begins with, but for its report: notes the stores, and tells how it ended.
@@ -409,8 +362,8 @@ impl Machine {
         if self.core.run.locked {
             return self.lock(true);
         }
-        if self.takes() {
-            return self.lock_before_entry();
+        if takes(&self.core, &mut self.exceptions) {
+            return self.take();
         }
         self.go_by_sleep(stores)
     }
@@ -440,8 +393,9 @@ impl Machine {
     /// board hasn't is passed over.
     ///
     /// It is the step relation. Where Non-secure code runs and doesn't look at Secure state, that stays
-    /// as it was, but for the count of the Secure timer and for what pends; where Non-secure code gets to Secure
-    /// code, it ran SG where it may call.
+    /// as it was, but for the count of the Secure timer and for what pends and is active; where Non-secure code gets to
+    /// Secure code in a step that takes no exception, returns from none and takes no FNC_RETURN, it ran SG where it may
+    /// call.
     pub fn step(&mut self, due: &[ScriptEvent]) -> Report
         ensures steps { step self.old due.now ≡ record { state = self.new; report = result } }
         ensures leaves_secure { LeavesSecure self.old (record { state = self.new; report = result }) }

@@ -8,23 +8,9 @@ use std::marker::Brand;
 use std::sync::ledger::{Blank, Ledger};
 use tz_model::{ScriptEvent, Sleep};
 use tz_nvic::Exceptions;
-use tz_prio::{takes_first, wakes};
+use tz_prio::wakes;
 use tz_ready::Steps;
 use tz_regs::Core;
-
-/// Whether the exception that comes first can be taken, after a look at the slots where one has changed. The looks
-/// aren't counted for anyone.
-fn takes_counted<L: Ledger>(blank: Blank, core: &Core, exceptions: &mut Exceptions) -> bool
-    requires name { blank.name ≡ L.name }
-    requires parts { blank.parts ≡ L.parts }
-    requires some_part { 0 < blank.parts }
-    ensures same { exceptions.new ≡ exceptions.old }
-    ensures takes { result ≡ told.takes_first exceptions.old core.now.masks }
-{
-    let mut looks = Steps::<L>::start(blank);
-    exceptions.settle(&mut looks);
-    takes_first(core, exceptions, &mut looks)
-}
 
 /// Whether a sleep ends by an exception.
 fn wakes_counted<L: Ledger>(blank: Blank, core: &Core, exceptions: &Exceptions) -> bool
@@ -37,14 +23,6 @@ fn wakes_counted<L: Ledger>(blank: Blank, core: &Core, exceptions: &Exceptions) 
     wakes(core, exceptions, &mut looks)
 }
 
-/// Whether the exception that comes first can be taken.
-fn takes(core: &Core, exceptions: &mut Exceptions) -> bool
-    ensures same { exceptions.new ≡ exceptions.old }
-    ensures takes { result ≡ told.takes_first exceptions.old core.now.masks }
-{
-    takes_counted::<Brand>(Blank::new(1), core, exceptions)
-}
-
 /// Whether an exception ends a sleep.
 fn is_woken(core: &Core, exceptions: &Exceptions) -> bool
     ensures { result ≡ told.wakes exceptions.now core.now.masks }
@@ -55,7 +33,6 @@ fn is_woken(core: &Core, exceptions: &Exceptions) -> bool
 impl Machine {
     ghost use Rattle.tz_model.specs.declared.report.Sleep.TheVariants.{Awake};
     ghost use Rattle.tz_state.specs.State.{with_run};
-    ghost use Rattle.tz_state.specs.Execution.{takes_first as takes_first_of};
     ghost use Rattle.tz_sem.specs.Step.{started, awake, without_event, is_woken};
 
     /// What a step begins with, of a locked machine too: the events that are due pend, and the timers count.
@@ -64,14 +41,6 @@ impl Machine {
     {
         self.exceptions.pend_due(due);
         self.exceptions.tick();
-    }
-
-    /// Whether the exception that comes first can be taken.
-    pub(crate) fn takes(&mut self) -> bool
-        ensures same { self.new ≡ self.old }
-        ensures takes { result ≡ takes_first_of self.old.exceptions self.old.core.masks }
-    {
-        takes(&self.core, &mut self.exceptions)
     }
 
     /// Whether an exception ends a sleep, which a PRIMASK doesn't hinder.

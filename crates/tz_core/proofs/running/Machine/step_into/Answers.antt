@@ -13,7 +13,7 @@ returns-clause-leaves_secure c =
 pub returns-clause-enters_by_gateway : goal.returns-clause-enters_by_gateway
 returns-clause-enters_by_gateway c =
     subst (λ (r : Stepped). EntersByGateway c.args.self.now c.args.due.now r) c.report_step.ensures
-    (λ is secure unlocked. enters_by_gateway c.args.self.now c.args.due.now is secure unlocked)
+    (λ is plain secure unlocked. enters_by_gateway c.args.self.now c.args.due.now is plain secure unlocked)
 
 pub returns-clause-steps : goal.returns-clause-steps
 returns-clause-steps c = c.report_step.ensures

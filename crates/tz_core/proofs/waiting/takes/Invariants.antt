@@ -1,4 +1,0 @@
-use Rattle.tz_core.proofs.waiting.takes.Given as goal
-
-abbrev pub ghosts-takes_counted : goal.ghosts-takes_counted
-ghosts-takes_counted a = record { name = a.blank.name; parts = a.blank.parts }

@@ -1,0 +1,143 @@
+//! Exceptions of the machine: they are taken by a fault of an instruction or before one, and return.
+
+ghost use Rattle.std.specs.Prelude.{◌≡◌};
+ghost use Rattle.tz_sem.specs.Taking.{goes_on_at, passed_by};
+ghost use Rattle.tz_sem.specs.Exchange.{ran_by};
+
+use crate::running::Machine;
+use tz_excret::{Entered, Left, enter, leave, raise_fault};
+use tz_frames::BusFrames;
+use tz_model::{Code, Fault, Side};
+use tz_regs::Core;
+use tz_sem::{Cause, Course, Ending};
+
+/// Where code goes on that faulted: at the instruction, and behind SVC, which has two bytes.
+fn goes_on_at(fault: Fault, pc: u32) -> u32
+    ensures { result ≡ goes_on_at fault pc }
+{
+    match fault {
+        Fault::Call => pc.wrapping_add(2),
+        _ => pc,
+    }
+}
+
+/// Moves the IT state on past SVC.
+fn pass_by(core: &mut Core, fault: Fault)
+    ensures { core.new ≡ passed_by fault core.old }
+{
+    match fault {
+        Fault::Call => core.registers.advance_it(),
+        _ => {}
+    }
+}
+
+impl Machine {
+    ghost use Rattle.std.specs.Prelude.{Some, None, true};
+    ghost use Rattle.tz_sem.specs.declared.ending.Cause.TheVariants.{Resumed};
+    ghost use Rattle.tz_exec.specs.Exec.{released};
+    ghost use Rattle.tz_sem.specs.Taking.{locks, taken, preempted, faults, returns};
+
+    /// Locks the machine, by a fault or because it was locked.
+    pub(crate) fn lock(&mut self, touched: bool) -> Ending
+        ensures { locks self.old touched ≡ record { state = self.new; ending = result } }
+    {
+        self.core.run.locked = true;
+        Ending {
+            touched,
+            cause: Cause::Went,
+            ran: None,
+        }
+    }
+
+    /// Ends a step in which an exception was taken, which clears the monitor.
+    fn end_taken(&mut self, touched: bool) -> Ending
+        ensures { taken self.old touched ≡ record { state = self.new; ending = result } }
+    {
+        self.bus.monitor_clear();
+        Ending {
+            touched,
+            cause: Cause::Taken,
+            ran: None,
+        }
+    }
+
+    /// Takes the exception that comes first, from the code that runs, which goes on at `back` later.
+    #[tactic(auto, unfolding(tz_sem::specs::Taking::preempted))]
+    pub(crate) fn preempt(&mut self, course: Course, back: u32) -> Ending
+        ensures { preempted self.old course back ≡ record { state = self.new; ending = result } }
+    {
+        let profile = self.bus.board().profile;
+        let mut frames = BusFrames {
+            vtor_s: self.core.status.s.vtor,
+            vtor_ns: self.core.status.ns.vtor,
+            secure_privileged: self.core.privileged(Side::Secure),
+            negative: course.negative,
+            room: 40,
+            bus: &mut self.bus,
+        };
+        match enter(
+            &mut self.core,
+            &mut self.exceptions,
+            &mut frames,
+            back,
+            profile,
+        ) {
+            Entered::Taken { touched, .. } => self.end_taken(course.touched || touched),
+            Entered::Lockup { touched } => self.lock(course.touched || touched),
+        }
+    }
+
+    /// Ends a step with a fault of the code that runs: its status bits are set, its exception pends, and an exception
+    /// is taken.
+    #[tactic(auto, unfolding(tz_sem::specs::Taking::faults))]
+    pub(crate) fn fault(&mut self, course: Course, fault: Fault) -> Ending
+        ensures { faults self.old course fault ≡ record { state = self.new; ending = result } }
+    {
+        let back = goes_on_at(fault, self.core.registers.pc);
+        if raise_fault(&mut self.core, &mut self.exceptions, fault) {
+            return self.lock(course.touched);
+        }
+        pass_by(&mut self.core, fault);
+        self.preempt(course, back)
+    }
+
+    /// Ends a step in which an exception returned to the code that it had interrupted, which clears the monitor.
+    fn end_resumed(&mut self, touched: bool, code: &Code) -> Ending
+        ensures state { self.new ≡ released self.old }
+        ensures ending { result ≡ record { touched = touched; cause = Resumed; ran = Some code.now } }
+    {
+        self.bus.monitor_clear();
+        Ending {
+            touched,
+            cause: Cause::Resumed,
+            ran: Some(*code),
+        }
+    }
+
+    /// Returns from the exception that runs, by a value.
+    #[tactic(auto, unfolding(tz_sem::specs::Taking::returns))]
+    pub(crate) fn return_by(&mut self, course: Course, code: &Code, value: u32) -> Ending
+        ensures { returns self.old course code.now value ≡ record { state = self.new; ending = result } }
+    {
+        let profile = self.bus.board().profile;
+        let mut frames = BusFrames {
+            vtor_s: self.core.status.s.vtor,
+            vtor_ns: self.core.status.ns.vtor,
+            secure_privileged: self.core.privileged(Side::Secure),
+            negative: course.negative,
+            room: 40,
+            bus: &mut self.bus,
+        };
+        match leave(
+            &mut self.core,
+            &mut self.exceptions,
+            &mut frames,
+            value,
+            profile,
+        ) {
+            Left::Resumed { touched } => self.end_resumed(course.touched || touched, code),
+            Left::Chained { touched, .. } => self.end_taken(course.touched || touched),
+            Left::Lockup { touched } => self.lock(course.touched || touched),
+        }
+    }
+}
