@@ -15,3 +15,5 @@ pub mod Stepping
 pub mod Secured
 pub mod TwoRuns
 pub mod Unharmed
+pub mod Held
+pub mod Spared
