@@ -49,7 +49,7 @@ store_kept : (v : Option Fault) (f : Framed) (a value : ℕ) → BusKept f (fram
 store_kept (Some fault) f a value = refl
 store_kept None f a value = refl
 
-framed_kept : (f : Framed) (q : Look) → BusKept f (framed f q).0
+pub framed_kept : (f : Framed) (q : Look) → BusKept f (framed f q).0
 framed_kept f (Vector number side) = looked_kept _ f _
 framed_kept f (SecureLoad a) = looked_kept _ f a
 framed_kept f (FrameLoad a side privileged) = looked_kept _ f a
@@ -61,7 +61,7 @@ after_store_kept : (f : Framed) (a : Framed × Result ℕ Fault) (later : Framed
 after_store_kept f (g, Ok done) later h more = bus_then f g (later g).0 h (more g)
 after_store_kept f (g, Err fault) later h more = h
 
-written_held : (side : Side) (privileged : Bool) (words : List ℕ) (f : Framed) (a : ℕ) → BusKept f (written framed side privileged f a words).0
+pub written_held : (side : Side) (privileged : Bool) (words : List ℕ) (f : Framed) (a : ℕ) → BusKept f (written framed side privileged f a words).0
 unfolding written
 written_held side privileged [] f a = refl
 written_held side privileged (word ∷ words) f a =

@@ -17,3 +17,5 @@ pub mod TwoRuns
 pub mod Unharmed
 pub mod Held
 pub mod Spared
+pub mod OwnFrames
+pub mod EntrySpares

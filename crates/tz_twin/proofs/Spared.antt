@@ -1,5 +1,6 @@
 -- What entry and return spare of the Secure side, and that a fault of Non-secure code spares it.
 use Rattle.std.proofs.Common.{◌≡◌, ℕ, Bool, true, false, refl, ◌∙◌}
+use Rattle.tz_table.specs.declared.units.Side.{Side}
 use Rattle.tz_table.specs.declared.units.Side.TheVariants.{Secure, NonSecure}
 use Rattle.tz_model.specs.declared.report.Fault.{Fault}
 use Rattle.tz_model.specs.declared.report.Fault.TheVariants.{Undef, InvState, InvPc, NoCp, StackLimit, Unaligned, DivZero, DataAccess, Exec, Precise, ExecBus, Violation, EntryPoint, Transition, ExcReturn, Signature, Breakpoint, Call}
@@ -142,3 +143,18 @@ pub frame_faulted_kept : (stacking : Bool) (fault : StackFault) (c : Core) (e : 
     → KeptBy c (frame_faulted stacking NonSecure fault c e).core e (frame_faulted stacking NonSecure fault c e).exceptions m n n
 frame_faulted_kept stacking fault c e m n own =
     raised_status (frame_exception e NonSecure fault) c (frame_status stacking NonSecure fault c.status) e m n (frame_status_kept stacking fault c.status own)
+
+-- ---- whose code runs
+
+raised_as_side : (t : Taken) (given : Slot) (c : Core) (e : ExceptionsValue) → (raised_as t given c e).core.run.side ≡ c.run.side
+raised_as_side AsIs given c e = refl
+raised_as_side (Hard side) given c e = refl
+raised_as_side Lockup given c e = refl
+
+-- a fault is pended by the code that runs on
+pub faulted_side : (side : Side) (fault : Fault) (c : Core) (e : ExceptionsValue) → (faulted side fault c e).core.run.side ≡ c.run.side
+faulted_side side fault c e = raised_as_side (escalated e c.masks (exception_of e side fault)) (exception_of e side fault) (with_status c (status_after side fault c.status)) e
+
+pub frame_faulted_side : (stacking : Bool) (side : Side) (fault : StackFault) (c : Core) (e : ExceptionsValue) → (frame_faulted stacking side fault c e).core.run.side ≡ c.run.side
+frame_faulted_side stacking side fault c e =
+    raised_as_side (escalated e c.masks (frame_exception e side fault)) (frame_exception e side fault) (with_status c (frame_status stacking side fault c.status)) e
