@@ -43,10 +43,10 @@ pub record Spared (c c' : Core) (e e' : ExceptionsValue) : Type 0 where
   pub kept : (m : MapState) (n : Memory) → KeptBy c c' e e' m n n
   pub side : c.run.side ≡ NonSecure → c'.run.side ≡ NonSecure
 
-spared_all : (c : Core) (e : ExceptionsValue) → Spared c c e e
+pub spared_all : (c : Core) (e : ExceptionsValue) → Spared c c e e
 spared_all c e = record { kept = λ m n. kept_all c e m n; side = λ is. is }
 
-spared_then : (c1 c2 c3 : Core) (e1 e2 e3 : ExceptionsValue) → Spared c1 c2 e1 e2 → Spared c2 c3 e2 e3 → Spared c1 c3 e1 e3
+pub spared_then : (c1 c2 c3 : Core) (e1 e2 e3 : ExceptionsValue) → Spared c1 c2 e1 e2 → Spared c2 c3 e2 e3 → Spared c1 c3 e1 e3
 spared_then c1 c2 c3 e1 e2 e3 h k = record {
   kept = λ m n. kept_then c1 c2 c3 e1 e2 e3 m n n n (h.kept m n) (k.kept m n);
   side = λ is. k.side (h.side is);
@@ -157,7 +157,7 @@ pub record SparesDone (w : Work Framed) (d : Done Framed) : Type 0 where
   pub touched : entered_touched d.result ≡ false → w.entry.touched ≡ false
   pub spared : entered_touched d.result ≡ false → Spared w.core d.core w.exceptions d.exceptions
 
-lock_spared : (c : Core) (e : ExceptionsValue) → Spared c (with_lock c) e e
+pub lock_spared : (c : Core) (e : ExceptionsValue) → Spared c (with_lock c) e e
 lock_spared c e = record { kept = λ m n. kept_from c (with_lock c) e e m n refl refl refl (quiet e); side = λ is. is }
 
 locked_spares : (w : Work Framed) → SparesDone w (locked_up w)

@@ -19,3 +19,4 @@ pub mod Held
 pub mod Spared
 pub mod OwnFrames
 pub mod EntrySpares
+pub mod ReturnSpares

@@ -21,7 +21,7 @@ use Rattle.tz_twin.proofs.Bytes.{keeps_nothing_changed, keeps_then}
 use Rattle.tz_twin.proofs.Slots.{Quiet, quiet, quiet_then, slot_quiet}
 use Rattle.tz_twin.proofs.Faults.{is_own}
 
--- the Secure side of a core, its exceptions and its memory is as it was
+-- a core, exceptions and memory whose Secure side is as it was, with the bytes that a map doesn't attribute Non-secure
 pub record KeptBy (c c' : Core) (e e' : ExceptionsValue) (m : MapState) (old new : Memory) : Type 0 where
   pub stacks : c'.stacks_s ≡ c.stacks_s
   pub masks : c'.masks.s ≡ c.masks.s
@@ -30,6 +30,7 @@ pub record KeptBy (c c' : Core) (e e' : ExceptionsValue) (m : MapState) (old new
   pub timer : e'.timer_s ≡ e.timer_s
   pub bytes : KeepsBytes m old new
 
+-- with the same memory
 pub kept_from : (c c' : Core) (e e' : ExceptionsValue) (m : MapState) (n : Memory) → c'.stacks_s ≡ c.stacks_s → c'.masks.s ≡ c.masks.s → c'.status.s ≡ c.status.s → Quiet e e' → KeptBy c c' e e' m n n
 kept_from c c' e e' m n stacks masks status q = record {
   stacks = stacks;
