@@ -29,7 +29,7 @@ use Rattle.tz_twin.specs.Plain.{is_plain}
 use Rattle.tz_twin.specs.Seen.{crossing, Seen, Hidden, Shown, seen, public_of}
 use Rattle.tz_twin.proofs.Split.{board_seen}
 use Rattle.tz_twin.proofs.Both.{after, Touching}
-use Rattle.tz_twin.proofs.Holding.{enters_held, leaves_held}
+use Rattle.tz_twin.proofs.Held.{enters_held, leaves_held}
 
 -- a plain step locks, and the board is this one; what looked at Secure state before has looked
 pub record Halts (b : BoardValue) (looked : Bool) (p : Passed) : Type 0 where

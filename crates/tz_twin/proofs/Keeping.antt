@@ -29,7 +29,10 @@ use Rattle.tz_twin.proofs.Bytes.{keeps_then}
 use Rattle.tz_twin.proofs.Slots.{then}
 use Rattle.tz_twin.proofs.Faults.{is_own}
 use Rattle.tz_twin.proofs.Both.{Kept, Stops}
-use Rattle.tz_twin.proofs.Holding.{KeptBy, entered_touched, left_touched, enters_held, leaves_held, enters_kept, leaves_kept, faulted_kept, faulted_side}
+use Rattle.tz_twin.proofs.Held.{enters_held, leaves_held}
+use Rattle.tz_twin.proofs.Spared.{KeptBy, faulted_kept, faulted_side}
+use Rattle.tz_twin.proofs.EntrySpares.{entered_touched, enters_kept}
+use Rattle.tz_twin.proofs.ReturnSpares.{left_touched, leaves_kept}
 use Rattle.tz_twin.proofs.Halting.{Halts, halts_preempted, halts_faults, halts_returns, halts_comes_back}
 
 -- the map of what is kept is the one before
@@ -170,8 +173,8 @@ unfolding faults
 kept_faults s0 s course fault is own k e =
     let r = faulted s.core.run.side fault s.core s.exceptions in
     let h = subst (λ (side : Side). KeptBy s.core (faulted side fault s.core s.exceptions).core s.exceptions (faulted side fault s.core s.exceptions).exceptions (map_of s) s.bus.memory s.bus.memory)
-    (sym is) (faulted_kept (map_of s) s.bus.memory fault s.core s.exceptions own) in
-    kept_raised s0 s course fault r (faulted_side fault s.core s.exceptions ∙ is) (kept_then s0 s r.core r.exceptions s.bus k h refl) e
+    (sym is) (faulted_kept fault s.core s.exceptions (map_of s) s.bus.memory own) in
+    kept_raised s0 s course fault r (faulted_side s.core.run.side fault s.core s.exceptions ∙ is) (kept_then s0 s r.core r.exceptions s.bus k h refl) e
 
 -- ---- as ends of a step
 

@@ -6,7 +6,11 @@ pub mod Writes
 pub mod Both
 pub mod Accesses
 pub mod Faults
-pub mod Holding
+pub mod Held
+pub mod Spared
+pub mod OwnFrames
+pub mod EntrySpares
+pub mod ReturnSpares
 pub mod Halting
 pub mod Keeping
 pub mod Leaving
