@@ -2,7 +2,7 @@
 //!
 //! A machine is made from two sources: Secure code that writes registers in turn and goes on at a place of its
 //! own, and Non-secure code. What it is afterwards is told as a line. The answers were worked out by hand from
-//! DDI0553. Nothing but tests stands on this crate.
+//! DDI0553. Nothing but tests stands on this crate, and other crates of cases.
 #![tactic(auto)]
 
 ghost use Rattle.std.specs.Prelude.{◌<◌, ◌^◌, length};
@@ -15,7 +15,7 @@ use std::fmt::Write;
 use tz_asm::assemble;
 use tz_board::demo_board;
 use tz_core::Machine;
-use tz_model::{Image, ScriptEvent, Side, Size, Sleep, StepKind};
+use tz_model::{Board, Image, ScriptEvent, Side, Size, Sleep, StepKind};
 use tz_nvic::{Exceptions, PLACES};
 use tz_regs::{Core, SideStatus};
 
@@ -124,8 +124,23 @@ fn assembled(alloc: Global, text: &str) -> Image {
     }
 }
 
-/// The built-in board with Secure code, which first writes words at addresses, and with Non-secure code.
+/// A board of the built-in map with Secure code, which first writes words at addresses, and with Non-secure code.
 /// Where a source is refused the machine starts locked, or finds no code.
+pub fn machine_on(
+    alloc: Global,
+    board: &Board,
+    writes: [&[(u32, u32)]; 2],
+    secure: &str,
+    nonsecure: &str,
+) -> Result<Machine, AllocError> {
+    let source = secure_source(alloc, writes, secure)?;
+    let code = nonsecure_source(alloc, nonsecure)?;
+    let secure = assembled(alloc, source.as_str());
+    let nonsecure = assembled(alloc, code.as_str());
+    Machine::new(alloc, board, &secure, &nonsecure)
+}
+
+/// The same of the built-in board.
 pub fn machine_of(
     alloc: Global,
     writes: [&[(u32, u32)]; 2],
@@ -133,11 +148,7 @@ pub fn machine_of(
     nonsecure: &str,
 ) -> Result<Machine, AllocError> {
     let board = demo_board(alloc)?;
-    let source = secure_source(alloc, writes, secure)?;
-    let code = nonsecure_source(alloc, nonsecure)?;
-    let secure = assembled(alloc, source.as_str());
-    let nonsecure = assembled(alloc, code.as_str());
-    Machine::new(alloc, &board, &secure, &nonsecure)
+    machine_on(alloc, &board, writes, secure, nonsecure)
 }
 
 /// Makes steps until the machine locks or its code stands at an address, but at most `MOST`.
