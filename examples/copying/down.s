@@ -5,8 +5,9 @@
         ldmdb   r0!, {r2, r3, r4, r5}
         stmdb   r1!, {r2, r3, r4, r5}
         ldmdb   r0!, {r2, r3, r4, r5}
-        stmdb   r1!, {r2, r3, r4, r5}   ; the first word is refused already: the core locks
-stay:   b       stay                    ; isn't reached
+        stmdb   r1!, {r2, r3, r4, r5}   ; the first word is refused already
+        ldmdb   r1, {r2, r3}            ; nothing was stored
+stay:   b       stay
 
 .align 4
 from:   .word   past

@@ -4,8 +4,8 @@
         ldr     r1, to
         ldm     r0!, {r2, r3, r4, r5}
         stm     r1!, {r2, r3, r4, r5}
-        ldm     r0!, {r2, r3, r4, r5}   ; the third word is refused: the core locks
-        stm     r1!, {r2, r3, r4, r5}   ; isn't reached
+        ldm     r0!, {r2, r3, r4, r5}   ; the third word is refused
+        stm     r1!, {r2, r3, r4, r5}   ; the words of the first copy once more
 stay:   b       stay
 
 .align 4

@@ -5,8 +5,8 @@
         ldm     r0!, {r2, r3, r4, r5}
         stm     r1!, {r2, r3, r4, r5}
         ldm     r0!, {r2, r3, r4, r5}
-        stm     r1!, {r2, r3, r4, r5}   ; the third word is refused: the core locks
-        ldmdb   r1, {r6, r7, r8}        ; isn't reached
+        stm     r1!, {r2, r3, r4, r5}   ; the third word is refused
+        ldm.w   r1, {r6, r7}            ; what was stored before it
 stay:   b       stay
 
 .align 4

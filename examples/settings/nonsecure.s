@@ -20,7 +20,7 @@
         blx     r3
         sub     sp, sp, #64
         sub     sp, sp, #64     ; SP is the limit
-        sub     sp, sp, #4      ; below it: the core locks
+        sub     sp, sp, #4      ; below it
 stay:   b       stay            ; isn't reached
 
 gate:   .word   0x10008001

@@ -2,6 +2,8 @@
 .org 0x10000000
         .word   0x30001000      ; the start of MSP
         .word   reset+1
+        .word   0               ; NMI, which doesn't come
+        .word   fault+1         ; HardFault
 
 .org 0x10000040
 reset:  cpsid   i               ; PRIMASK: no interrupt comes between
@@ -27,6 +29,16 @@ ns_main:        .word   0x20001000
 ns_limit:       .word   0x20000784      ; PSPLIM_NS takes 0x20000780 of it
 ns_process:     .word   0x20000800
 entry:          .word   0x00200040
+
+; HardFault: it looks at what Non-secure code did.
+fault:  ldr     r0, cfsr
+        ldr     r1, [r0, #0]
+        mrs     r0, psp_ns
+        mrs     r2, primask_ns
+        mrs     r3, control
+halt:   b       halt
+.align 4
+cfsr:   .word   0xe002ed28      ; CFSR of the Non-secure side
 
 ; The gateway: a function that tells PRIMASK of the Non-secure side.
 .org 0x10008000
