@@ -61,7 +61,11 @@ pub fn call_exchange(core: &mut Core, rm: u8, ns: bool) -> Result<Outcome, Fault
     ensures { finished_in core.old (finish_call rm ns (local_of core.old)) ≡ (core.new, result) }
 {
     let to = reg(core, rm);
-    if ns { call_ns(core, to) } else { link(core, to) }
+    if ns {
+        call_ns(core, to)
+    } else {
+        link(core, to)
+    }
 }
 
 /// IT.
