@@ -50,9 +50,9 @@ fn urgent_slot(exceptions: &Exceptions, raw: u32) -> Slot
 pub(crate) fn free(exceptions: &mut Exceptions, slot: Slot)
     ensures { exceptions.new ≡ freed exceptions.old slot }
 {
-    if is_urgent(exceptions) {
-        let urgent = urgent_slot(exceptions, exceptions.raw_priority());
-        exceptions.deactivate(urgent);
+    let raw = exceptions.raw_priority();
+    if raw < 4 {
+        exceptions.deactivate(urgent_slot(exceptions, raw));
     } else if exceptions.exists(slot) {
         exceptions.deactivate(slot);
     }
