@@ -68,8 +68,9 @@ fn sleep_of(event: bool) -> Sleep
 impl Machine {
     ghost use Rattle.std.specs.Prelude.{[], true, if◌then◌else◌};
     ghost use Rattle.tz_state.specs.State.{side_of};
+    ghost use Rattle.tz_exec.specs.Exec.{executed};
     ghost use Rattle.tz_model.specs.Codes.{meaning_of};
-    ghost use Rattle.tz_sem.specs.Step.{past, goes_next, skips, goes_on, faulting, placed, decoded, enters, looks, unready, course_in, instructs, idles, by_sleep, takes, ended, step};
+    ghost use Rattle.tz_sem.specs.Step.{past, goes_next, skips, goes_on, concludes, executes, faulting, placed, decoded, enters, looks, unready, course_in, instructs, idles, by_sleep, takes, ended, step};
     ghost use Rattle.tz_twin.specs.Integrity.{LeavesSecure, EntersByGateway};
 
     /// The state that the machine is in; a locked machine counts as Secure.
@@ -168,6 +169,24 @@ impl Machine {
         }
     }
 
+    /// Goes on after an instruction, or faults.
+    fn conclude(
+        &mut self,
+        insn: &Insn,
+        before: &Core,
+        course: Course,
+        code: &Code,
+        outcome: Result<Outcome, Fault>,
+        stores: &mut Stores,
+    ) -> Ending
+        ensures { concludes before.now insn.now self.old course code.now stores.old.items outcome ≡ record { state = self.new; stores = stores.new.items; ending = result } }
+    {
+        match outcome {
+            Ok(outcome) => self.go_on(insn, before, course, code, outcome, stores),
+            Err(fault) => self.fault(course, fault),
+        }
+    }
+
     /// SG, reached from Non-secure state.
     fn enter(&mut self, course: Course) -> Ending
         ensures { enters self.old course ≡ record { state = self.new; stores = []; ending = result } }
@@ -188,6 +207,16 @@ impl Machine {
         self.go_next(course, code)
     }
 
+    /// Runs an instruction whose place and condition let it run.
+    fn run_here(&mut self, insn: &Insn, code: &Code, course: Course, stores: &mut Stores) -> Ending
+        requires { array_vec_len stores.old ≡ 0 }
+        ensures { executes self.old.core course code.now insn.now (executed self.old insn.now) ≡ record { state = self.new; stores = stores.new.items; ending = result } }
+    {
+        let before = self.core;
+        let outcome = self.execute(insn, stores);
+        self.conclude(insn, &before, course, code, outcome, stores)
+    }
+
     /// Runs an instruction, unless it may not stand where it does, or its condition fails.
     fn run(&mut self, insn: &Insn, code: &Code, course: Course, stores: &mut Stores) -> Ending
         requires { array_vec_len stores.old ≡ 0 }
@@ -199,11 +228,7 @@ impl Machine {
         if is_passed_over(&self.core.registers) && !ignores_condition(self.core.run.side, insn) {
             return self.skip(course, code);
         }
-        let before = self.core;
-        match self.execute(insn, stores) {
-            Ok(outcome) => self.go_on(insn, &before, course, code, outcome, stores),
-            Err(fault) => self.fault(course, fault),
-        }
+        self.run_here(insn, code, course, stores)
     }
 
     /// Runs the instruction that a code means.

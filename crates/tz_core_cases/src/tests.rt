@@ -8,7 +8,7 @@ mod left;
 mod sleep;
 mod timers;
 
-use crate::locked_as;
+use crate::ended_as;
 use std::alloc::Global;
 use std::process::Abort;
 use std::test::Fail;
@@ -23,25 +23,26 @@ const ENABLED: &[(u32, u32)] = &[(0xE000_ED24, 0x000F_0000), (0xE002_ED24, 0x000
 const TURNED: &[(u32, u32)] = &[(0xE000_ED0C, 0x05FA_2000)];
 
 /// Compares what a fault leaves: nothing enabled, all enabled, and nothing enabled with BFHFNMINS 1. `codes` are Secure
-/// and Non-secure; `exceptions` are that of the fault, and HardFault while BFHFNMINS is 1.
+/// and Non-secure; `exceptions` are those that are taken: HardFault of the Secure side, that of the fault, and HardFault
+/// while BFHFNMINS is 1.
 fn compare(
     rt: &impl Abort,
     alloc: Global,
     writes: &[(u32, u32)],
     codes: [&str; 2],
     status: &str,
-    exceptions: [&str; 2],
+    exceptions: [&str; 3],
 ) -> Result<(), Fail> {
     let [secure, nonsecure] = codes;
-    let [exception, hard] = exceptions;
-    let disabled = locked_as(alloc, [writes, &[]], secure, nonsecure)?;
-    let want = format!(in alloc; "locked at {status} hfsr 40000000 pends 3s")?;
+    let [forced, exception, hard] = exceptions;
+    let disabled = ended_as(alloc, [writes, &[]], secure, nonsecure)?;
+    let want = format!(in alloc; "from {status} hfsr 40000000 active {forced}")?;
     assert_eq!(rt; disabled.as_str(), want.as_str());
-    let enabled = locked_as(alloc, [writes, ENABLED], secure, nonsecure)?;
-    let want = format!(in alloc; "locked at {status} pends {exception}")?;
+    let enabled = ended_as(alloc, [writes, ENABLED], secure, nonsecure)?;
+    let want = format!(in alloc; "from {status} active {exception}")?;
     assert_eq!(rt; enabled.as_str(), want.as_str());
-    let turned = locked_as(alloc, [writes, TURNED], secure, nonsecure)?;
-    let want = format!(in alloc; "locked at {status} hfsr 40000000 pends {hard}")?;
+    let turned = ended_as(alloc, [writes, TURNED], secure, nonsecure)?;
+    let want = format!(in alloc; "from {status} hfsr 40000000 active {hard}")?;
     assert_eq!(rt; turned.as_str(), want.as_str());
     Ok(())
 }

@@ -14,6 +14,8 @@ mod raise;
 mod release;
 mod sides;
 mod status;
+#[cfg(test)]
+mod tests;
 mod vector;
 
 pub use choice::takes;

@@ -1,7 +1,8 @@
 //! Frames that are read.
 
 ghost use Rattle.std.specs.Prelude.{◌≡◌};
-ghost use Rattle.tz_entry.specs.Stack.{popped_basic, popped_additional};
+ghost use Rattle.tz_table.specs.declared.units.Side.TheVariants.{Secure};
+ghost use Rattle.tz_entry.specs.Stack.{reads, callee_read, popped_basic, popped_additional};
 
 use crate::push::SIGNATURE;
 use crate::words::load_word;
@@ -51,28 +52,16 @@ pub fn pop_basic<P: Frames>(
     })
 }
 
-/// Reads an additional frame of the Secure side at an address, with this privilege (DDI0553, `PopStack`).
-///
-/// `Access` with the fault of the first word that can't be read. `Signature` where the first word isn't the
-/// integrity signature; then no other is read.
+/// Reads R4 to R11 of an additional frame, and the word below them, from its second word up.
 #[tactic(auto, unfolding(tz_entry::specs::Stack::reads))]
-pub fn pop_additional<P: Frames>(
-    port: &mut P,
-    sp: u32,
-    privileged: bool,
-) -> Result<Callee, StackFault>
-    ensures read { result ≡ popped_additional P.answer (P.held port.old) sp privileged }
+fn load_callee<P: Frames>(port: &mut P, addr: u32, privileged: bool) -> Result<Callee, StackFault>
+    ensures read { result ≡ callee_read (reads P.answer Secure privileged (P.held port.old) addr 9) }
     ensures kept { P.held port.new ≡ P.held port.old }
     ensures room { P.room port.new ≡ P.room port.old }
     ensures lent { P.lent port.new ≡ P.lent port.old }
 {
-    let signature = load_word(port, sp, Side::Secure, privileged)?;
-    if signature != SIGNATURE {
-        return Err(StackFault::Signature);
-    }
-    let second = sp.wrapping_add(4);
-    let _zero = load_word(port, second, Side::Secure, privileged)?;
-    let third = second.wrapping_add(4);
+    let _zero = load_word(port, addr, Side::Secure, privileged)?;
+    let third = addr.wrapping_add(4);
     let r4 = load_word(port, third, Side::Secure, privileged)?;
     let fourth = third.wrapping_add(4);
     let r5 = load_word(port, fourth, Side::Secure, privileged)?;
@@ -98,4 +87,25 @@ pub fn pop_additional<P: Frames>(
         r10,
         r11,
     })
+}
+
+/// Reads an additional frame of the Secure side at an address, with this privilege (DDI0553, `PopStack`).
+///
+/// `Access` with the fault of the first word that can't be read. `Signature` where the first word isn't the
+/// integrity signature; then no other is read.
+pub fn pop_additional<P: Frames>(
+    port: &mut P,
+    sp: u32,
+    privileged: bool,
+) -> Result<Callee, StackFault>
+    ensures read { result ≡ popped_additional P.answer (P.held port.old) sp privileged }
+    ensures kept { P.held port.new ≡ P.held port.old }
+    ensures room { P.room port.new ≡ P.room port.old }
+    ensures lent { P.lent port.new ≡ P.lent port.old }
+{
+    let signature = load_word(port, sp, Side::Secure, privileged)?;
+    if signature != SIGNATURE {
+        return Err(StackFault::Signature);
+    }
+    load_callee(port, sp.wrapping_add(4), privileged)
 }

@@ -50,8 +50,8 @@ fn calls(rt: HostRuntime) -> Result<(), Fail> {
     Ok(())
 }
 
-/// Whose code runs, a branch to a register or IT, how it goes on, and what it changes.
-static OTHERS: [(Side, Insn, &str); 12] = [
+/// Whose code runs, a branch or call to a register or IT, how it goes on, and what it changes.
+static OTHERS: [(Side, Insn, &str); 16] = [
     (
         Side::Secure,
         Insn::BranchExchange { rm: 0, ns: false },
@@ -87,9 +87,30 @@ static OTHERS: [(Side, Insn, &str); 12] = [
         Insn::BranchExchange { rm: 0, ns: true },
         "undef",
     ),
+    // BLXNS: the call is left to the core where bit 0 is 0, else it is BLX
+    (
+        Side::Secure,
+        Insn::CallExchange { rm: 4, ns: true },
+        "exchange ns 2000",
+    ),
+    (
+        Side::Secure,
+        Insn::CallExchange { rm: 3, ns: true },
+        "jump 2000 lr 1003",
+    ),
+    (
+        Side::Secure,
+        Insn::CallExchange { rm: 14, ns: true },
+        "jump 3000 lr 1003",
+    ),
     (
         Side::NonSecure,
         Insn::CallExchange { rm: 0, ns: true },
+        "undef",
+    ),
+    (
+        Side::NonSecure,
+        Insn::CallExchange { rm: 4, ns: true },
         "undef",
     ),
     (Side::Secure, Insn::Preload, "undef"),

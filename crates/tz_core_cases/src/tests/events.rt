@@ -43,25 +43,25 @@ static ROWS: [(&[(u32, u32)], &[ScriptEvent], &str, &str); 11] = [
         "ran",
         "runs at 10000400 pends 19ns",
     ),
-    // NMI is always enabled: it would be entered before the instruction
+    // NMI is always enabled: it is taken before the instruction
     (
         &[],
         &[ScriptEvent::Nmi],
-        "locked",
-        "locked at 10000400 pends 2s",
+        "taken",
+        "runs at 10000820 active 2s",
     ),
     (
         TURNED,
         &[ScriptEvent::Nmi],
-        "locked",
-        "locked at 10000400 pends 2ns",
+        "taken",
+        "runs at 200820 active 2ns",
     ),
     // an interrupt that is enabled, or another one
     (
         &[(0xE000_E100, 0x8)],
         &[ScriptEvent::Irq(3)],
-        "locked",
-        "locked at 10000400 pends 19s",
+        "taken",
+        "runs at 10000930 active 19s",
     ),
     (
         &[(0xE000_E100, 0x8)],
@@ -72,8 +72,8 @@ static ROWS: [(&[(u32, u32)], &[ScriptEvent], &str, &str); 11] = [
     (
         &[(0xE000_E100, 0x8)],
         &[ScriptEvent::Irq(2), ScriptEvent::Irq(3)],
-        "locked",
-        "locked at 10000400 pends 18s pends 19s",
+        "taken",
+        "runs at 10000930 pends 18s active 19s",
     ),
 ];
 

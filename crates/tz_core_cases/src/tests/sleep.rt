@@ -67,14 +67,14 @@ static ROWS: [(&[(u32, u32)], &str, u32, &[Slept], &str, &str); 21] = [
         "no event",
         "sleeps at 10000402 pends 16s",
     ),
-    // one that can be taken: it would be entered, and the sleep ends
+    // one that can be taken: the sleep ends, and the entry sets the event flag
     (
         ENABLED,
         "wfi\nnop\nnop",
         0x1000_0402,
-        &[(NO, "idle"), (IRQ, "locked")],
-        "no event",
-        "locked at 10000402 pends 16s",
+        &[(NO, "idle"), (IRQ, "taken")],
+        "event",
+        "runs at 10000900 active 16s",
     ),
     // one that PRIMASK masks: the next instruction runs in the same step
     (
@@ -141,9 +141,9 @@ static ROWS: [(&[(u32, u32)], &str, u32, &[Slept], &str, &str); 21] = [
         ENABLED,
         "cpsid f\nwfi\nnop\nnop",
         0x1000_0404,
-        &[(NO, "idle"), (NMI, "locked")],
-        "no event",
-        "locked at 10000404 pends 2s",
+        &[(NO, "idle"), (NMI, "taken")],
+        "event",
+        "runs at 10000820 active 2s",
     ),
     // a Non-secure interrupt at 0x20 counts as 0x90 with PRIS
     (
@@ -166,18 +166,18 @@ static ROWS: [(&[(u32, u32)], &str, u32, &[Slept], &str, &str); 21] = [
     (
         NONSECURE,
         GO,
-        0x0020_0044,
+        0x0020_0404,
         &[(NO, "idle"), (IRQ, "ran")],
         "no event",
-        "runs at 200046 pends 16ns",
+        "runs at 200406 pends 16ns",
     ),
     (
         SECURE_ABOVE,
         GO,
-        0x0020_0044,
-        &[(NO, "idle"), (IRQ, "locked")],
-        "no event",
-        "locked at 200044 pends 16s",
+        0x0020_0404,
+        &[(NO, "idle"), (IRQ, "taken")],
+        "event",
+        "runs at 10000900 active 16s",
     ),
     // WFE
     (
@@ -220,9 +220,9 @@ static ROWS: [(&[(u32, u32)], &str, u32, &[Slept], &str, &str); 21] = [
         ENABLED,
         "wfe\nnop\nnop",
         0x1000_0402,
-        &[(NO, "idle"), (IRQ, "locked"), (NO, "locked")],
-        "no event",
-        "locked at 10000402 pends 16s",
+        &[(NO, "idle"), (IRQ, "taken"), (NO, "ran")],
+        "event",
+        "runs at 10000902 active 16s",
     ),
     // WFE below BASEPRI
     (

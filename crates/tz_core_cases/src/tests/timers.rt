@@ -11,8 +11,8 @@ type Count = (&'static str, &'static str);
 
 /// The words that are written, Secure code, where it stands after its write of CSR, the steps after that, and what is
 /// shown in the end.
-static ROWS: [(&[(u32, u32)], &str, u32, &[Count], &str); 6] = [
-    // ENABLE and TICKINT: the count to 0 pends SysTick, which would be entered; a locked machine counts on
+static ROWS: [(&[(u32, u32)], &str, u32, &[Count], &str); 7] = [
+    // ENABLE and TICKINT: the count to 0 pends SysTick, which is taken; its handler counts on, and it pends again
     (
         TWO,
         "ldr r1, timer\nmovs r0, #3\nstr r0, [r1, #0]\nhere: b here\ntimer: .word 0xE000E010",
@@ -20,12 +20,25 @@ static ROWS: [(&[(u32, u32)], &str, u32, &[Count], &str); 6] = [
         &[
             ("ran", "2 3, 0 0"),
             ("ran", "1 3, 0 0"),
+            ("taken", "0 10003, 0 0"),
+            ("ran", "2 10003, 0 0"),
+            ("ran", "1 10003, 0 0"),
+            ("ran", "0 10003, 0 0"),
+        ],
+        "runs at 100008f6 pends 15s active 15s",
+    ),
+    // a locked machine counts, too
+    (
+        TWO,
+        "ldr r1, timer\nmovs r0, #3\ncpsid f\nstr r0, [r1, #0]\nhere: udf #0\n.align 4\ntimer: .word 0xE000E010",
+        0x1000_0408,
+        &[
+            ("locked", "2 3, 0 0"),
+            ("locked", "1 3, 0 0"),
             ("locked", "0 10003, 0 0"),
             ("locked", "2 10003, 0 0"),
-            ("locked", "1 10003, 0 0"),
-            ("locked", "0 10003, 0 0"),
         ],
-        "locked at 10000406 pends 15s",
+        "locked at 10000408 ufsr_s 1 hfsr 40000000 pends 15s",
     ),
     // the Non-secure timer
     (
@@ -35,9 +48,9 @@ static ROWS: [(&[(u32, u32)], &str, u32, &[Count], &str); 6] = [
         &[
             ("ran", "0 0, 2 3"),
             ("ran", "0 0, 1 3"),
-            ("locked", "0 0, 0 10003"),
+            ("taken", "0 0, 0 10003"),
         ],
-        "locked at 10000406 pends 15ns",
+        "runs at 2008f0 active 15ns",
     ),
     // ENABLE alone: COUNTFLAG is set, and nothing pends
     (
