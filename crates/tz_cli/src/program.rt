@@ -82,7 +82,7 @@ pub fn top<H: Shelf, O: Sink, E: Sink>(
 
     // Isolation: what Non-secure code is shown is also the trace of every other file that is a Secure
     // image of the board, where both runs cross out of Secure state alike, and neither takes an exception, returns
-    // from one, calls Non-secure code, or takes FNC_RETURN.
+    // from one, calls Non-secure code, or returns by FNC_RETURN.
     ensures isolation { result ≡ 0 → (r : RunWords) → command_of (map string_bytes words.now) ≡ Some (Run r) → (job : Job) → job_told (H.held shelf.old) r ≡ Gives job → job.words.view ≡ Ns →
         (other : List ℕ) (image : ImageValue) → image_of other job.start.board Secure ≡ Ok image →
         Plain (events_of job.start.script) 0 (state_of job.start) job.words.steps →

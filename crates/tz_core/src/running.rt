@@ -419,7 +419,7 @@ impl Machine {
     ///
     /// It is the step relation. Where Non-secure code runs and doesn't look at Secure state, that stays
     /// as it was, but for the count of the Secure timer and for what pends and is active; where Non-secure code gets to
-    /// Secure code in a step that takes no exception, returns from none and takes no FNC_RETURN, it ran SG where it may
+    /// Secure code in a step that takes no exception, returns from none and doesn't return by FNC_RETURN, it ran SG where it may
     /// call.
     pub fn step(&mut self, due: &[ScriptEvent]) -> Report
         ensures steps { step self.old due.now ≡ record { state = self.new; report = result } }

@@ -1,4 +1,4 @@
-//! What a step begins with, exceptions that can be taken, and sleep.
+//! What a step begins with, and sleep.
 
 ghost use Rattle.std.specs.Prelude.{◌≡◌, ◌<◌};
 ghost use Rattle.tz_state.specs.Execution as told;

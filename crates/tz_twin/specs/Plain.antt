@@ -1,4 +1,4 @@
--- Steps that neither take an exception nor return from one, call no Non-secure code, and take no FNC_RETURN.
+-- Steps that neither take an exception nor return from one, call no Non-secure code, and don't return by FNC_RETURN.
 use Rattle.std.specs.Prelude.{◌≡◌, ℕ, zero, suc, ◌+◌, Bool, true, false, List}
 use Rattle.tz_model.specs.declared.report.ScriptEvent.{ScriptEvent}
 use Rattle.tz_state.specs.State.{State}

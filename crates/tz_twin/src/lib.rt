@@ -20,7 +20,7 @@ ghost use Rattle.tz_twin.specs.Integrity.{LeavesSecure, EntersByGateway};
 
 /// Isolation: two runs of a board, a Non-secure image and a script, with any two Secure images, that
 /// agree in what crosses out of Secure state print the same for Non-secure code, as long as neither takes an exception,
-/// returns from one, calls Non-secure code, or takes FNC_RETURN.
+/// returns from one, calls Non-secure code, or returns by FNC_RETURN.
 pub fn isolation()
     ensures { (b : BoardValue) (secure other nonsecure : ImageValue) (events : Events) (n : ℕ) → Plain events 0 (boot b secure nonsecure) n → Plain events 0 (boot b other nonsecure) n → Agree events 0 (boot b secure nonsecure) (boot b other nonsecure) n →
         text_from Ns events 0 (boot b secure nonsecure) n ≡ text_from Ns events 0 (boot b other nonsecure) n }
