@@ -52,7 +52,11 @@ pub struct Row {
 }
 
 /// The machine of a case, which writes other words, too.
-pub fn machine_of(alloc: Global, row: &Row, writes: &[(u32, u32)]) -> Result<Machine, AllocError> {
+pub fn machine_of(
+    alloc: Global,
+    row: &Row,
+    writes: &'static [(u32, u32)],
+) -> Result<Machine, AllocError> {
     let mut board = demo_board(alloc)?;
     board.profile = row.profile;
     machine_on(

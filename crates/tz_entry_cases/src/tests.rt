@@ -53,7 +53,7 @@ fn check_step(
 fn check_rows(
     rt: &impl Abort,
     alloc: Global,
-    writes: &[(u32, u32)],
+    writes: &'static [(u32, u32)],
     rows: &[Row],
 ) -> Result<(), Fail> {
     for row in rows {
