@@ -1,12 +1,8 @@
 -- Branches between the sides and back (DDI0553, `BXWritePC`, `BLXNS`).
-use Rattle.std.specs.Prelude.{ℕ, ◌+◌, ◌%◌, ◌==◌, Bool, true, ◌&&◌, if◌then◌else◌, Option, Some, None, Result, Ok, Err}
-use Rattle.tz_table.specs.declared.units.Side.{Side}
-use Rattle.tz_table.specs.declared.units.Side.TheVariants.{Secure, NonSecure}
+use Rattle.std.specs.Prelude.{ℕ, ◌%◌, ◌==◌, Bool, true, ◌&&◌, if◌then◌else◌, Some, Result, Ok, Err}
 use Rattle.tz_table.specs.declared.units.Code.{Code}
 use Rattle.tz_model.specs.declared.report.Fault.{Fault}
-use Rattle.tz_model.specs.declared.report.Store as stored
-use Rattle.std.specs.Prelude.{List}
-use Rattle.tz_model.specs.Words.{wrap, even_of}
+use Rattle.tz_model.specs.Words.{even_of}
 use Rattle.tz_regs.specs.declared.parts.Core.{Core}
 use Rattle.tz_regs.specs.Registers.{is_handler}
 use Rattle.tz_state.specs.Access.{Reached, reached_in, access}

@@ -1,5 +1,5 @@
 -- One step of the machine, stage by stage, each of which gives how the step ends.
-use Rattle.std.specs.Prelude.{ℕ, ◌+◌, ◌%◌, ◌==◌, Bool, true, false, ◌&&◌, ◌||◌, not, if◌then◌else◌, List, [], Option, Some, None, Result, Ok, Err}
+use Rattle.std.specs.Prelude.{ℕ, ◌+◌, Bool, true, false, ◌&&◌, ◌||◌, not, if◌then◌else◌, List, [], Option, Some, None, Result, Ok, Err}
 use Rattle.tz_table.specs.declared.units.Side.{Side}
 use Rattle.tz_table.specs.declared.units.Side.TheVariants.{Secure, NonSecure}
 use Rattle.tz_table.specs.declared.units.Code.{Code}
@@ -19,7 +19,7 @@ use Rattle.tz_model.specs.declared.report.Report.{Report}
 use Rattle.tz_model.specs.declared.fetch.Fetched.{Fetched}
 use Rattle.tz_model.specs.declared.fetch.FetchAnswer.{FetchAnswer}
 use Rattle.tz_model.specs.Codes.{meaning_of}
-use Rattle.tz_model.specs.Words.{wrap, even_of}
+use Rattle.tz_model.specs.Words.{wrap}
 use Rattle.tz_regs.specs.declared.parts.Before.{Before}
 use Rattle.tz_regs.specs.declared.parts.Core.{Core}
 use Rattle.tz_regs.specs.Registers.{before_in}
@@ -30,9 +30,7 @@ use Rattle.tz_state.specs.Due.{begun}
 use Rattle.tz_state.specs.Execution.{takes_first, wakes}
 use Rattle.tz_state.specs.Fetch.{fetch, is_own_fetch, wide, sg_half}
 use Rattle.tz_exec.specs.ItRules.{is_misplaced, is_passed_over, ignores_condition}
-use Rattle.tz_exec.specs.declared.family.Family.{Family}
-use Rattle.tz_exec.specs.declared.family.Family.TheVariants.{LoadStore}
-use Rattle.tz_exec.specs.Exec.{Executed, family_of, executed}
+use Rattle.tz_exec.specs.Exec.{Executed, executed}
 use Rattle.tz_entry.specs.Gate.{gateway_entered}
 use Rattle.tz_entry.specs.Enter.{is_secure}
 use Rattle.tz_sem.specs.declared.ending.Cause.TheVariants.{Went}

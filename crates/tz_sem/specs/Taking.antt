@@ -1,6 +1,5 @@
 -- Exceptions of the machine: they are taken from running code, by a fault of an instruction or before one, and return.
-use Rattle.std.specs.Prelude.{ℕ, ◌+◌, Bool, true, ◌||◌, if◌then◌else◌, Option, Some, None}
-use Rattle.tz_table.specs.declared.units.Side.{Side}
+use Rattle.std.specs.Prelude.{ℕ, ◌+◌, Bool, true, ◌||◌, if◌then◌else◌, Some, None}
 use Rattle.tz_table.specs.declared.units.Side.TheVariants.{Secure}
 use Rattle.tz_table.specs.declared.units.Code.{Code}
 use Rattle.tz_model.specs.declared.report.Fault.{Fault}

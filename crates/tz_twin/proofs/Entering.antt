@@ -1,5 +1,5 @@
 -- The gateway: Non-secure code that runs into Secure memory finds SG or faults, and looked at Secure state.
-use Rattle.std.proofs.Common.{◌≡◌, ℕ, ◌+◌, ◌==◌, Bool, true, false, ◌&&◌, not, cond, List, [], Result, Ok, Err, refl, sym, ap, ◌∙◌}
+use Rattle.std.proofs.Common.{◌≡◌, ℕ, ◌+◌, ◌==◌, Bool, true, false, ◌&&◌, not, cond, List, [], Result, Ok, Err, refl, sym, ap}
 use Rattle.tz_table.specs.declared.units.Side.TheVariants.{Secure}
 use Rattle.tz_model.specs.declared.report.Fault.{Fault}
 use Rattle.tz_model.specs.declared.report.Fault.TheVariants.{EntryPoint, Exec, ExecBus}

@@ -1,5 +1,5 @@
 -- An instruction of Non-secure code: what it leaves is open, and the same in twins.
-use Rattle.std.proofs.Common.{◌≡◌, ℕ, ℤ, Bool, true, false, cond, not, ◌&&◌, List, [], Option, Some, None, Result, Ok, Err, refl, ◌∙◌, sym, subst}
+use Rattle.std.proofs.Common.{◌≡◌, ℕ, ℤ, Bool, true, false, cond, not, ◌&&◌, List, [], Option, Some, None, Result, Ok, Err, refl, sym, subst}
 use Rattle.std.specs.Prelude.{IfSome}
 use Rattle.tz_table.specs.declared.units.Side.{Side}
 use Rattle.tz_table.specs.declared.units.Side.TheVariants.{Secure, NonSecure}
@@ -11,7 +11,7 @@ use Rattle.tz_table.specs.declared.instruction.Insn.TheVariants.{TestTarget, Cal
 use Rattle.tz_model.specs.declared.report.Fault.{Fault}
 use Rattle.tz_model.specs.declared.report.Fault.TheVariants.{Undef, NoCp, Unaligned}
 use Rattle.tz_model.specs.declared.report.Outcome.{Outcome}
-use Rattle.tz_model.specs.declared.report.Outcome.TheVariants.{Next, Jump, Exchange, Sleep}
+use Rattle.tz_model.specs.declared.report.Outcome.TheVariants.{Next}
 use Rattle.tz_model.specs.declared.report.Store.{Store}
 use Rattle.tz_model.specs.Ports.{answers}
 use Rattle.tz_regs.specs.declared.parts.BusStatus.{BusStatus}

@@ -1,5 +1,5 @@
 -- Steps that end in an entry or a return, of one run: a plain one of them locks, on its board.
-use Rattle.std.proofs.Common.{◌≡◌, ℕ, Bool, true, false, ◌||◌, ◌&&◌, cond, List, [], Option, Some, None, Result, Ok, Err, refl, sym, ap, ◌∙◌}
+use Rattle.std.proofs.Common.{◌≡◌, ℕ, Bool, true, false, ◌||◌, ◌&&◌, cond, List, Option, None, Result, Ok, Err, refl, sym, ap, ◌∙◌}
 use Rattle.tz_table.specs.declared.units.Code.{Code}
 use Rattle.tz_model.specs.declared.report.Fault.{Fault}
 use Rattle.tz_model.specs.declared.report.Store.{Store}
@@ -7,26 +7,23 @@ use Rattle.tz_model.specs.Board.{BoardValue}
 use Rattle.tz_model.specs.Words.{is_nonsecure_side}
 use Rattle.tz_regs.specs.declared.parts.Core.{Core}
 use Rattle.tz_regs.specs.Registers.{before_in}
-use Rattle.tz_state.specs.Slots.{ExceptionsValue}
-use Rattle.tz_state.specs.State.{Bus, State, side_of, with_core, with_memory}
-use Rattle.tz_state.specs.declared.taken.Taken.{Taken}
-use Rattle.tz_state.specs.declared.taken.Taken.TheVariants.{AsIs, Hard, Lockup}
-use Rattle.tz_frames.specs.Machine.{Framed, framed}
+use Rattle.tz_state.specs.State.{Bus, State, side_of, with_core}
+use Rattle.tz_frames.specs.Machine.{framed}
 use Rattle.tz_entry.specs.declared.entering.Entered.{Entered}
 use Rattle.tz_entry.specs.declared.entering.Entered.TheVariants as entered
 use Rattle.tz_entry.specs.declared.leaving.Left.{Left}
 use Rattle.tz_entry.specs.declared.leaving.Left.TheVariants as left
 use Rattle.tz_entry.specs.Status.{Raised, faulted}
-use Rattle.tz_entry.specs.Enter.{Done, enters}
-use Rattle.tz_entry.specs.Leave.{Leaving, leaves}
+use Rattle.tz_entry.specs.Enter.{enters}
+use Rattle.tz_entry.specs.Leave.{leaves}
 use Rattle.tz_entry.specs.Gate.{function_returned}
 use Rattle.tz_sem.specs.declared.ending.Course.{Course}
-use Rattle.tz_sem.specs.Ended.{Passed, Ended, with_stores, report_of}
+use Rattle.tz_sem.specs.Ended.{Passed, Ended, with_stores}
 use Rattle.tz_sem.specs.Step.{stepped}
-use Rattle.tz_sem.specs.Taking.{state_of, locks, framed_in, taken_by, after_entry, preempted, goes_on_at, passed_by, after_raise, faults, left_by, after_return, returns}
+use Rattle.tz_sem.specs.Taking.{state_of, locks, framed_in, taken_by, preempted, goes_on_at, passed_by, after_raise, faults, left_by, returns}
 use Rattle.tz_sem.specs.Exchange.{core_back, back_with, looking, comes_back}
 use Rattle.tz_twin.specs.Plain.{is_plain}
-use Rattle.tz_twin.specs.Seen.{crossing, Seen, Hidden, Shown, seen, public_of}
+use Rattle.tz_twin.specs.Seen.{crossing, Seen, Hidden, seen}
 use Rattle.tz_twin.proofs.Split.{board_seen}
 use Rattle.tz_twin.proofs.Both.{after, Touching}
 use Rattle.tz_twin.proofs.Held.{enters_held, leaves_held}

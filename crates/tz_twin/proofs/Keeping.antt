@@ -1,28 +1,27 @@
 -- Entries and returns of Non-secure code, of one run: where they don't look at Secure state, they keep the Secure side.
-use Rattle.std.proofs.Common.{◌≡◌, ℕ, Bool, true, false, ◌||◌, cond, List, Result, Ok, Err, refl, sym, ap, ◌∙◌, subst}
+use Rattle.std.proofs.Common.{◌≡◌, ℕ, Bool, true, false, ◌||◌, cond, List, refl, sym, ap, ◌∙◌, subst}
 use Rattle.std.specs.FinMap.{get}
 use Rattle.tz_table.specs.declared.units.Side.{Side}
-use Rattle.tz_table.specs.declared.units.Side.TheVariants.{Secure, NonSecure}
+use Rattle.tz_table.specs.declared.units.Side.TheVariants.{NonSecure}
 use Rattle.tz_table.specs.declared.units.Code.{Code}
 use Rattle.tz_model.specs.declared.report.Fault.{Fault}
 use Rattle.tz_model.specs.declared.report.Fault.TheVariants as faults_of
 use Rattle.tz_model.specs.declared.report.Store.{Store}
 use Rattle.tz_regs.specs.declared.parts.Core.{Core}
 use Rattle.tz_state.specs.Memory.{Memory}
-use Rattle.tz_state.specs.Attribution.{MapState}
 use Rattle.tz_state.specs.Slots.{ExceptionsValue}
-use Rattle.tz_state.specs.State.{Bus, State, map_of, with_core, with_memory}
-use Rattle.tz_frames.specs.Machine.{Framed, framed}
+use Rattle.tz_state.specs.State.{Bus, State, map_of, with_memory}
+use Rattle.tz_frames.specs.Machine.{framed}
 use Rattle.tz_entry.specs.declared.entering.Entered.{Entered}
 use Rattle.tz_entry.specs.declared.entering.Entered.TheVariants as entered
 use Rattle.tz_entry.specs.declared.leaving.Left.{Left}
 use Rattle.tz_entry.specs.declared.leaving.Left.TheVariants as left
 use Rattle.tz_entry.specs.Status.{Raised, faulted}
-use Rattle.tz_entry.specs.Enter.{Done, enters}
-use Rattle.tz_entry.specs.Leave.{Leaving, leaves}
+use Rattle.tz_entry.specs.Enter.{enters}
+use Rattle.tz_entry.specs.Leave.{leaves}
 use Rattle.tz_sem.specs.declared.ending.Course.{Course}
-use Rattle.tz_sem.specs.Ended.{Passed, Ended, with_stores}
-use Rattle.tz_sem.specs.Taking.{state_of, locks, framed_in, taken_by, after_entry, preempted, goes_on_at, passed_by, after_raise, faults, left_by, after_return, returns}
+use Rattle.tz_sem.specs.Ended.{Passed, with_stores}
+use Rattle.tz_sem.specs.Taking.{state_of, locks, framed_in, taken_by, preempted, goes_on_at, passed_by, after_raise, faults, left_by, returns}
 use Rattle.tz_sem.specs.Exchange.{comes_back}
 use Rattle.tz_twin.specs.Integrity.{KeepsBytes}
 use Rattle.tz_twin.proofs.Bytes.{keeps_then}
@@ -33,7 +32,7 @@ use Rattle.tz_twin.proofs.Held.{enters_held, leaves_held}
 use Rattle.tz_twin.proofs.Spared.{KeptBy, faulted_kept, faulted_side}
 use Rattle.tz_twin.proofs.EntrySpares.{entered_touched, enters_kept}
 use Rattle.tz_twin.proofs.ReturnSpares.{left_touched, leaves_kept}
-use Rattle.tz_twin.proofs.Halting.{Halts, halts_preempted, halts_faults, halts_returns, halts_comes_back}
+use Rattle.tz_twin.proofs.Halting.{halts_preempted, halts_faults, halts_returns, halts_comes_back}
 
 -- the map of what is kept is the one before
 same_map : (s0 s : State) → Kept s0 s → map_of s ≡ map_of s0

@@ -55,7 +55,6 @@ use Rattle.tz_entry.specs.Gate.{call_base, call_stores, called_ns, after_call, i
 use Rattle.tz_entry.specs.Leave.{is_exc_return}
 use Rattle.tz_sem.specs.declared.ending.Cause.TheVariants.{Went, Returned}
 use Rattle.tz_sem.specs.declared.ending.Course.{Course}
-use Rattle.tz_sem.specs.Taking.{locks}
 use Rattle.tz_sem.specs.Exchange.{ran, branched, branch_ns, exchanged, through_port, called_with, calls}
 use Rattle.tz_sem.specs.Step.{length_of, with_it, past, skips, is_call, goes_on, concludes, executes, placed, decoded, fetched, fetcher_in, course_in, asleep, instructs, awake, without_event, takes, idles, is_woken, by_sleep, stepped, ended}
 use Rattle.tz_twin.specs.Seen.{crossing, Seen, Hidden}
