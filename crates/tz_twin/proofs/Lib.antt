@@ -11,6 +11,7 @@ pub mod Spared
 pub mod OwnFrames
 pub mod EntrySpares
 pub mod ReturnSpares
+pub mod Works
 pub mod Halting
 pub mod Keeping
 pub mod Leaving
