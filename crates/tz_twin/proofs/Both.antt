@@ -1,32 +1,52 @@
--- The ends of two steps of twins: they go on as twins, they both lock or are no plain steps, or they both looked at
--- Secure state.
-use Rattle.std.proofs.Common.{◌≡◌, Bool, true, false, cond, Option, Some, None}
+-- The ends of two steps of twins: they go on as twins, they both lock, or they both looked at Secure state.
+use Rattle.std.proofs.Common.{◌≡◌, Bool, true, false, ◌&&◌, cond, Option, Some, None, refl, sym, ap}
+use Rattle.tz_table.specs.declared.units.Side.{Side}
+use Rattle.tz_model.specs.declared.report.Way.{Way}
 use Rattle.tz_model.specs.Words.{is_nonsecure_side}
-use Rattle.tz_regs.specs.Registers.{before_in}
+use Rattle.tz_regs.specs.declared.parts.Registers.{Registers}
+use Rattle.tz_regs.specs.Registers.{side_in, before_in}
 use Rattle.tz_state.specs.State.{State, side_of}
-use Rattle.tz_sem.specs.Ended.{Ended}
+use Rattle.tz_sem.specs.declared.ending.Cause.{Cause}
+use Rattle.tz_sem.specs.Ended.{Ended, way_by, kind_of}
 use Rattle.tz_sem.specs.Step.{stepped}
-use Rattle.tz_model.specs.Board.{BoardValue}
 use Rattle.tz_twin.specs.Plain.{is_plain}
-use Rattle.tz_twin.specs.Seen.{Public, Handed, Nothing, Saved, Whole, Crossing, crossing, Seen, Hidden, Shown, seen}
+use Rattle.tz_twin.specs.Seen.{public_of, handed, crossing, Crossing, Seen, Hidden, Shown, seen}
 use Rattle.tz_twin.specs.Integrity.{Keeps, IsAtGateway}
 use Rattle.tz_twin.proofs.Split.{Twins, board_seen}
+use Rattle.tz_twin.proofs.After.{registers_after, after}
 
--- what is seen where Secure code handed all registers over, and where it handed less, as no plain step does
-abbrev pub shown_by : BoardValue → Public → Handed → Seen
-shown_by b public (Whole registers) = Shown b registers public
-shown_by b public (Saved r4_to_r11) = Hidden b
-shown_by b public Nothing = Hidden b
-
--- what is seen after a plain step that looked at Secure state, from what was seen before it and its crossing
-abbrev pub after : Seen → Option Crossing → Seen
-after before None = Hidden (board_seen before)
-after before (Some c) = shown_by (board_seen before) c.public c.handed
-
--- of one run: the step looked at Secure state, and what is seen after a plain one is fixed by its crossing
+-- of one run: the step looked at Secure state, and what is seen after it is fixed by its crossing
 pub record Touching (s : State) (before : Seen) (e : Ended) : Type 0 where
   pub touched : e.ending.touched ≡ true
-  pub seen : is_plain e.ending.cause ≡ true → seen e.state ≡ after before (crossing (stepped (before_in s.core) e))
+  pub seen : seen e.state ≡ after before (crossing (stepped (before_in s.core) e))
+
+-- the way of a crossing of a step that began with code of a side, before it is known that there is one
+abbrev pub way_out : Side → State → Cause → Option Way
+way_out side s cause = way_by s cause (kind_of side cause s.core.registers.lr)
+
+-- where the step ends in Non-secure code, its registers are found by what was seen and by the crossing
+abbrev pub Found : Side → Seen → State → Cause → Type 0
+Found side before s cause =
+    is_nonsecure_side (side_of s) ≡ true → registers_after before (way_out side s cause) (handed (way_out side s cause) s.core.registers) (public_of s) ≡ s.core.registers
+
+pub touching_found : (s : State) (before : Seen) (e : Ended) → e.ending.touched ≡ true → board_seen before ≡ e.state.bus.board → Found (side_in s.core) before e.state e.ending.cause → Touching s before e
+touching_found s before e looked board found =
+    record { touched = looked; seen = go (is_nonsecure_side (side_of e.state)) e.ending.touched looked found }
+  where
+    way : Option Way
+    way = way_out (side_in s.core) e.state e.ending.cause
+
+    registers : Registers
+    registers = e.state.core.registers
+
+    leads : Bool → Option Crossing
+    leads t = cond t (Some (record { way = cond t way None; handed = handed (cond t way None) registers; public = public_of e.state })) None
+
+    go : (t u : Bool) → u ≡ true → (t ≡ true → registers_after before way (handed way registers) (public_of e.state) ≡ registers)
+        → cond t (Shown e.state.bus.board registers (public_of e.state)) (Hidden e.state.bus.board) ≡ after before (leads (u && t))
+    go true true looked found = λ i. Shown (sym board i) (sym (found refl) i) (public_of e.state)
+    go false true looked found = ap Hidden (sym board)
+    go t false looked found = cc
 
 -- of one run: where a plain step ends in Secure code, it came there by a gateway
 abbrev pub Arrives : State → Ended → Type 0
@@ -45,17 +65,16 @@ pub record Goes (s s' : State) (e e' : Ended) : Type 0 where
   pub kept : Kept s e.state
   pub kept' : Kept s' e'.state
 
--- of one run: a plain step locks, and one that didn't look at Secure state keeps the Secure side
+-- of one run: the machine locks, and a step that didn't look at Secure state keeps the Secure side
 pub record Stops (s : State) (e : Ended) : Type 0 where
-  pub hidden : is_plain e.ending.cause ≡ true → e.state.core.run.locked ≡ true
+  pub locked : e.state.core.run.locked ≡ true
   pub board : e.state.bus.board ≡ s.bus.board
   pub kept : e.ending.touched ≡ false → Kept s e.state
 
 pub data Both (s s' : State) (e e' : Ended) : Type 0 where
   Go : Goes s s' e e' → Both s s' e e'
   Stop : Stops s e → Stops s' e' → Both s s' e e'
-  Touch : ((before : Seen) → board_seen before ≡ s.bus.board → Touching s before e) → ((before : Seen) → board_seen before ≡ s'.bus.board → Touching s' before e')
-      → Arrives s e → Arrives s' e' → Both s s' e e'
+  Touch : (before before' : Seen) → before ≡ before' → Touching s before e → Touching s' before' e' → Arrives s e → Arrives s' e' → Both s s' e e'
 
 -- one choice in both
 pub both_cond : (s s' : State) (t : Bool) (x y x' y' : Ended) → Both s s' x x' → Both s s' y y' → Both s s' (cond t x y) (cond t x' y')

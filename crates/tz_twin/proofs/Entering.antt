@@ -1,11 +1,12 @@
 -- The gateway: Non-secure code that runs into Secure memory finds SG or faults, and looked at Secure state.
 use Rattle.std.proofs.Common.{◌≡◌, ℕ, ◌+◌, ◌==◌, Bool, true, false, ◌&&◌, not, cond, List, [], Result, Ok, Err, refl, sym, ap}
-use Rattle.tz_table.specs.declared.units.Side.TheVariants.{Secure}
+use Rattle.tz_table.specs.declared.units.Side.TheVariants.{Secure, NonSecure}
 use Rattle.tz_model.specs.declared.report.Fault.{Fault}
 use Rattle.tz_model.specs.declared.report.Fault.TheVariants.{EntryPoint, Exec, ExecBus}
 use Rattle.tz_model.specs.declared.report.Store.{Store}
 use Rattle.tz_model.specs.declared.fetch.Fetched.{Fetched}
 use Rattle.tz_model.specs.Words.{wrap, is_nonsecure_side}
+use Rattle.tz_regs.specs.Registers.{side_in}
 use Rattle.tz_state.specs.declared.fetcher.Fetcher.{Fetcher}
 use Rattle.tz_state.specs.Memory.{half_at}
 use Rattle.tz_state.specs.State.{Bus, State, map_in}
@@ -14,28 +15,26 @@ use Rattle.tz_sem.specs.declared.ending.Course.{Course}
 use Rattle.tz_sem.specs.Ended.{with_stores}
 use Rattle.tz_sem.specs.Taking.{faults}
 use Rattle.tz_sem.specs.Step.{enters, fetched, faulting, fetcher_in, course_in}
-use Rattle.tz_twin.specs.Seen.{Seen, Hidden}
+use Rattle.tz_twin.specs.Seen.{Seen, seen}
 use Rattle.tz_twin.proofs.Split.{Open, Rest, join_bus, join, board_seen}
+use Rattle.tz_twin.proofs.After.{general_seen}
 use Rattle.tz_twin.proofs.Both.{Touching, Arrives}
-use Rattle.tz_twin.proofs.Halting.{halts_faults, touching_halts}
+use Rattle.tz_twin.proofs.Halting.{halts_faults, touching_halts, touching_secure}
 
 -- a step that faults and looked at Secure state
 pub touching_faults : (s0 s : State) (before : Seen) (negative : Bool) (fault : Fault) (stores : List Store) → board_seen before ≡ s.bus.board
-    → Touching s0 before (with_stores stores (faults s (record { touched = true; negative = negative }) fault))
-touching_faults s0 s before negative fault stores e =
-    touching_halts s0 s before stores _ e (halts_faults s (record { touched = true; negative = negative }) fault)
+    → (side_in s0.core ≡ NonSecure → general_seen before ≡ s.core.registers.general) → Touching s0 before (with_stores stores (faults s (record { touched = true; negative = negative }) fault))
+touching_faults s0 s before negative fault stores e knows =
+    let h = halts_faults (side_in s0.core) s (record { touched = true; negative = negative }) fault in
+    touching_halts s0 s before true s.core.registers.general stores _ e knows (h.touched refl) h
 
 apart : (t : Bool) → t ≡ true → t ≡ false → ⊥
 apart true e f = cc
 apart false e f = cc
 
-hidden_side : (locked : Bool) → is_nonsecure_side (cond locked Secure Secure) ≡ false
-hidden_side true = refl
-hidden_side false = refl
-
 -- SG that is reached from Non-secure state
-pub touching_enters : (s0 s : State) (before : Seen) (negative : Bool) → s.core.run.locked ≡ false → board_seen before ≡ s.bus.board → Touching s0 before (enters s (record { touched = true; negative = negative }))
-touching_enters s0 s before negative runs e = record { touched = refl; seen = λ plain. rw runs (ap Hidden (sym e)) }
+pub touching_enters : (s0 s : State) (before : Seen) (negative : Bool) → board_seen before ≡ s.bus.board → Touching s0 before (enters s (record { touched = true; negative = negative }))
+touching_enters s0 s before negative e = touching_secure s0 before _ refl e refl
 
 -- the answer is a fault, or SG reached through a gateway
 data Gate : Result Fetched Fault → Type 0 where
@@ -60,22 +59,22 @@ gateway_fetch_gate b k pc =
 abbrev pub looked : Open → Rest → Course
 looked o x = course_in (join o x) true
 
-gate_touching : (o : Open) (x : Rest) (before : Seen) (a : Result Fetched Fault) → Gate a → board_seen before ≡ o.board → Touching (join o x) before (fetched (join o x) (looked o x) a)
-gate_touching o x before _ (Faults fault) e = touching_faults (join o x) (join o x) before (looked o x).negative fault [] e
-gate_touching o x before _ Enters e = touching_enters (join o x) (join o x) before (looked o x).negative refl e
+gate_touching : (o : Open) (x : Rest) (a : Result Fetched Fault) → Gate a → Touching (join o x) (seen (join o x)) (fetched (join o x) (looked o x) a)
+unfolding board_seen
+gate_touching o x _ (Faults fault) = touching_faults (join o x) (join o x) (seen (join o x)) (looked o x).negative fault [] refl (λ e. refl)
+gate_touching o x _ Enters = touching_enters (join o x) (join o x) (seen (join o x)) (looked o x).negative refl
 
 -- a fault that is no plain step or locks doesn't arrive
 faults_arrive_nowhere : (s : State) (course : Course) (fault : Fault) → Arrives s (faulting s course fault)
-faults_arrive_nowhere s course fault plain secure unlocked = absurd (apart _ ((halts_faults s course fault).hidden plain) unlocked)
+faults_arrive_nowhere s course fault plain secure unlocked = absurd (apart _ ((halts_faults NonSecure s course fault).hidden plain) unlocked)
 
 gate_arrives : (o : Open) (x : Rest) (a : Result Fetched Fault) → Gate a → gateway_fetch (join_bus o x) (fetcher_in (join o x)) o.registers.pc ≡ a → Arrives (join o x) (fetched (join o x) (looked o x) a)
 gate_arrives o x _ (Faults fault) is plain secure unlocked = faults_arrive_nowhere (join o x) (looked o x) fault plain secure unlocked
 gate_arrives o x _ Enters is plain secure unlocked = is
 
 -- a fetch that begins in Secure memory
-pub touching_gateway : (o : Open) (x : Rest) (before : Seen) → board_seen before ≡ o.board
-    → Touching (join o x) before (fetched (join o x) (looked o x) (gateway_fetch (join_bus o x) (fetcher_in (join o x)) o.registers.pc))
-touching_gateway o x before e = gate_touching o x before _ (gateway_fetch_gate (join_bus o x) (fetcher_in (join o x)) o.registers.pc) e
+pub touching_gateway : (o : Open) (x : Rest) → Touching (join o x) (seen (join o x)) (fetched (join o x) (looked o x) (gateway_fetch (join_bus o x) (fetcher_in (join o x)) o.registers.pc))
+touching_gateway o x = gate_touching o x _ (gateway_fetch_gate (join_bus o x) (fetcher_in (join o x)) o.registers.pc)
 
 pub arrives_gateway : (o : Open) (x : Rest) → Arrives (join o x) (fetched (join o x) (looked o x) (gateway_fetch (join_bus o x) (fetcher_in (join o x)) o.registers.pc))
 arrives_gateway o x = gate_arrives o x _ (gateway_fetch_gate (join_bus o x) (fetcher_in (join o x)) o.registers.pc) refl

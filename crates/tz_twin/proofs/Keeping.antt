@@ -6,7 +6,7 @@ use Rattle.tz_table.specs.declared.units.Side.TheVariants.{NonSecure}
 use Rattle.tz_table.specs.declared.units.Code.{Code}
 use Rattle.tz_model.specs.declared.report.Fault.{Fault}
 use Rattle.tz_model.specs.declared.report.Fault.TheVariants as faults_of
-use Rattle.tz_model.specs.declared.report.Store.{Store}
+use Rattle.tz_model.specs.Board.{BoardValue}
 use Rattle.tz_regs.specs.declared.parts.Core.{Core}
 use Rattle.tz_state.specs.Memory.{Memory}
 use Rattle.tz_state.specs.Slots.{ExceptionsValue}
@@ -20,19 +20,19 @@ use Rattle.tz_entry.specs.Status.{Raised, faulted}
 use Rattle.tz_entry.specs.Enter.{enters}
 use Rattle.tz_entry.specs.Leave.{leaves}
 use Rattle.tz_sem.specs.declared.ending.Course.{Course}
-use Rattle.tz_sem.specs.Ended.{Passed, with_stores}
+use Rattle.tz_sem.specs.Ended.{Passed}
 use Rattle.tz_sem.specs.Taking.{state_of, locks, framed_in, taken_by, preempted, goes_on_at, passed_by, after_raise, faults, left_by, returns}
 use Rattle.tz_sem.specs.Exchange.{comes_back}
 use Rattle.tz_twin.specs.Integrity.{KeepsBytes}
 use Rattle.tz_twin.proofs.Bytes.{keeps_then}
 use Rattle.tz_twin.proofs.Slots.{then}
 use Rattle.tz_twin.proofs.Faults.{is_own}
-use Rattle.tz_twin.proofs.Both.{Kept, Stops}
+use Rattle.tz_twin.proofs.Both.{Kept}
 use Rattle.tz_twin.proofs.Held.{enters_held, leaves_held}
 use Rattle.tz_twin.proofs.Spared.{KeptBy, faulted_kept, faulted_side}
 use Rattle.tz_twin.proofs.EntrySpares.{entered_touched, enters_kept}
 use Rattle.tz_twin.proofs.ReturnSpares.{left_touched, leaves_kept}
-use Rattle.tz_twin.proofs.Halting.{halts_preempted, halts_faults, halts_returns, halts_comes_back}
+use Rattle.tz_twin.proofs.Halting.{Halts, halts_preempted, halts_faults, halts_returns, halts_comes_back}
 
 -- the map of what is kept is the one before
 same_map : (s0 s : State) → Kept s0 s → map_of s ≡ map_of s0
@@ -56,7 +56,7 @@ kept_then s0 s c e b k h held = record {
 }
 
 -- what neither the monitor nor a lock tells
-kept_locked : (s r : State) → Kept s r → Kept s (record r { core = record r.core { run = record r.core.run { locked = true } } })
+pub kept_locked : (s r : State) → Kept s r → Kept s (record r { core = record r.core { run = record r.core.run { locked = true } } })
 kept_locked s r k = record {
   keeps = record {
     bytes = k.keeps.bytes;
@@ -125,7 +125,7 @@ passed_side : (fault : Fault) (c : Core) → (passed_by fault c).run.side ≡ c.
 passed_side faults_of.Call c = refl
 passed_side _ c = refl
 
-kept_passed : (s0 : State) (fault : Fault) (c : Core) (e : ExceptionsValue) (b : Bus) → Kept s0 (state_of c e b) → Kept s0 (state_of (passed_by fault c) e b)
+pub kept_passed : (s0 : State) (fault : Fault) (c : Core) (e : ExceptionsValue) (b : Bus) → Kept s0 (state_of c e b) → Kept s0 (state_of (passed_by fault c) e b)
 kept_passed s0 fault c e b k = record {
   keeps = record {
     bytes = k.keeps.bytes;
@@ -151,6 +151,15 @@ kept_passed s0 fault c e b k = record {
   status faults_of.Call = refl
   status _ = refl
 
+-- what a fault of Non-secure code leaves
+pub kept_fault : (s0 s : State) (fault : Fault) → s.core.run.side ≡ NonSecure → is_own fault ≡ true → Kept s0 s
+    → let r = faulted s.core.run.side fault s.core s.exceptions in Kept s0 (state_of r.core r.exceptions s.bus)
+kept_fault s0 s fault is own k =
+    let r = faulted s.core.run.side fault s.core s.exceptions in
+    let h = subst (λ (side : Side). KeptBy s.core (faulted side fault s.core s.exceptions).core s.exceptions (faulted side fault s.core s.exceptions).exceptions (map_of s) s.bus.memory s.bus.memory)
+    (sym is) (faulted_kept fault s.core s.exceptions (map_of s) s.bus.memory own) in
+    kept_then s0 s r.core r.exceptions s.bus k h refl
+
 kept_raised : (s0 s : State) (course : Course) (fault : Fault) (r : Raised) → r.core.run.side ≡ NonSecure → Kept s0 (state_of r.core r.exceptions s.bus)
     → (after_raise s course fault r).ending.touched ≡ false → Kept s0 (after_raise s course fault r).state
 kept_raised s0 s course fault r is k e = go r.locks e where
@@ -166,42 +175,47 @@ kept_raised s0 s course fault r is k e = go r.locks e where
       kept_preempted s0 (state_of (passed_by fault r.core) r.exceptions s.bus) course (goes_on_at fault s.core.registers.pc) (passed_side fault r.core ∙ is)
       (kept_passed s0 fault r.core r.exceptions s.bus k) h
 
-pub kept_faults : (s0 s : State) (course : Course) (fault : Fault) → s.core.run.side ≡ NonSecure → is_own fault ≡ true → Kept s0 s → (faults s course fault).ending.touched ≡ false
+kept_faults : (s0 s : State) (course : Course) (fault : Fault) → s.core.run.side ≡ NonSecure → is_own fault ≡ true → Kept s0 s → (faults s course fault).ending.touched ≡ false
     → Kept s0 (faults s course fault).state
 unfolding faults
 kept_faults s0 s course fault is own k e =
-    let r = faulted s.core.run.side fault s.core s.exceptions in
-    let h = subst (λ (side : Side). KeptBy s.core (faulted side fault s.core s.exceptions).core s.exceptions (faulted side fault s.core s.exceptions).exceptions (map_of s) s.bus.memory s.bus.memory)
-    (sym is) (faulted_kept fault s.core s.exceptions (map_of s) s.bus.memory own) in
-    kept_raised s0 s course fault r (faulted_side s.core.run.side fault s.core s.exceptions ∙ is) (kept_then s0 s r.core r.exceptions s.bus k h refl) e
+    kept_raised s0 s course fault (faulted s.core.run.side fault s.core s.exceptions) (faulted_side s.core.run.side fault s.core s.exceptions ∙ is) (kept_fault s0 s fault is own k) e
 
 -- ---- as ends of a step
 
--- on the board of a state
-on_board : (s0 s : State) → Kept s0 s → s.bus.board ≡ s0.bus.board
-on_board s0 s k = k.keeps.board
+-- of a step of Non-secure code: it halts as entries and returns do, and keeps the Secure side where it didn't look at it
+pub record Passes (s0 : State) (looked : Bool) (general : List ℕ) (p : Passed) : Type 0 where
+  pub halts : Halts NonSecure s0.bus.board looked general p
+  pub kept : p.ending.touched ≡ false → Kept s0 p.state
 
-pub stops_preempted : (s0 s : State) (course : Course) (back : ℕ) (stores : List Store) → s.core.run.side ≡ NonSecure → Kept s0 s → Stops s0 (with_stores stores (preempted s course back))
-stops_preempted s0 s course back stores is k =
-    let h = halts_preempted s course back in
-    record { hidden = h.hidden; board = h.board ∙ on_board s0 s k; kept = λ e. kept_preempted s0 s course back is k e }
+halts_on : (b b' : BoardValue) (looked : Bool) (general : List ℕ) (p : Passed) → b ≡ b' → Halts NonSecure b looked general p → Halts NonSecure b' looked general p
+halts_on b b' looked general p e h = subst (λ (x : BoardValue). Halts NonSecure x looked general p) e h
 
-pub stops_faults : (s0 s : State) (course : Course) (fault : Fault) (stores : List Store) → s.core.run.side ≡ NonSecure → is_own fault ≡ true → Kept s0 s → Stops s0 (with_stores stores (faults s course fault))
-stops_faults s0 s course fault stores is own k =
-    let h = halts_faults s course fault in
-    record { hidden = h.hidden; board = h.board ∙ on_board s0 s k; kept = λ e. kept_faults s0 s course fault is own k e }
+pub passes_preempted : (s0 s : State) (course : Course) (back : ℕ) → s.core.run.side ≡ NonSecure → Kept s0 s → Passes s0 course.touched s.core.registers.general (preempted s course back)
+passes_preempted s0 s course back is k = record {
+  halts = halts_on s.bus.board s0.bus.board course.touched s.core.registers.general (preempted s course back) k.keeps.board (halts_preempted NonSecure s course back);
+  kept = λ e. kept_preempted s0 s course back is k e;
+}
 
-pub stops_returns : (s0 s : State) (course : Course) (code : Code) (value : ℕ) (stores : List Store) → s.core.run.side ≡ NonSecure → Kept s0 s → Stops s0 (with_stores stores (returns s course code value))
-stops_returns s0 s course code value stores is k =
-    let h = halts_returns s course code value in
-    record { hidden = h.hidden; board = h.board ∙ on_board s0 s k; kept = λ e. kept_returns s0 s course code value is k e }
+pub passes_faults : (s0 s : State) (course : Course) (fault : Fault) → s.core.run.side ≡ NonSecure → is_own fault ≡ true → Kept s0 s → Passes s0 course.touched s.core.registers.general (faults s course fault)
+passes_faults s0 s course fault is own k = record {
+  halts = halts_on s.bus.board s0.bus.board course.touched s.core.registers.general (faults s course fault) k.keeps.board (halts_faults NonSecure s course fault);
+  kept = λ e. kept_faults s0 s course fault is own k e;
+}
+
+pub passes_returns : (s0 s : State) (course : Course) (code : Code) (value : ℕ) → course.touched ≡ false → s.core.run.side ≡ NonSecure → Kept s0 s
+    → Passes s0 course.touched s.core.registers.general (returns s course code value)
+passes_returns s0 s course code value quiet is k = record {
+  halts = halts_on s.bus.board s0.bus.board course.touched s.core.registers.general (returns s course code value) k.keeps.board (halts_returns NonSecure s course code value (λ h. quiet));
+  kept = λ e. kept_returns s0 s course code value is k e;
+}
 
 differs : (t : Bool) → t ≡ true → t ≡ false → ⊥
 differs true e f = cc
 differs false e f = cc
 
 -- FNC_RETURN has looked at Secure state
-pub stops_comes_back : (s0 s : State) (before : Core) (course : Course) (code : Code) (stores : List Store) → s.bus.board ≡ s0.bus.board → Stops s0 (with_stores stores (comes_back before s course code))
-stops_comes_back s0 s before course code stores board =
-    let h = halts_comes_back before s course code in
-    record { hidden = h.hidden; board = h.board ∙ board; kept = λ e. absurd (differs (comes_back before s course code).ending.touched (h.touched refl) e) }
+pub passes_comes_back : (s0 s : State) (before : Core) (course : Course) (code : Code) → s.bus.board ≡ s0.bus.board → Passes s0 true before.registers.general (comes_back before s course code)
+passes_comes_back s0 s before course code board =
+    let h = halts_on s.bus.board s0.bus.board true before.registers.general (comes_back before s course code) board (halts_comes_back NonSecure before s course code) in
+    record { halts = h; kept = λ e. absurd (differs (comes_back before s course code).ending.touched (h.touched refl) e) }

@@ -1,4 +1,5 @@
--- How a step of Non-secure code goes on from what its instruction left: twins stay twins, or both stop.
+-- How a step of Non-secure code goes on from what its instruction left: twins stay twins, both lock, or both looked at
+-- Secure state.
 use Rattle.std.proofs.Common.{◌≡◌, ℕ, ◌+◌, ◌%◌, ◌==◌, Bool, true, false, ◌&&◌, cond, List, [], Some, refl, sym, ap, ◌∙◌, subst}
 use Rattle.tz_table.specs.declared.units.Side.TheVariants.{NonSecure}
 use Rattle.tz_table.specs.declared.units.Code.{Code}
@@ -27,8 +28,8 @@ use Rattle.tz_twin.proofs.Bytes.{SameOpen, keeps_nothing_changed}
 use Rattle.tz_twin.proofs.Split.{Open, Rest, open_map, join, Same, twins_join}
 use Rattle.tz_twin.proofs.Slots.{Quiet, quiet}
 use Rattle.tz_twin.proofs.Faults.{is_own}
-use Rattle.tz_twin.proofs.Both.{Kept, Both, Go, Stop, both_second}
-use Rattle.tz_twin.proofs.Keeping.{stops_faults, stops_returns, stops_comes_back}
+use Rattle.tz_twin.proofs.Both.{Kept, Both, Go, both_second}
+use Rattle.tz_twin.proofs.Passing.{faults_both, returns_both, comes_back_both}
 
 -- what a step of Non-secure code may leave of an open part and a rest: on the same board, with the Secure side kept
 pub record Leaves (o : Open) (x : Rest) (p : Open) (y : Rest) : Type 0 where
@@ -119,8 +120,7 @@ goes o p x x' y y' stores ending h =
 pub both_faults : (o p : Open) (x x' y y' : Rest) (course : Course) (fault : Fault) (stores : List Store) → is_own fault ≡ true → Left o x x' p y y'
     → Both (join o x) (join o x') (with_stores stores (faults (join p y) course fault)) (with_stores stores (faults (join p y') course fault))
 both_faults o p x x' y y' course fault stores own h =
-    Stop (stops_faults (join o x) (join p y) course fault stores refl own (kept_of o x p y h.leaves))
-    (stops_faults (join o x') (join p y') course fault stores refl own (kept_of o x' p y' h.leaves'))
+    faults_both o p x x' y y' course fault stores own h.same (kept_of o x p y h.leaves) (kept_of o x' p y' h.leaves')
 
 -- one that faults before an instruction did anything
 pub both_fault : (o : Open) (x x' : Rest) (course : Course) (fault : Fault) → is_own fault ≡ true → Same o x x' → Both (join o x) (join o x') (faulting (join o x) course fault) (faulting (join o x') course fault)
@@ -162,19 +162,25 @@ passed_cond : (o : Open) (x x' : Rest) (stores : List Store) (t : Bool) (a b a' 
 passed_cond o x x' stores true a b a' b' p q = p
 passed_cond o x x' stores false a b a' b' p q = q
 
-exchanged_same : (o p q : Open) (x x' y y' : Rest) (before before' : Core) (course : Course) (code : Code) (stores : List Store) (target : ℕ) (ns : Bool) → Left o x x' p y y' → Left o x x' q y y'
+-- of an instruction before which both had these registers, and which looked at nothing Secure
+pub record Follows (course : Course) (r : Registers) (before before' : Core) : Type 0 where
+  pub quiet : course.touched ≡ false
+  pub first : before.registers ≡ r
+  pub second : before'.registers ≡ r
+
+exchanged_same : (o p q : Open) (x x' y y' : Rest) (r : Registers) (before before' : Core) (course : Course) (code : Code) (stores : List Store) (target : ℕ) (ns : Bool) → Follows course r before before' → Left o x x' p y y' → Left o x x' q y y'
     → Both (join o x) (join o x') (with_stores stores (exchanged before (join p y) (join q y) course code target ns)) (with_stores stores (exchanged before' (join p y') (join q y') course code target ns))
 unfolding exchanged
-exchanged_same o p q x x' y y' before before' course code stores target ns h g =
+exchanged_same o p q x x' y y' r before before' course code stores target ns f h g =
     passed_cond o x x' stores (is_fnc_return target) _ _ _ _
-    (Stop (stops_comes_back (join o x) (join p y) before course code stores h.leaves.board) (stops_comes_back (join o x') (join p y') before' course code stores h.leaves'.board))
+    (comes_back_both o p x x' y y' r before before' course code stores f.first f.second h.same h.leaves.board)
     (passed_cond o x x' stores (is_handler p.registers.ipsr && is_exc_return target) _ _ _ _
-    (Stop (stops_returns (join o x) (join q y) course code target stores refl (kept_of o x q y g.leaves)) (stops_returns (join o x') (join q y') course code target stores refl (kept_of o x' q y' g.leaves')))
+    (returns_both o q x x' y y' course code target stores f.quiet g.same (kept_of o x q y g.leaves) (kept_of o x' q y' g.leaves'))
     (passed_cond o x x' stores ns _ _ _ _ (branch_ns_same o q x x' y y' course code stores target g)
-    (goes o (with_registers q r) x x' y y' stores _ (left_registers o q x x' y y' r g))))
+    (goes o (with_registers q to) x x' y y' stores _ (left_registers o q x x' y y' to g))))
   where
-    r : Registers
-    r = record q.registers { pc = even_of target; t = target % 2 == 1 }
+    to : Registers
+    to = record q.registers { pc = even_of target; t = target % 2 == 1 }
 
 -- a part with PC moved
 at_pc : (o p : Open) (x x' y y' : Rest) (stores : List Store) (ending : Ending) (pc : ℕ) → Left o x x' p y y'
@@ -188,11 +194,11 @@ asleep_of : Bool → Open → Open
 asleep_of event p = record p { sleep = sleep_of event }
 
 -- an exchange that is no call
-exchanges_same : (o p : Open) (x x' y y' : Rest) (before before' : Core) (course : Course) (code : Code) (i : Insn) (stores : List Store) (target : ℕ) (ns : Bool) → is_call i ≡ false → Left o x x' p y y'
+exchanges_same : (o p : Open) (x x' y y' : Rest) (r : Registers) (before before' : Core) (course : Course) (code : Code) (i : Insn) (stores : List Store) (target : ℕ) (ns : Bool) → is_call i ≡ false → Follows course r before before' → Left o x x' p y y'
     → Both (join o x) (join o x') (exchanges before i (join p y) course code stores target ns) (exchanges before' i (join p y') course code stores target ns)
-exchanges_same o p x x' y y' before before' course code i stores target ns plain h =
+exchanges_same o p x x' y y' r before before' course code i stores target ns plain f h =
     both_second _ _ (is_call i) _ _ _ _ plain
-    (exchanged_same o p (past_of i p) x x' y y' before before' course code stores target ns h (left_registers o p x x' y y' _ h))
+    (exchanged_same o p (past_of i p) x x' y y' r before before' course code stores target ns f h (left_registers o p x x' y y' _ h))
 
 abbrev pub is_exchange : Outcome → Bool
 is_exchange (Exchange target ns) = true
@@ -202,15 +208,15 @@ is_exchange outcome = false
 abbrev pub CallsNothing : Insn → Outcome → Type 0
 CallsNothing i out = is_exchange out ≡ true → is_call i ≡ false
 
-pub goes_on_same : (o p : Open) (x x' y y' : Rest) (before before' : Core) (course : Course) (code : Code) (i : Insn) (stores : List Store) (out : Outcome) → CallsNothing i out → Left o x x' p y y'
+pub goes_on_same : (o p : Open) (x x' y y' : Rest) (r : Registers) (before before' : Core) (course : Course) (code : Code) (i : Insn) (stores : List Store) (out : Outcome) → CallsNothing i out → Follows course r before before' → Left o x x' p y y'
     → Both (join o x) (join o x') (goes_on before i (join p y) course code stores out) (goes_on before' i (join p y') course code stores out)
 unfolding asleep_of
-goes_on_same o p x x' y y' before before' course code i stores Next calls h =
+goes_on_same o p x x' y y' r before before' course code i stores Next calls f h =
     at_pc o (past_of i p) x x' y y' stores _ (wrap (p.registers.pc + length_of code)) (left_registers o p x x' y y' _ h)
-goes_on_same o p x x' y y' before before' course code i stores (Jump to) calls h = at_pc o (past_of i p) x x' y y' stores _ to (left_registers o p x x' y y' _ h)
-goes_on_same o p x x' y y' before before' course code i stores (Exchange target ns) calls h =
-    exchanges_same o p x x' y y' before before' course code i stores target ns (calls refl) h
-goes_on_same o p x x' y y' before before' course code i stores (Sleep event) calls h =
+goes_on_same o p x x' y y' r before before' course code i stores (Jump to) calls f h = at_pc o (past_of i p) x x' y y' stores _ to (left_registers o p x x' y y' _ h)
+goes_on_same o p x x' y y' r before before' course code i stores (Exchange target ns) calls f h =
+    exchanges_same o p x x' y y' r before before' course code i stores target ns (calls refl) f h
+goes_on_same o p x x' y y' r before before' course code i stores (Sleep event) calls f h =
     at_pc o (asleep_of event (past_of i p)) x x' y y' stores _ (wrap (p.registers.pc + length_of code))
     (left_again o x x' p (asleep_of event (past_of i p)) y y' refl refl refl refl h)
 

@@ -3,6 +3,7 @@ pub mod Split
 pub mod Slots
 pub mod Registers
 pub mod Writes
+pub mod After
 pub mod Both
 pub mod Accesses
 pub mod Faults
@@ -12,8 +13,13 @@ pub mod OwnFrames
 pub mod EntrySpares
 pub mod ReturnSpares
 pub mod Works
+pub mod FaultTwins
+pub mod EntryTwins
+pub mod ReturnTwins
+pub mod Handled
 pub mod Halting
 pub mod Keeping
+pub mod Passing
 pub mod Leaving
 pub mod Executing
 pub mod Fetching

@@ -37,7 +37,7 @@ use Rattle.tz_exec.specs.ItRules.{is_misplaced, is_passed_over, ignores_conditio
 use Rattle.tz_exec.specs.Exec.{Ported, ported, unless_refused, after_accesses, probed, Executed, alone, beside, through, Exclusivity, Free, Marks, Takes, exclusivity, marked, released, loads_stores, exclusively, family_of, executed_by}
 use Rattle.tz_sem.specs.Ended.{Passed, Ended, with_stores}
 use Rattle.tz_regs.specs.declared.parts.Before.{Before}
-use Rattle.tz_regs.specs.Registers.{is_handler, limit_of, before_in}
+use Rattle.tz_regs.specs.Registers.{is_handler, limit_of, side_in, before_in}
 use Rattle.tz_state.specs.Execution.{takes_first}
 use Rattle.tz_state.specs.Protection.{MpuState}
 use Rattle.tz_state.specs.State.{Bus, with_mpu}
@@ -55,14 +55,16 @@ use Rattle.tz_entry.specs.Gate.{call_base, call_stores, called_ns, after_call, i
 use Rattle.tz_entry.specs.Leave.{is_exc_return}
 use Rattle.tz_sem.specs.declared.ending.Cause.TheVariants.{Went, Returned}
 use Rattle.tz_sem.specs.declared.ending.Course.{Course}
+use Rattle.tz_sem.specs.Taking.{faults}
 use Rattle.tz_sem.specs.Exchange.{ran, branched, branch_ns, exchanged, through_port, called_with, calls}
 use Rattle.tz_sem.specs.Step.{length_of, with_it, past, skips, is_call, goes_on, concludes, executes, placed, decoded, fetched, fetcher_in, course_in, asleep, instructs, awake, without_event, takes, idles, is_woken, by_sleep, stepped, ended}
-use Rattle.tz_twin.specs.Seen.{crossing, Seen, Hidden}
+use Rattle.tz_twin.specs.Seen.{crossing, Seen}
 use Rattle.tz_twin.proofs.Split.{board_seen}
-use Rattle.tz_twin.proofs.Both.{after, Touching}
-use Rattle.tz_twin.proofs.Halting.{halts_locks, halts_preempted, halts_faults, halts_returns, halts_comes_back, touching_halts}
+use Rattle.tz_twin.proofs.After.{general_seen, after}
+use Rattle.tz_twin.proofs.Both.{Touching}
+use Rattle.tz_twin.proofs.Halting.{halts_locks, halts_preempted, halts_returns, halts_comes_back, touching_halts, touching_secure}
 use Rattle.tz_twin.proofs.Entering.{touching_faults, touching_enters}
-use Rattle.tz_twin.proofs.Returning.{secured, touching_returned}
+use Rattle.tz_twin.proofs.Returning.{secured, never, touching_returned, touching_called}
 
 -- the board that is seen is that of a state
 abbrev pub Of : Seen → State → Type 0
@@ -143,7 +145,11 @@ seeing negative = record { touched = true; negative = negative }
 
 -- an instruction after which Secure code runs on
 stays : (s0 s : State) (before : Seen) (negative : Bool) (code : Code) (stores : List Store) → Of before s → Touching s0 before (with_stores stores (ran (secured s) (seeing negative) code))
-stays s0 s before negative code stores e = record { touched = refl; seen = λ plain. ap Hidden (sym e) }
+stays s0 s before negative code stores e = touching_secure s0 before _ refl e refl
+
+-- what faults in a step that began in Secure code
+fault_touching : (s0 s : State) (before : Seen) (negative : Bool) (fault : Fault) (stores : List Store) → s0.core.run.side ≡ Secure → Of before s → Touching s0 before (with_stores stores (faults s (seeing negative) fault))
+fault_touching s0 s before negative fault stores starts e = touching_faults s0 s before negative fault stores e (λ h. absurd (never s0 starts h))
 
 touching_branch : (s0 s : State) (before : Seen) (negative : Bool) (code : Code) (stores : List Store) (target : ℕ) → s0.core.run.side ≡ Secure → Of before s
     → Touching s0 before (with_stores stores (branch_ns (secured s) (seeing negative) code target))
@@ -171,29 +177,30 @@ touching_exchanged : (s0 s p : State) (before : Seen) (core : Core) (negative : 
     → Touching s0 before (with_stores stores (exchanged core (secured s) (secured p) (seeing negative) code target ns))
 unfolding exchanged
 touching_exchanged s0 s p before core negative code stores target ns starts e f =
+    let back = halts_comes_back (side_in s0.core) core (secured s) (seeing negative) code in
+    let leaving = halts_returns (side_in s0.core) (secured p) (seeing negative) code target (λ h. absurd (never s0 starts h)) in
     touching_passed s0 before stores (is_fnc_return target) _ _
-    (touching_halts s0 (secured s) before stores _ e (halts_comes_back core (secured s) (seeing negative) code))
+    (touching_halts s0 (secured s) before true core.registers.general stores _ e (λ h. absurd (never s0 starts h)) (back.touched refl) back)
     (touching_passed s0 before stores (is_handler s.core.registers.ipsr && is_exc_return target) _ _
-    (touching_halts s0 (secured p) before stores _ f (halts_returns (secured p) (seeing negative) code target))
+    (touching_halts s0 (secured p) before true p.core.registers.general stores _ f (λ h. absurd (never s0 starts h)) (leaving.touched refl) leaving)
     (touching_passed s0 before stores ns _ _ (touching_branch s0 p before negative code stores target starts f)
     (stays s0 (branched p target (target % 2 == 1)) before negative code stores f)))
 
 -- ---- a call of Non-secure code
 
-touching_called_with : (s0 s : State) (before : Seen) (i : Insn) (negative : Bool) (code : Code) (c : Core) (h : Reached) (out : Result Unit Fault) → board_seen before ≡ h.system.bus.board
-    → Touching s0 before (called_with (past i) s (seeing negative) code (record { core = c; held = h; outcome = out }))
-touching_called_with s0 s before i negative code c h (Ok done) e = record { touched = refl; seen = λ plain. absurd (cc) }
-touching_called_with s0 s before i negative code c h (Err fault) e =
-    touching_halts s0 (through_port s c h) before h.stores _ e (halts_faults (through_port s c h) (seeing negative) fault)
+touching_refused : (s0 s : State) (before : Seen) (i : Insn) (negative : Bool) (code : Code) (c : Core) (h : Reached) (fault : Fault) → s0.core.run.side ≡ Secure → board_seen before ≡ h.system.bus.board
+    → Touching s0 before (called_with (past i) s (seeing negative) code (record { core = c; held = h; outcome = Err fault }))
+touching_refused s0 s before i negative code c h fault starts e = fault_touching s0 (through_port s c h) before negative fault h.stores starts e
 
-touching_called : (s0 s : State) (before : Seen) (i : Insn) (negative : Bool) (code : Code) (target : ℕ) (a : Reached × Result (List ℕ) Fault) → board_seen before ≡ a.0.system.bus.board
+touching_after_call : (s0 s : State) (before : Seen) (i : Insn) (negative : Bool) (code : Code) (target : ℕ) (a : Reached × Result (List ℕ) Fault) → s0.core.run.side ≡ Secure → board_seen before ≡ a.0.system.bus.board
     → Touching s0 before (called_with (past i) s (seeing negative) code (after_call s.core target a))
-touching_called s0 s before i negative code target (h, Ok words) e = touching_called_with s0 s before i negative code (called_ns s.core target) h (Ok tt) e
-touching_called s0 s before i negative code target (h, Err fault) e = touching_called_with s0 s before i negative code s.core h (Err fault) e
+touching_after_call s0 s before i negative code target (h, Ok words) starts e =
+    touching_called s0 (past i (through_port s (called_ns s.core target) h)) before negative code h.stores starts e refl
+touching_after_call s0 s before i negative code target (h, Err fault) starts e = touching_refused s0 s before i negative code s.core h fault starts e
 
-touching_calls : (s0 s : State) (before : Seen) (i : Insn) (negative : Bool) (code : Code) (target next : ℕ) → Of before s → Touching s0 before (calls (past i) s (seeing negative) code target next)
+touching_calls : (s0 s : State) (before : Seen) (i : Insn) (negative : Bool) (code : Code) (target next : ℕ) → s0.core.run.side ≡ Secure → Of before s → Touching s0 before (calls (past i) s (seeing negative) code target next)
 unfolding calls
-touching_calls s0 s before i negative code target next e = go (nat_lt (call_base s.core) (limit_of s.core.registers.ipsr s.core.stacks_s)) where
+touching_calls s0 s before i negative code target next starts e = go (nat_lt (call_base s.core) (limit_of s.core.registers.ipsr s.core.stacks_s)) where
   a : Reached × Result (List ℕ) Fault
   a = answers access (reached_in s) (call_stores s.core next)
 
@@ -202,15 +209,15 @@ touching_calls s0 s before i negative code target next e = go (nat_lt (call_base
 
   go : (t : Bool)
       → Touching s0 before (called_with (past i) s (seeing negative) code (cond t (record { core = s.core; held = reached_in s; outcome = Err (StackLimit Secure) }) (after_call s.core target a)))
-  go true = touching_called_with s0 s before i negative code s.core (reached_in s) (Err (StackLimit Secure)) e
-  go false = touching_called s0 s before i negative code target a board
+  go true = touching_refused s0 s before i negative code s.core (reached_in s) (StackLimit Secure) starts e
+  go false = touching_after_call s0 s before i negative code target a starts board
 
 touching_goes_on : (s0 s : State) (before : Seen) (core : Core) (negative : Bool) (code : Code) (i : Insn) (stores : List Store) (out : Outcome) → s0.core.run.side ≡ Secure → Of before s
     → Touching s0 before (goes_on core i (secured s) (seeing negative) code stores out)
 touching_goes_on s0 s before core negative code i stores Next starts e = stays s0 (with_pc (past i s) (wrap (s.core.registers.pc + length_of code))) before negative code stores e
 touching_goes_on s0 s before core negative code i stores (Jump to) starts e = stays s0 (with_pc (past i s) to) before negative code stores e
 touching_goes_on s0 s before core negative code i stores (Exchange target ns) starts e =
-    touching_cond s0 before (is_call i) _ _ (touching_calls s0 (secured s) before i negative code target (wrap (s.core.registers.pc + length_of code)) e)
+    touching_cond s0 before (is_call i) _ _ (touching_calls s0 (secured s) before i negative code target (wrap (s.core.registers.pc + length_of code)) starts e)
     (touching_exchanged s0 s (past i s) before core negative code stores target ns starts e e)
 touching_goes_on s0 s before core negative code i stores (Sleep event) starts e =
     stays s0 (with_pc (asleep event (past i s)) (wrap (s.core.registers.pc + length_of code))) before negative code stores e
@@ -229,7 +236,7 @@ record Stays (s : State) (e : Executed) : Type 0 where
 touching_concludes : (s0 s : State) (before : Seen) (core : Core) (negative : Bool) (code : Code) (i : Insn) (stores : List Store) (out : Result Outcome Fault) → s0.core.run.side ≡ Secure → Of before s
     → Touching s0 before (concludes core i (secured s) (seeing negative) code stores out)
 touching_concludes s0 s before core negative code i stores (Ok outcome) starts e = touching_goes_on s0 s before core negative code i stores outcome starts e
-touching_concludes s0 s before core negative code i stores (Err fault) starts e = touching_faults s0 (secured s) before negative fault stores e
+touching_concludes s0 s before core negative code i stores (Err fault) starts e = fault_touching s0 (secured s) before negative fault stores starts e
 
 touching_executes : (s0 s : State) (before : Seen) (core : Core) (negative : Bool) (code : Code) (i : Insn) (e : Executed) → s0.core.run.side ≡ Secure → Of before s → Stays s e
     → Touching s0 before (executes core (seeing negative) code i e)
@@ -297,7 +304,7 @@ stays_family s i System =
 
 touching_placed : (s : State) (before : Seen) (negative : Bool) (code : Code) (i : Insn) → Of before s → Touching (secured s) before (placed (secured s) (seeing negative) code i)
 touching_placed s before negative code i e =
-    touching_cond (secured s) before (is_misplaced i s.core.registers) _ _ (touching_faults (secured s) (secured s) before negative Undef [] e)
+    touching_cond (secured s) before (is_misplaced i s.core.registers) _ _ (fault_touching (secured s) (secured s) before negative Undef [] refl e)
     (touching_cond (secured s) before (is_passed_over s.core.registers && not (ignores_condition Secure i)) _ _ (touching_skips (secured s) s before negative code e)
     (touching_executes (secured s) s before (secured s).core negative code i _ refl e (stays_family s i (family_of i))))
 
@@ -305,15 +312,15 @@ touching_decoded : (s : State) (before : Seen) (negative : Bool) (code : Code) (
 touching_decoded s before negative code (One i width) e = touching_placed s before negative code i e
 touching_decoded s before negative code NoCoprocessor e =
     touching_cond (secured s) before (is_passed_over s.core.registers) _ _ (touching_skips (secured s) s before negative code e)
-    (touching_faults (secured s) (secured s) before negative NoCp [] e)
-touching_decoded s before negative code (Undefined width) e = touching_faults (secured s) (secured s) before negative Undef [] e
+    (fault_touching (secured s) (secured s) before negative NoCp [] refl e)
+touching_decoded s before negative code (Undefined width) e = fault_touching (secured s) (secured s) before negative Undef [] refl e
 
 -- ---- the step
 
 touching_fetched : (s : State) (before : Seen) (negative : Bool) (f : Result Fetched Fault) → Of before s → Touching (secured s) before (fetched (secured s) (seeing negative) f)
-touching_fetched s before negative (Err fault) e = touching_faults (secured s) (secured s) before negative fault [] e
+touching_fetched s before negative (Err fault) e = fault_touching (secured s) (secured s) before negative fault [] refl e
 touching_fetched s before negative (Ok f) e =
-    touching_cond (secured s) before f.gateway _ _ (touching_enters (secured s) (secured s) before negative refl e) (touching_decoded s before negative f.code (meaning_of f.code) e)
+    touching_cond (secured s) before f.gateway _ _ (touching_enters (secured s) (secured s) before negative e) (touching_decoded s before negative f.code (meaning_of f.code) e)
 
 -- an instruction of Secure code, with what comes where T is 0
 touching_instructs : (s : State) (before : Seen) → Of before s → Touching (secured s) before (instructs (secured s))
@@ -321,15 +328,15 @@ unfolding fetch
 touching_instructs s before e =
     touching_cond (secured s) before s.core.registers.t _ _
     (touching_fetched s before (is_negative_at (priority_in (secured s))) (own_fetch s.bus (fetcher_in (secured s)) s.core.registers.pc) e)
-    (touching_faults (secured s) (secured s) before (is_negative_at (priority_in (secured s))) InvState [] e)
+    (fault_touching (secured s) (secured s) before (is_negative_at (priority_in (secured s))) InvState [] refl e)
 
 -- what is told before doesn't know of sleep and the event flag
 touching_woken : (s r : State) (before : Seen) (x : Ended) → before_in (secured r).core ≡ before_in (secured s).core → Touching (secured r) before x → Touching (secured s) before x
 touching_woken s r before x same t =
-    record { touched = t.touched; seen = λ plain. t.seen plain ∙ ap (λ (b : Before). after before (crossing (stepped b x))) same }
+    record { touched = t.touched; seen = t.seen ∙ ap (λ (b : Before). after before (crossing (stepped b x))) same }
 
 touching_idles : (s : State) (before : Seen) → Of before s → Touching (secured s) before (idles (secured s))
-touching_idles s before e = record { touched = refl; seen = λ plain. ap Hidden (sym e) }
+touching_idles s before e = touching_secure (secured s) before _ refl e refl
 
 touching_sleeps : (s : State) (before : Seen) (sleep : Sleeping) → Of before s → Touching (secured s) before (by_sleep sleep (secured s))
 touching_sleeps s before Awake e = touching_instructs s before e
@@ -342,7 +349,8 @@ touching_sleeps s before Wfe e =
 -- an exception that comes before an instruction
 touching_taken : (s : State) (before : Seen) → Of before s → Touching (secured s) before (takes (secured s))
 touching_taken s before e =
-    touching_halts (secured s) (awake (secured s)) before [] _ e (halts_preempted (awake (secured s)) (course_in (secured s) true) s.core.registers.pc)
+    let h = halts_preempted Secure (awake (secured s)) (course_in (secured s) true) s.core.registers.pc in
+    touching_halts (secured s) (awake (secured s)) before true s.core.registers.general [] _ e (λ is. absurd (never (secured s) refl is)) (h.touched refl) h
 
 -- a step of Secure code
 touching_secured : (s : State) (before : Seen) → Of before s → Touching (secured s) before (ended (secured s))
@@ -362,7 +370,8 @@ touching_first s0 before false x y h p = absurd (cc)
 -- a step of a locked machine
 touching_locked : (s : State) (before : Seen) → s.core.run.locked ≡ true → Of before s → Touching s before (ended s)
 unfolding ended
-touching_locked s before is e = touching_first s before s.core.run.locked _ _ is (touching_halts s s before [] _ e (halts_locks s true))
+touching_locked s before is e = touching_first s before s.core.run.locked _ _ is
+    (touching_halts s s before true (general_seen before) [] _ e (λ h. refl) refl (halts_locks (side_in s.core) (general_seen before) s true))
 
 -- a step that starts Secure, or locked
 pub touching_step : (s : State) (before : Seen) → is_nonsecure_side (side_of s) ≡ false → Of before s → Touching s before (ended s)

@@ -144,7 +144,7 @@ by_join P h s s' t =
 -- ---- what is seen, taken apart
 
 -- the board that is seen
-pub board_seen : Seen → BoardValue
+unfoldable pub board_seen : Seen → BoardValue
 board_seen (Hidden b) = b
 board_seen (Shown b registers p) = b
 

@@ -15,15 +15,14 @@ use Rattle.tz_state.specs.Fetch.{fetch, needs_second, half_verdict, with_second,
 use Rattle.tz_state.specs.Execution.{takes_first}
 use Rattle.tz_state.specs.Due.{begun}
 use Rattle.tz_model.specs.Codes.{meaning_of}
-use Rattle.tz_sem.specs.declared.ending.Course.{Course}
 use Rattle.tz_sem.specs.Ended.{Ended}
 use Rattle.tz_sem.specs.Step.{fetched, fetches, fetcher_in, fetch_in, looks, unready, instructs, course_in, takes, idles, is_woken, by_sleep, ended, started}
-use Rattle.tz_twin.specs.Seen.{Seen}
+use Rattle.tz_twin.specs.Seen.{Seen, seen}
 use Rattle.tz_twin.proofs.Fetching.{own_fetch_same, own_fetch_own}
 use Rattle.tz_twin.proofs.Faults.{is_own, Own}
-use Rattle.tz_twin.proofs.Split.{Open, Rest, open_map, join_bus, join, Same, Twins, twins_join, by_join}
+use Rattle.tz_twin.proofs.Split.{Open, Rest, open_map, join_bus, join, Same, Twins, twins_join, by_join, seen_of_twins}
 use Rattle.tz_twin.proofs.Both.{Kept, Touching, Stops, Both, Go, Stop, Touch, both_cond, both_second}
-use Rattle.tz_twin.proofs.Keeping.{stops_preempted}
+use Rattle.tz_twin.proofs.Passing.{preempted_both}
 use Rattle.tz_twin.proofs.Executing.{decoded_same}
 use Rattle.tz_twin.proofs.Leaving.{kept_of, goes, left_all, left_again, both_fault}
 use Rattle.tz_twin.proofs.Entering.{touching_gateway, arrives_gateway}
@@ -55,11 +54,11 @@ own_unready true NonSecure = refl
 own_unready true Secure = refl
 own_unready false side = refl
 
-fetched_same : (o : Open) (x x' : Rest) (course : Course) (a : Result Fetched Fault) → IsPlain a → Own a → Same o x x'
-    → Both (join o x) (join o x') (fetched (join o x) course a) (fetched (join o x') course a)
+fetched_same : (o : Open) (x x' : Rest) (a : Result Fetched Fault) → IsPlain a → Own a → Same o x x'
+    → Both (join o x) (join o x') (fetched (join o x) (course_in (join o x) (is_entry_fault a)) a) (fetched (join o x') (course_in (join o x') (is_entry_fault a)) a)
 unfolding IsPlain Own
-fetched_same o x x' course (Err fault) plain own same = both_fault o x x' course fault own same
-fetched_same o x x' course (Ok f) plain own same = both_second _ _ f.gateway _ _ _ _ plain (decoded_same o x x' course f.code (meaning_of f.code) same)
+fetched_same o x x' (Err fault) plain own same = both_fault o x x' (course_in (join o x) (is_entry_fault (Err fault))) fault own same
+fetched_same o x x' (Ok f) plain own same = both_second _ _ f.gateway _ _ _ _ plain (decoded_same o x x' (course_in (join o x) false) f.code (meaning_of f.code) refl same)
 
 -- a fetch of Non-secure code, by whether it begins in Non-secure memory
 fetches_same : (o : Open) (x x' : Rest) → Same o x x' → Both (join o x) (join o x') (fetches (join o x) (fetch_in (join o x))) (fetches (join o x') (fetch_in (join o x')))
@@ -78,12 +77,13 @@ fetches_same o x x' same = go (is_own_fetch (open_map o) NonSecure pc) where
   inside =
       subst (λ (a : Result Fetched Fault). Both (join o x) (join o x') (fetches (join o x) (own_touch (own_fetch (join_bus o x) k pc))) (fetches (join o x') (own_touch a)))
       (own_fetch_same k o x x' k.secure_privileged k'.secure_privileged pc same.bytes)
-      (fetched_same o x x' (course_in (join o x) (is_entry_fault (own_fetch (join_bus o x) k pc))) (own_fetch (join_bus o x) k pc) (own_fetch_plain (join_bus o x) k pc) (own_fetch_own (join_bus o x) k pc refl) same)
+      (fetched_same o x x' (own_fetch (join_bus o x) k pc) (own_fetch_plain (join_bus o x) k pc) (own_fetch_own (join_bus o x) k pc refl) same)
 
   go : (t : Bool) → Both (join o x) (join o x') (fetches (join o x) (cond t (own_touch (own_fetch (join_bus o x) k pc)) (record { touched = true; answer = gateway_fetch (join_bus o x) k pc })))
       (fetches (join o x') (cond t (own_touch (own_fetch (join_bus o x') k' pc)) (record { touched = true; answer = gateway_fetch (join_bus o x') k' pc })))
   go true = inside
-  go false = Touch (touching_gateway o x) (touching_gateway o x') (arrives_gateway o x) (arrives_gateway o x')
+  go false =
+      Touch (seen (join o x)) (seen (join o x')) (seen_of_twins (join o x) (join o x') (twins_join o x x' same)) (touching_gateway o x) (touching_gateway o x') (arrives_gateway o x) (arrives_gateway o x')
 
 -- the same part but for what it waits for and the event flag
 resting : Open → Sleep → Bool → Open
@@ -121,7 +121,7 @@ resting_kept o x sleep event r k = record {
 resting_stops : (o : Open) (x : Rest) (sleep : Sleep) (event : Bool) (e : Ended) → Stops (join (resting o sleep event) x) e → Stops (join o x) e
 unfolding resting
 resting_stops o x sleep event e h =
-    record { hidden = h.hidden; board = h.board; kept = λ u. resting_kept o x sleep event e.state (h.kept u) }
+    record { locked = h.locked; board = h.board; kept = λ u. resting_kept o x sleep event e.state (h.kept u) }
 
 -- a step from such a part is one from that part
 rested_both : (o : Open) (x x' : Rest) (sleep : Sleep) (event : Bool) (e e' : Ended) → Both (join (resting o sleep event) x) (join (resting o sleep event) x') e e' → Both (join o x) (join o x') e e'
@@ -135,8 +135,8 @@ rested_both o x x' sleep event e e' (Go h) =
       kept' = resting_kept o x' sleep event e'.state h.kept';
     })
 rested_both o x x' sleep event e e' (Stop h h') = Stop (resting_stops o x sleep event e h) (resting_stops o x' sleep event e' h')
-rested_both o x x' sleep event e e' (Touch t t' a a') =
-    Touch (λ before is. touching_resting o x sleep event before e (t before is)) (λ before is. touching_resting o x' sleep event before e' (t' before is)) a a'
+rested_both o x x' sleep event e e' (Touch before before' alike t t' a a') =
+    Touch before before' alike (touching_resting o x sleep event before e t) (touching_resting o x' sleep event before' e' t') a a'
 
 same_resting : (o : Open) (x x' : Rest) (sleep : Sleep) (event : Bool) → Same o x x' → Same (resting o sleep event) x x'
 unfolding resting
@@ -160,8 +160,7 @@ unfolding resting
 taken_same o x x' same =
     let p = resting o Awake o.event in
     let h = left_again o x x' o p x x' refl refl refl refl (left_all o x x' same) in
-    Stop (stops_preempted (join o x) (join p x) (course_in (join o x) false) o.registers.pc [] refl (kept_of o x p x h.leaves))
-    (stops_preempted (join o x') (join p x') (course_in (join o x') false) o.registers.pc [] refl (kept_of o x' p x' h.leaves'))
+    preempted_both o p x x' x x' (course_in (join o x) false) o.registers.pc [] h.same (kept_of o x p x h.leaves) (kept_of o x' p x' h.leaves')
 
 ended_same : (o : Open) (x x' : Rest) → Same o x x' → Both (join o x) (join o x') (ended (join o x)) (ended (join o x'))
 unfolding ended

@@ -21,8 +21,8 @@ use Rattle.tz_text.specs.Line.{is_hidden, line}
 use Rattle.tz_twin.specs.Seen.{crossing, Agree, Seen, Hidden, seen}
 use Rattle.tz_twin.specs.Trace.{text_from}
 use Rattle.tz_twin.proofs.Split.{Open, Twins, by_join, board_seen-seen, sides_alike, twins_of_seen, seen_of_twins}
-use Rattle.tz_twin.specs.Plain.{is_plain, Plain}
-use Rattle.tz_twin.proofs.Both.{after, Touching, Goes, Stops, Both, Go, Stop, Touch}
+use Rattle.tz_twin.proofs.After.{after}
+use Rattle.tz_twin.proofs.Both.{Touching, Goes, Stops, Both, Go, Stop, Touch}
 use Rattle.tz_twin.proofs.Halting.{locked_seen}
 use Rattle.tz_twin.proofs.Secured.{touching_step}
 use Rattle.tz_twin.proofs.Stepping.{twin_ended, twin_started}
@@ -75,48 +75,39 @@ locked_line k b e h =
     hidden_line k (report_of b e)
     (or_second e.ending.touched (not (is_nonsecure_side (side_of e.state))) (ap (λ (side : Side). not (is_nonsecure_side side)) (locked_side e.state h)))
 
--- both are plain
-pub record BothPlain (e e' : Ended) : Type 0 where
-  pub first : is_plain e.ending.cause ≡ true
-  pub second : is_plain e'.ending.cause ≡ true
-
-linked_stops : (k : ℕ) (s s' : State) (e e' : Ended) → Twins s s' → BothPlain e e' → Stops s e → Stops s' e' → Linked k (stepped (before_in s.core) e) (stepped (before_in s'.core) e')
-linked_stops k s s' e e' t plain h h' =
-    let l = h.hidden plain.first in
-    let l' = h'.hidden plain.second in
-    record {
-      seen = locked_seen e.state l ∙ ap Hidden (h.board ∙ ap (λ (o : Open). o.board) t.opens ∙ sym h'.board) ∙ sym (locked_seen e'.state l');
-      line = locked_line k (before_in s.core) e l ∙ sym (locked_line k (before_in s'.core) e' l');
-    }
+linked_stops : (k : ℕ) (s s' : State) (e e' : Ended) → Twins s s' → Stops s e → Stops s' e' → Linked k (stepped (before_in s.core) e) (stepped (before_in s'.core) e')
+linked_stops k s s' e e' t h h' = record {
+  seen = locked_seen e.state h.locked ∙ ap Hidden (h.board ∙ ap (λ (o : Open). o.board) t.opens ∙ sym h'.board) ∙ sym (locked_seen e'.state h'.locked);
+  line = locked_line k (before_in s.core) e h.locked ∙ sym (locked_line k (before_in s'.core) e' h'.locked);
+}
 
 -- ---- steps that looked at Secure state
 
 -- they are linked where they cross alike
-linked_touching : (k : ℕ) (s s' : State) (before before' : Seen) (e e' : Ended) → before ≡ before' → crossing (stepped (before_in s.core) e) ≡ crossing (stepped (before_in s'.core) e') → BothPlain e e'
+linked_touching : (k : ℕ) (s s' : State) (before before' : Seen) (e e' : Ended) → before ≡ before' → crossing (stepped (before_in s.core) e) ≡ crossing (stepped (before_in s'.core) e')
     → Touching s before e → Touching s' before' e' → Linked k (stepped (before_in s.core) e) (stepped (before_in s'.core) e')
-linked_touching k s s' before before' e e' alike same plain t t' = record {
-  seen = t.seen plain.first ∙ ap (λ b. after b (crossing (stepped (before_in s.core) e))) alike ∙ ap (after before') same ∙ sym (t'.seen plain.second);
+linked_touching k s s' before before' e e' alike same t t' = record {
+  seen = t.seen ∙ ap (λ b. after b (crossing (stepped (before_in s.core) e))) alike ∙ ap (after before') same ∙ sym t'.seen;
   line = hidden_line k (report_of (before_in s.core) e) (or_first e.ending.touched _ t.touched)
       ∙ sym (hidden_line k (report_of (before_in s'.core) e') (or_first e'.ending.touched _ t'.touched));
 }
 
-linked_both : (k : ℕ) (s s' : State) (e e' : Ended) → Twins s s' → crossing (stepped (before_in s.core) e) ≡ crossing (stepped (before_in s'.core) e') → BothPlain e e' → Both s s' e e'
+linked_both : (k : ℕ) (s s' : State) (e e' : Ended) → Twins s s' → crossing (stepped (before_in s.core) e) ≡ crossing (stepped (before_in s'.core) e') → Both s s' e e'
     → Linked k (stepped (before_in s.core) e) (stepped (before_in s'.core) e')
-linked_both k s s' e e' t same plain (Go h) = linked_goes k s s' e e' t h
-linked_both k s s' e e' t same plain (Stop h h') = linked_stops k s s' e e' t plain h h'
-linked_both k s s' e e' t same plain (Touch h h' a a') =
-    linked_touching k s s' (seen s) (seen s') e e' (seen_of_twins s s' t) same plain (h (seen s) (board_seen-seen s)) (h' (seen s') (board_seen-seen s'))
+linked_both k s s' e e' t same (Go h) = linked_goes k s s' e e' t h
+linked_both k s s' e e' t same (Stop h h') = linked_stops k s s' e e' t h h'
+linked_both k s s' e e' t same (Touch before before' alike h h' a a') = linked_touching k s s' before before' e e' alike same h h'
 
 -- from states that are seen alike, steps that cross alike
-pub linked_step : (k : ℕ) (s s' : State) → seen s ≡ seen s' → crossing (stepped (before_in s.core) (ended s)) ≡ crossing (stepped (before_in s'.core) (ended s')) → BothPlain (ended s) (ended s')
+pub linked_step : (k : ℕ) (s s' : State) → seen s ≡ seen s' → crossing (stepped (before_in s.core) (ended s)) ≡ crossing (stepped (before_in s'.core) (ended s'))
     → Linked k (stepped (before_in s.core) (ended s)) (stepped (before_in s'.core) (ended s'))
-linked_step k s s' alike same plain = go (is_nonsecure_side (side_of s)) refl where
+linked_step k s s' alike same = go (is_nonsecure_side (side_of s)) refl where
   go : (t : Bool) → is_nonsecure_side (side_of s) ≡ t → Linked k (stepped (before_in s.core) (ended s)) (stepped (before_in s'.core) (ended s'))
   go true is =
       let t = twins_of_seen s s' alike is in
-      linked_both k s s' (ended s) (ended s') t same plain (twin_ended s s' t)
+      linked_both k s s' (ended s) (ended s') t same (twin_ended s s' t)
   go false is =
-      linked_touching k s s' (seen s) (seen s') (ended s) (ended s') alike same plain
+      linked_touching k s s' (seen s) (seen s') (ended s) (ended s') alike same
       (touching_step s (seen s) is (board_seen-seen s)) (touching_step s' (seen s') (sym (sides_alike s s' alike) ∙ is) (board_seen-seen s'))
 
 -- ---- runs
@@ -137,13 +128,13 @@ seen_started s s' events e = go (is_nonsecure_side (side_of s)) refl where
       hidden_started s events is ∙ sym (hidden_seen s is) ∙ e ∙ hidden_seen s' is' ∙ sym (hidden_started s' events is')
 
 -- n steps print the same
-pub same_text : (events : Events) (n k : ℕ) (s s' : State) → seen s ≡ seen s' → Plain events k s n → Plain events k s' n → Agree events k s s' n → text_from Ns events k s n ≡ text_from Ns events k s' n
-same_text events zero k s s' e plain plain' agree = refl
-same_text events (suc n) k s s' e plain plain' agree =
+pub same_text : (events : Events) (n k : ℕ) (s s' : State) → seen s ≡ seen s' → Agree events k s s' n → text_from Ns events k s n ≡ text_from Ns events k s' n
+same_text events zero k s s' e agree = refl
+same_text events (suc n) k s s' e agree =
     let r = started s (events k) in
     let r' = started s' (events k) in
-    let a = linked_step k r r' (seen_started s s' (events k) e) agree.0 (record { first = plain.0; second = plain'.0 }) in
-    rw (a.line, same_text events n (k + 1) (ended r).state (ended r').state a.seen plain.1 plain'.1 agree.1) refl
+    let a = linked_step k r r' (seen_started s s' (events k) e) agree.0 in
+    rw (a.line, same_text events n (k + 1) (ended r).state (ended r').state a.seen agree.1) refl
 
 -- nothing of a start is seen but the board
 pub boot_seen : (b : BoardValue) (secure nonsecure : ImageValue) → seen (boot b secure nonsecure) ≡ Hidden b
@@ -157,7 +148,7 @@ boot_seen b secure nonsecure = go (has_vectors b) where
   go false = refl
 
 -- two starts with one Non-secure image, and any two Secure images
-pub isolated : (b : BoardValue) (secure other nonsecure : ImageValue) (events : Events) (n : ℕ) → Plain events 0 (boot b secure nonsecure) n → Plain events 0 (boot b other nonsecure) n → Agree events 0 (boot b secure nonsecure) (boot b other nonsecure) n
+pub isolated : (b : BoardValue) (secure other nonsecure : ImageValue) (events : Events) (n : ℕ) → Agree events 0 (boot b secure nonsecure) (boot b other nonsecure) n
     → text_from Ns events 0 (boot b secure nonsecure) n ≡ text_from Ns events 0 (boot b other nonsecure) n
-isolated b secure other nonsecure events n plain plain' agree =
-    same_text events n 0 (boot b secure nonsecure) (boot b other nonsecure) (boot_seen b secure nonsecure ∙ sym (boot_seen b other nonsecure)) plain plain' agree
+isolated b secure other nonsecure events n agree =
+    same_text events n 0 (boot b secure nonsecure) (boot b other nonsecure) (boot_seen b secure nonsecure ∙ sym (boot_seen b other nonsecure)) agree

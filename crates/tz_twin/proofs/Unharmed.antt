@@ -6,10 +6,9 @@ use Rattle.tz_state.specs.Due.{begun}
 use Rattle.tz_state.specs.State.{State, side_of}
 use Rattle.tz_sem.specs.Ended.{Ended}
 use Rattle.tz_sem.specs.Step.{ended, started}
-use Rattle.tz_twin.specs.Seen.{seen}
 use Rattle.tz_twin.specs.Plain.{is_plain, steps_plainly}
 use Rattle.tz_twin.specs.Integrity.{Keeps, CountsAlone, IsAtGateway}
-use Rattle.tz_twin.proofs.Split.{twins_of_seen, board_seen-seen}
+use Rattle.tz_twin.proofs.Split.{twins_of_seen}
 use Rattle.tz_twin.proofs.Slots.{then, begun_kept}
 use Rattle.tz_twin.proofs.Both.{Kept, Both, Go, Stop, Touch}
 use Rattle.tz_twin.proofs.Stepping.{twin_ended}
@@ -21,12 +20,12 @@ apart false e f = cc
 keeps_both : (s : State) (e : Ended) → Both s s e e → e.ending.touched ≡ false → Kept s e.state
 keeps_both s e (Go h) untouched = h.kept
 keeps_both s e (Stop h h') untouched = h.kept untouched
-keeps_both s e (Touch h h' a a') untouched = absurd (apart e.ending.touched (h (seen s) (board_seen-seen s)).touched untouched)
+keeps_both s e (Touch before before' alike h h' a a') untouched = absurd (apart e.ending.touched h.touched untouched)
 
 arrives_both : (s : State) (e : Ended) → Both s s e e → is_plain e.ending.cause ≡ true → is_nonsecure_side (side_of e.state) ≡ false → e.state.core.run.locked ≡ false → IsAtGateway s
 arrives_both s e (Go h) plain secure unlocked = absurd (apart (is_nonsecure_side (side_of e.state)) h.twins.runs secure)
-arrives_both s e (Stop h h') plain secure unlocked = absurd (apart e.state.core.run.locked (h.hidden plain) unlocked)
-arrives_both s e (Touch h h' a a') plain secure unlocked = a plain secure unlocked
+arrives_both s e (Stop h h') plain secure unlocked = absurd (apart e.state.core.run.locked h.locked unlocked)
+arrives_both s e (Touch before before' alike h h' a a') plain secure unlocked = a plain secure unlocked
 
 itself : (s : State) → is_nonsecure_side (side_of s) ≡ true → Both s s (ended s) (ended s)
 itself s is = twin_ended s s (twins_of_seen s s refl is)

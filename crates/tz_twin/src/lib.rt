@@ -14,15 +14,13 @@ ghost use Rattle.tz_sem.specs.Boot.{boot};
 ghost use Rattle.tz_sem.specs.Step.{step};
 ghost use Rattle.tz_sem.specs.Run.{Events};
 ghost use Rattle.tz_twin.specs.Seen.{Agree};
-ghost use Rattle.tz_twin.specs.Plain.{Plain};
 ghost use Rattle.tz_twin.specs.Trace.{text_from};
 ghost use Rattle.tz_twin.specs.Integrity.{LeavesSecure, EntersByGateway};
 
 /// Isolation: two runs of a board, a Non-secure image and a script, with any two Secure images, that
-/// agree in what crosses out of Secure state print the same for Non-secure code, as long as neither takes an exception,
-/// returns from one, calls Non-secure code, or returns by FNC_RETURN.
+/// agree in what crosses out of Secure state print the same for Non-secure code.
 pub fn isolation()
-    ensures { (b : BoardValue) (secure other nonsecure : ImageValue) (events : Events) (n : ℕ) → Plain events 0 (boot b secure nonsecure) n → Plain events 0 (boot b other nonsecure) n → Agree events 0 (boot b secure nonsecure) (boot b other nonsecure) n →
+    ensures { (b : BoardValue) (secure other nonsecure : ImageValue) (events : Events) (n : ℕ) → Agree events 0 (boot b secure nonsecure) (boot b other nonsecure) n →
         text_from Ns events 0 (boot b secure nonsecure) n ≡ text_from Ns events 0 (boot b other nonsecure) n }
 {}
 
