@@ -5,7 +5,6 @@ use Rattle.tz_model.specs.declared.report.View.TheVariants.{Ns}
 use Rattle.tz_model.specs.Image.{ImageValue}
 use Rattle.tz_model.specs.Outside.{Held, Rose, Gains}
 use Rattle.tz_sem.specs.Boot.{boot}
-use Rattle.tz_twin.specs.Plain.{Plain}
 use Rattle.tz_twin.specs.Seen.{Agree}
 use Rattle.tz_twin.specs.Trace.{text_from}
 use Rattle.tz_run.specs.Events.{events_of}
@@ -327,12 +326,12 @@ trace_written c result a is r e job told = (task_written c result a (omega arith
 
 -- what was written is the trace of each other Secure image whose run agrees
 pub isolated_trace : (c : Call) (result : ℕ) → Answer c result → result ≡ 0 → (r : RunWords) → c.command ≡ Some (Run r) → (job : Job) → job_told c.shelf.held r ≡ Gives job → job.words.view ≡ Ns
-    → (image : ImageValue) → Plain (events_of job.start.script) 0 (state_of job.start) job.words.steps → Plain (events_of job.start.script) 0 (boot job.start.board image job.start.nonsecure) job.words.steps
+    → (image : ImageValue)
     → Agree (events_of job.start.script) 0 (state_of job.start) (boot job.start.board image job.start.nonsecure) job.words.steps
     → Gains c.out_old c.out_new (text_from Ns (events_of job.start.script) 0 (boot job.start.board image job.start.nonsecure) job.words.steps)
-isolated_trace c result a is r e job told view image plain plain' agree =
+isolated_trace c result a is r e job told view image agree =
     let shown : trace_of job ≡ text_from Ns (events_of job.start.script) 0 (state_of job.start) job.words.steps = ap (λ v. text_from v (events_of job.start.script) 0 (state_of job.start) job.words.steps) view in
-    let same = isolated job.start.board job.start.secure image job.start.nonsecure (events_of job.start.script) job.words.steps plain plain' agree in
+    let same = isolated job.start.board job.start.secure image job.start.nonsecure (events_of job.start.script) job.words.steps agree in
     subst (λ (x : List ℕ). Gains c.out_old c.out_new x) (shown ∙ same) (trace_written c result a is r e job told)
 
 -- ---- all statuses

@@ -12,7 +12,6 @@ ghost use Rattle.tz_model.specs.Image.{ImageValue};
 ghost use Rattle.tz_model.specs.Outside.{Rose, Gains};
 ghost use Rattle.tz_sem.specs.Boot.{boot};
 ghost use Rattle.tz_elf.specs.Images.{image_of};
-ghost use Rattle.tz_twin.specs.Plain.{Plain};
 ghost use Rattle.tz_twin.specs.Seen.{Agree};
 ghost use Rattle.tz_twin.specs.Trace.{text_from};
 ghost use Rattle.tz_run.specs.Events.{events_of};
@@ -81,12 +80,9 @@ pub fn top<H: Shelf, O: Sink, E: Sink>(
         Gains (O.written out.old) (O.written out.new) (trace_of job) }
 
     // Isolation: what Non-secure code is shown is also the trace of every other file that is a Secure
-    // image of the board, where both runs cross out of Secure state alike, and neither takes an exception, returns
-    // from one, calls Non-secure code, or returns by FNC_RETURN.
+    // image of the board, where both runs cross out of Secure state alike.
     ensures isolation { result ≡ 0 → (r : RunWords) → command_of (map string_bytes words.now) ≡ Some (Run r) → (job : Job) → job_told (H.held shelf.old) r ≡ Gives job → job.words.view ≡ Ns →
         (other : List ℕ) (image : ImageValue) → image_of other job.start.board Secure ≡ Ok image →
-        Plain (events_of job.start.script) 0 (state_of job.start) job.words.steps →
-        Plain (events_of job.start.script) 0 (boot job.start.board image job.start.nonsecure) job.words.steps →
         Agree (events_of job.start.script) 0 (state_of job.start) (boot job.start.board image job.start.nonsecure) job.words.steps →
         Gains (O.written out.old) (O.written out.new) (text_from Ns (events_of job.start.script) 0 (boot job.start.board image job.start.nonsecure) job.words.steps) }
 {

@@ -55,4 +55,4 @@ pub returns-clause-trace : goal.returns-clause-trace
 returns-clause-trace g c = trace_written _ _ c.answer.ensures
 
 pub returns-clause-isolation : goal.returns-clause-isolation
-returns-clause-isolation g c = λ done r run job told view other image accepted plain plain' agree. isolated_trace _ _ c.answer.ensures done r run job told view image plain plain' agree
+returns-clause-isolation g c = λ done r run job told view other image accepted agree. isolated_trace _ _ c.answer.ensures done r run job told view image agree
