@@ -12,6 +12,7 @@ pub mod OwnFrames
 pub mod EntrySpares
 pub mod ReturnSpares
 pub mod Works
+pub mod FaultTwins
 pub mod Halting
 pub mod Keeping
 pub mod Leaving
