@@ -53,7 +53,7 @@ spared_then c1 c2 c3 e1 e2 e3 h k = record {
 }
 
 -- a choice writes nothing; where it has not looked at Secure state, it had not before, and spares the Secure side
-record Spares (w v : Work Framed) : Type 0 where
+pub record Spares (w v : Work Framed) : Type 0 where
   pub held : v.held ≡ w.held
   pub callee : writes_callee v.entry ≡ writes_callee w.entry
   pub touched : v.entry.touched ≡ false → w.entry.touched ≡ false
@@ -128,7 +128,7 @@ spares_second : (w : Work Framed) (t : Bool) (x y : Chosen Framed) → t ≡ fal
 spares_second w true x y is h = absurd (cc)
 spares_second w false x y is h = h
 
-no_callee : (a b c : Bool) → (a && not c) ≡ false → ((a && b) && not c) ≡ false
+pub no_callee : (a b c : Bool) → (a && not c) ≡ false → ((a && b) && not c) ≡ false
 no_callee true true c h = h
 no_callee true false c h = refl
 no_callee false b c h = refl
@@ -146,7 +146,7 @@ choosing_from_spares : (profile : Profile) (w : Work Framed) (first : Option Slo
 choosing_from_spares profile w None none = spares_all w
 choosing_from_spares profile w (Some given) none = taking_spares profile w given none
 
-choosing_spares : (profile : Profile) (w : Work Framed) → writes_callee w.entry ≡ false → Spares w (choosing framed profile w).work
+pub choosing_spares : (profile : Profile) (w : Work Framed) → writes_callee w.entry ≡ false → Spares w (choosing framed profile w).work
 unfolding choosing
 choosing_spares profile w none = choosing_from_spares profile w (chosen w.exceptions) none
 

@@ -13,6 +13,7 @@ pub mod EntrySpares
 pub mod ReturnSpares
 pub mod Works
 pub mod FaultTwins
+pub mod EntryTwins
 pub mod Halting
 pub mod Keeping
 pub mod Leaving
