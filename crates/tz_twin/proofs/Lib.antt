@@ -14,6 +14,7 @@ pub mod ReturnSpares
 pub mod Works
 pub mod FaultTwins
 pub mod EntryTwins
+pub mod ReturnTwins
 pub mod Halting
 pub mod Keeping
 pub mod Leaving
