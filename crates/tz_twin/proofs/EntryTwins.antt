@@ -178,7 +178,7 @@ of_number number side = record { number = number; side = side }
 abbrev state_of : Core → ExceptionsValue → Bus → State
 state_of c e b = record { core = c; exceptions = e; bus = b }
 
--- what a choice left that comes of twins and is split into one open part
+-- a choice that leaves both beside one open part
 chooses_alike : (p : Open) (y y' : Rest) (k : Ground) (g g' : Guise) (entry : Entering) (choice : Choice) → Same p y y'
     → ChosenBoth (record { work = work_of p y k g entry; choice = choice }) (record { work = work_of p y' k g' entry; choice = choice })
 chooses_alike p y y' k g g' entry choice same =
@@ -196,7 +196,7 @@ chooses_alike p y y' k g g' entry choice same =
       same = same;
     }) refl
 
--- with one word of the vector
+-- where both read the same word, or meet the same fault
 vectored_by_twins : (profile : Profile) (o : Open) (x x' : Rest) (k : Ground) (g g' : Guise) (entry : Entering) (number : ℕ) (r : Result ℕ Fault) → Same o x x'
     → ChosenBoth (vectored_by profile (work_of o x k g entry) (of_number number NonSecure) r) (vectored_by profile (work_of o x' k g' entry) (of_number number NonSecure) r)
 unfolding vector_failed
@@ -267,6 +267,7 @@ goes_looking again w (choices.Taken given) t h = t
 goes_looking again w choices.Lockup t h = t
 goes_looking again w choices.Again t h = stays (entered_touched (again w).result) w.entry.touched h.touched t
 
+-- one choice of both, with what comes of another
 goes_alike : (again : Work Framed → Done Framed) (w w' : Work Framed) (choice : Choice) → WorkTwins w w' → DoneBoth (again w) (again w') → DoneBoth (goes_on again w choice) (goes_on again w' choice)
 goes_alike again w w' (choices.Taken given) t h =
     EntersAlike (record {
@@ -291,6 +292,7 @@ goes_twins again v v' (ChoosesAlike t e) spares spares' both =
 goes_twins again v v' (ChoosesLooking t t') spares spares' both =
     EntersLooking (goes_looking again v.work v.choice t spares) (goes_looking again v'.work v'.choice t' spares')
 
+-- the choices of an entry, but for one that is to write an additional frame
 pub tries_twins : (profile : Profile) (n : ℕ) (w w' : Work Framed) → writes_callee w.entry ≡ false → WorkTwins w w' → DoneBoth (tries framed profile n w) (tries framed profile n w')
 unfolding tries
 tries_twins profile zero w w' none t = EntersLocked refl refl
@@ -311,6 +313,7 @@ done_cond false false x y x' y' e h k = k
 done_cond true false x y x' y' e h k = absurd (cc)
 done_cond false true x y x' y' e h k = absurd (cc)
 
+-- a fault of the basic frame is the same in both, so both lock or choose
 begins_raised_twins : (profile : Profile) (o : Open) (x x' : Rest) (k : Ground) (g g' : Guise) (entry : Entering) (r r' : Raised) → writes_callee entry ≡ false → RaisedTwins o x x' r r'
     → DoneBoth (begins_raised framed profile (held_of o x k g) entry r) (begins_raised framed profile (held_of o x' k g') entry r')
 begins_raised_twins profile o x x' k g g' entry r r' none h =
@@ -353,6 +356,7 @@ begins_twins profile o x x' k g g' entry (Some fault) none own same =
     begins_raised_twins profile o x x' k g g' entry (frame_faulted true NonSecure fault (join o x).core o.exceptions) (frame_faulted true NonSecure fault (join o x').core o.exceptions) none
     (frame_faulted_twins true o x x' fault own same)
 
+-- an entry from Non-secure code
 pub enters_twins : (profile : Profile) (o : Open) (x x' : Rest) (k : Ground) (g g' : Guise) (back : ℕ) → Same o x x'
     → DoneBoth (enters framed profile (join o x).core o.exceptions (held_of o x k g) back) (enters framed profile (join o x').core o.exceptions (held_of o x' k g') back)
 unfolding enters

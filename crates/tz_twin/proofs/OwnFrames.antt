@@ -70,6 +70,14 @@ open_asked f kind a privileged e = go (every (is_open (map_in f.bus)) a Word) (i
   go false true rest h = cc
   go false false rest h = cc
 
+none_in_map : (a : ℕ) (v : Option Fault) → in_map_alone a v ≡ None → v ≡ None
+none_in_map a None e = refl
+none_in_map a (Some fault) e = cc
+
+-- and so are the words of a frame
+pub open_framed : (f : Framed) (kind : Kind) (a : ℕ) (privileged : Bool) → frame_verdict f kind a NonSecure privileged ≡ None → every (is_open (map_in f.bus)) a Word ≡ true
+open_framed f kind a privileged e = open_asked f kind a privileged (none_in_map a _ e)
+
 -- ---- words that are written
 
 record Stored (f : Framed) (a : Framed × Result ℕ Fault) : Type 0 where
@@ -81,13 +89,9 @@ unfolding Own OwnSome
 stored_by (Some fault) f a value own is = record { bytes = keeps_nothing_changed (map_in f.bus) f.bus.memory; own = own }
 stored_by None f a value own is = record { bytes = write_kept (map_in f.bus) f.bus.memory Word a value (is refl); own = tt }
 
-none_in_map : (a : ℕ) (v : Option Fault) → in_map_alone a v ≡ None → v ≡ None
-none_in_map a None e = refl
-none_in_map a (Some fault) e = cc
-
 stored : (f : Framed) (a : ℕ) (privileged : Bool) (value : ℕ) → Stored f (framed f (FrameStore a NonSecure privileged value))
 stored f a privileged value =
-    stored_by (frame_verdict f Write a NonSecure privileged) f a value (own_verdict f Write a privileged) (λ e. open_asked f Write a privileged (none_in_map a _ e))
+    stored_by (frame_verdict f Write a NonSecure privileged) f a value (own_verdict f Write a privileged) (open_framed f Write a privileged)
 
 record Wrote (f : Framed) (a : Framed × Option Fault) : Type 0 where
   pub bytes : KeepsBytes (map_in f.bus) f.bus.memory a.0.bus.memory

@@ -38,7 +38,7 @@ left_touched (lefts.Lockup touched) = touched
 
 -- what a stage of a return leaves, and whether it looked at Secure state before: nothing is written, and where it
 -- didn't look in the end, it hadn't before, and spares the Secure side
-record Returns (before : Bool) (c : Core) (e : ExceptionsValue) (f : Framed) (l : Leaving Framed) : Type 0 where
+pub record Returns (before : Bool) (c : Core) (e : ExceptionsValue) (f : Framed) (l : Leaving Framed) : Type 0 where
   pub held : l.held ≡ f
   pub touched : left_touched l.result ≡ false → before ≡ false
   pub spared : left_touched l.result ≡ false → Spared c l.core e l.exceptions
@@ -61,11 +61,11 @@ returns_after before c c' e e' f l h k = record {
 
 -- ---- a tail-chain
 
-entered_left : (x : Entered) → left_touched (left_of x) ≡ entered_touched x
+pub entered_left : (x : Entered) → left_touched (left_of x) ≡ entered_touched x
 entered_left (entered.Taken given touched) = refl
 entered_left (entered.Lockup touched) = refl
 
-no_callee : (secure es dcrs : Bool) → es ≡ false → (secure && not (not es || not dcrs)) ≡ false
+pub no_callee : (secure es dcrs : Bool) → es ≡ false → (secure && not (not es || not dcrs)) ≡ false
 no_callee true true dcrs h = cc
 no_callee true false dcrs h = refl
 no_callee false es dcrs h = refl
@@ -107,7 +107,7 @@ frame_spared Secure fault c e is own = absurd (cc)
 frame_spared NonSecure fault c e is own =
     record { kept = λ m n. frame_faulted_kept false fault c e m n own; side = λ runs. frame_faulted_side false NonSecure fault c e ∙ runs }
 
-own_inv_pc : (side : Side) → side ≡ NonSecure → is_own (InvPc side) ≡ true
+pub own_inv_pc : (side : Side) → side ≡ NonSecure → is_own (InvPc side) ≡ true
 unfolding is_own
 own_inv_pc Secure is = cc
 own_inv_pc NonSecure is = refl
@@ -124,7 +124,7 @@ own_with_basic (Ok basic) h = tt
 own_with_basic (Err fault) h = h
 
 -- the bits of a value
-abbrev bits : Bool → Bool → Bool → Bool → Bool → Returning
+abbrev pub bits : Bool → Bool → Bool → Bool → Bool → Returning
 bits es process thread dcrs secure = record { es = es; process = process; thread = thread; dcrs = dcrs; secure = secure }
 
 own_unstacked : (c : Core) (f : Framed) (es process thread dcrs secure : Bool) → secure ≡ false → OwnFrame (unstacked framed c (bits es process thread dcrs secure) f)
@@ -141,7 +141,7 @@ resumed_spared c e u es process thread dcrs false is = record {
   side = λ runs. refl;
 }
 
-resumes_returns : (profile : Profile) (r : Returning) (c : Core) (e : ExceptionsValue) (f : Framed) (u : Result Unstacked StackFault) → r.es ≡ false → (r.secure ≡ false → OwnFrame u)
+pub resumes_returns : (profile : Profile) (r : Returning) (c : Core) (e : ExceptionsValue) (f : Framed) (u : Result Unstacked StackFault) → r.es ≡ false → (r.secure ≡ false → OwnFrame u)
     → Returns r.secure c e f (resumes framed profile r c e f u)
 unfolding OwnFrame
 resumes_returns profile r c e f (Err fault) own frame =
@@ -172,7 +172,7 @@ leaves_noting_returns profile side (Some fault) r c e f is own noted =
     chained_raised_returns profile r false c e f (faulted side fault c e) own (λ t. faulted_spared side fault c e is noted)
 leaves_noting_returns profile side None r c e f is own noted = goes_back_returns profile r c e f own
 
-own_noted : (c : Core) (e : ExceptionsValue) (value : ℕ) → c.run.side ≡ NonSecure → OwnSome (noted c e value)
+pub own_noted : (c : Core) (e : ExceptionsValue) (value : ℕ) → c.run.side ≡ NonSecure → OwnSome (noted c e value)
 unfolding OwnSome is_own
 own_noted c e value is =
     own_some (not (is_well_formed value)) _ _ (own_inv_pc c.run.side is)
@@ -191,7 +191,7 @@ quiet_cond e false x y h k = k
 deactivated_quiet : (e : ExceptionsValue) (given : Slot) → Quiet e (deactivated e given)
 deactivated_quiet e given = flags_quiet e (index_of given) (at e (index_of given)).pending false
 
-freed_quiet : (e : ExceptionsValue) (given : Slot) → Quiet e (freed e given)
+pub freed_quiet : (e : ExceptionsValue) (given : Slot) → Quiet e (freed e given)
 freed_quiet e given =
     let urgent = urgent_slot e (raw_priority e) in
     quiet_cond e (is_urgent e) (deactivated e urgent) (cond (exists e given) (deactivated e given) e) (deactivated_quiet e urgent)
