@@ -9,9 +9,8 @@ use Rattle.tz_state.specs.State.{State, side_of}
 use Rattle.tz_sem.specs.declared.ending.Cause.{Cause}
 use Rattle.tz_sem.specs.Ended.{Ended, way_by, kind_of}
 use Rattle.tz_sem.specs.Step.{stepped}
-use Rattle.tz_twin.specs.Plain.{is_plain}
 use Rattle.tz_twin.specs.Seen.{public_of, handed, crossing, Crossing, Seen, Hidden, Shown, seen}
-use Rattle.tz_twin.specs.Integrity.{Keeps, IsAtGateway}
+use Rattle.tz_twin.specs.Integrity.{Keeps, WayIn}
 use Rattle.tz_twin.proofs.Split.{Twins, board_seen}
 use Rattle.tz_twin.proofs.After.{registers_after, after}
 
@@ -48,9 +47,9 @@ touching_found s before e looked board found =
     go false true looked found = ap Hidden (sym board)
     go t false looked found = cc
 
--- of one run: where a plain step ends in Secure code, it came there by a gateway
+-- of one run: where a step ends in Secure code, it came there by one of the ways
 abbrev pub Arrives : State → Ended → Type 0
-Arrives s e = is_plain e.ending.cause ≡ true → is_nonsecure_side (side_of e.state) ≡ false → e.state.core.run.locked ≡ false → IsAtGateway s
+Arrives s e = is_nonsecure_side (side_of e.state) ≡ false → e.state.core.run.locked ≡ false → WayIn s e
 
 -- during a step the Secure side is kept, and the Secure timer stands
 pub record Kept (old new : State) : Type 0 where

@@ -1,5 +1,5 @@
 -- The gateway: Non-secure code that runs into Secure memory finds SG or faults, and looked at Secure state.
-use Rattle.std.proofs.Common.{◌≡◌, ℕ, ◌+◌, ◌==◌, Bool, true, false, ◌&&◌, not, cond, List, [], Result, Ok, Err, refl, sym, ap}
+use Rattle.std.proofs.Common.{◌≡◌, ℕ, ◌+◌, ◌==◌, Bool, true, false, ◌&&◌, not, cond, List, [], Result, Ok, Err, refl, inl, inr}
 use Rattle.tz_table.specs.declared.units.Side.TheVariants.{Secure, NonSecure}
 use Rattle.tz_model.specs.declared.report.Fault.{Fault}
 use Rattle.tz_model.specs.declared.report.Fault.TheVariants.{EntryPoint, Exec, ExecBus}
@@ -14,11 +14,12 @@ use Rattle.tz_state.specs.Fetch.{is_entry, is_runnable, is_half_mapped, sg_half,
 use Rattle.tz_sem.specs.declared.ending.Course.{Course}
 use Rattle.tz_sem.specs.Ended.{with_stores}
 use Rattle.tz_sem.specs.Taking.{faults}
-use Rattle.tz_sem.specs.Step.{enters, fetched, faulting, fetcher_in, course_in}
+use Rattle.tz_sem.specs.Step.{enters, fetched, fetcher_in, course_in}
 use Rattle.tz_twin.specs.Seen.{Seen, seen}
 use Rattle.tz_twin.proofs.Split.{Open, Rest, join_bus, join, board_seen}
 use Rattle.tz_twin.proofs.After.{general_seen}
 use Rattle.tz_twin.proofs.Both.{Touching, Arrives}
+use Rattle.tz_twin.proofs.Arriving.{comes_faults}
 use Rattle.tz_twin.proofs.Halting.{halts_faults, touching_halts, touching_secure}
 
 -- a step that faults and looked at Secure state
@@ -27,10 +28,6 @@ pub touching_faults : (s0 s : State) (before : Seen) (negative : Bool) (fault : 
 touching_faults s0 s before negative fault stores e knows =
     let h = halts_faults (side_in s0.core) s (record { touched = true; negative = negative }) fault in
     touching_halts s0 s before true s.core.registers.general stores _ e knows (h.touched refl) h
-
-apart : (t : Bool) → t ≡ true → t ≡ false → ⊥
-apart true e f = cc
-apart false e f = cc
 
 -- SG that is reached from Non-secure state
 pub touching_enters : (s0 s : State) (before : Seen) (negative : Bool) → board_seen before ≡ s.bus.board → Touching s0 before (enters s (record { touched = true; negative = negative }))
@@ -64,13 +61,9 @@ unfolding board_seen
 gate_touching o x _ (Faults fault) = touching_faults (join o x) (join o x) (seen (join o x)) (looked o x).negative fault [] refl (λ e. refl)
 gate_touching o x _ Enters = touching_enters (join o x) (join o x) (seen (join o x)) (looked o x).negative refl
 
--- a fault that is no plain step or locks doesn't arrive
-faults_arrive_nowhere : (s : State) (course : Course) (fault : Fault) → Arrives s (faulting s course fault)
-faults_arrive_nowhere s course fault plain secure unlocked = absurd (apart _ ((halts_faults NonSecure s course fault).hidden plain) unlocked)
-
 gate_arrives : (o : Open) (x : Rest) (a : Result Fetched Fault) → Gate a → gateway_fetch (join_bus o x) (fetcher_in (join o x)) o.registers.pc ≡ a → Arrives (join o x) (fetched (join o x) (looked o x) a)
-gate_arrives o x _ (Faults fault) is plain secure unlocked = faults_arrive_nowhere (join o x) (looked o x) fault plain secure unlocked
-gate_arrives o x _ Enters is plain secure unlocked = is
+gate_arrives o x _ (Faults fault) is secure unlocked = inr (comes_faults x.stacks_s (join o x) (looked o x) fault secure unlocked)
+gate_arrives o x _ Enters is secure unlocked = inl is
 
 -- a fetch that begins in Secure memory
 pub touching_gateway : (o : Open) (x : Rest) → Touching (join o x) (seen (join o x)) (fetched (join o x) (looked o x) (gateway_fetch (join_bus o x) (fetcher_in (join o x)) o.registers.pc))

@@ -1,5 +1,5 @@
--- Steps that end in an entry or a return, of one run: they stay on their board, a plain one of them locks, and after one
--- that looked at Secure state the registers of Non-secure code are found.
+-- Steps that end in an entry or a return, of one run: they stay on their board, and after one that looked at Secure state
+-- the registers of Non-secure code are found.
 use Rattle.std.proofs.Common.{◌≡◌, ℕ, ◌+◌, ◌*◌, ◌%◌, ◌^◌, Bool, true, false, ◌||◌, cond, List, Result, Ok, Err, refl, sym, ap, ◌∙◌, subst}
 use Rattle.tz_table.specs.declared.units.Side.{Side}
 use Rattle.tz_table.specs.declared.units.Side.TheVariants.{Secure, NonSecure}
@@ -35,7 +35,6 @@ use Rattle.tz_sem.specs.Ended.{Passed, Ended, with_stores}
 use Rattle.tz_sem.specs.Taking.{state_of, locks, framed_in, taken, taken_by, preempted, goes_on_at, passed_by, after_raise, faults, left_by, returns}
 use Rattle.tz_sem.specs.Exchange.{core_back, back_with, looking, comes_back}
 use Rattle.tz_exec.specs.Exec.{released}
-use Rattle.tz_twin.specs.Plain.{is_plain}
 use Rattle.tz_twin.specs.Seen.{public_of, handed, Seen, Hidden, seen}
 use Rattle.tz_twin.proofs.Split.{board_seen}
 use Rattle.tz_twin.proofs.After.{word_shown, shown_word, way_taken, general_seen, registers_after, begun_with, found}
@@ -43,10 +42,9 @@ use Rattle.tz_twin.proofs.Both.{Found, Touching, touching_found}
 use Rattle.tz_twin.proofs.Held.{enters_held, leaves_held}
 use Rattle.tz_twin.proofs.Handled.{Handled, HandledAt, EnteredHandled, LeftHandled, enters_handled, leaves_handled}
 
--- of a step that began with code of a side: a plain one locks, and the board is this one; what looked at Secure state
--- before has looked; and where it looked, registers are found by these R0 to R12 of Non-secure code
+-- of a step that began with code of a side: the board is this one; what looked at Secure state before has looked; and
+-- where it looked, registers are found by these R0 to R12 of Non-secure code
 pub record Halts (side : Side) (b : BoardValue) (looked : Bool) (general : List ℕ) (p : Passed) : Type 0 where
-  pub hidden : is_plain p.ending.cause ≡ true → p.state.core.run.locked ≡ true
   pub board : p.state.bus.board ≡ b
   pub touched : looked ≡ true → p.ending.touched ≡ true
   pub found : (before : Seen) → (side ≡ NonSecure → general_seen before ≡ general) → p.ending.touched ≡ true → Found side before p.state p.ending.cause
@@ -66,7 +64,7 @@ hides_secure false Secure is e = cc
 hides_secure false NonSecure is e = cc
 
 pub halts_locks : (side : Side) (general : List ℕ) (s : State) (touched : Bool) → Halts side s.bus.board touched general (locks s touched)
-halts_locks side general s touched = record { hidden = λ e. refl; board = refl; touched = λ e. e; found = λ before knows t is. absurd (hides_locked true s.core.run.side refl is) }
+halts_locks side general s touched = record { board = refl; touched = λ e. e; found = λ before knows t is. absurd (hides_locked true s.core.run.side refl is) }
 
 -- ---- an exception is taken
 
@@ -75,7 +73,7 @@ found_handled : (side : Side) (before : Seen) (secure : Bool) (vtor number : ℕ
 found_handled side before secure vtor number r c e f knows h is =
     let s : State = released (state_of c e f.bus) in
     let told : shown_word (public_of s).bytes (wrap (c.status.ns.vtor + 4 * number)) ≡ word_at f.bus.memory (wrap (vtor + 4 * number)) =
-    ap (λ (v : ℕ). shown_word (public_of s).bytes (wrap (v + 4 * number))) h.table ∙ word_shown (map_in f.bus) f.bus.memory (wrap (vtor + 4 * number)) h.vector in
+    ap (λ (v : ℕ). shown_word (public_of s).bytes (wrap (v + 4 * number))) h.vtor ∙ word_shown (map_in f.bus) f.bus.memory (wrap (vtor + 4 * number)) h.vector in
     subst (λ (x : Registers). registers_after before (way_taken side x.lr x.ipsr) (handed (way_taken side x.lr x.ipsr) x) (public_of s) ≡ x) (sym h.registers)
     (found side before r secure c.registers.lr (word_at f.bus.memory (wrap (vtor + 4 * number))) number (public_of s) h.lr knows told)
 
@@ -87,7 +85,6 @@ found_taken side before secure vtor r c e f number NonSecure knows h = found_han
 halts_taken : (side : Side) (b : BoardValue) (secure : Bool) (vtor : ℕ) (r : Registers) (c : Core) (e : ExceptionsValue) (f : Framed) (given : Slot) (looked touched : Bool) → f.bus.board ≡ b
     → HandledAt secure vtor r c f given → Halts side b looked r.general (taken (state_of c e f.bus) (looked || touched))
 halts_taken side b secure vtor r c e f given looked touched board h = record {
-  hidden = λ h. absurd (cc);
   board = board;
   touched = or_true looked touched;
   found = λ before knows t. found_taken side before secure vtor r c e f given.number given.side knows h;
@@ -95,7 +92,6 @@ halts_taken side b secure vtor r c e f given looked touched board h = record {
 
 halts_locked : (side : Side) (b : BoardValue) (general : List ℕ) (s : State) (looked touched : Bool) → s.bus.board ≡ b → Halts side b looked general (locks s (looked || touched))
 halts_locked side b general s looked touched board = record {
-  hidden = λ h. refl;
   board = board;
   touched = or_true looked touched;
   found = λ before knows t is. absurd (hides_locked true s.core.run.side refl is);
@@ -160,7 +156,6 @@ found_resumed NonSecure before s looked touched quiet t h is = absurd (hides_sec
 halts_left_by : (side : Side) (b : BoardValue) (secure : Bool) (vtor : ℕ) (r : Registers) (c : Core) (e : ExceptionsValue) (f : Framed) (course : Course) (code : Code) (result : Left)
     → (side ≡ NonSecure → course.touched ≡ false) → f.bus.board ≡ b → LeftHandled secure vtor r c f result → Halts side b course.touched r.general (left_by (state_of c e f.bus) course code result)
 halts_left_by side b secure vtor r c e f course code (left.Resumed touched) quiet board h = record {
-  hidden = λ h. absurd (cc);
   board = board;
   touched = or_true course.touched touched;
   found = λ before knows t. found_resumed side before (released (state_of c e f.bus)) course.touched touched quiet t h;
@@ -202,7 +197,6 @@ halts_back_with : (side : Side) (before : Core) (s : State) (course : Course) (c
     → Halts side s.bus.board course.touched before.registers.general (back_with before s course code r)
 unfolding BackSecure
 halts_back_with side before s course code (Ok c) secure = record {
-  hidden = λ h. absurd (cc);
   board = refl;
   touched = λ e. e;
   found = λ before knows t is. absurd (hides_secure c.run.locked c.run.side secure is);

@@ -45,22 +45,22 @@ use Rattle.tz_entry.specs.Stack.{Pushed, limit_of, with_side_sp, after_store, wr
 use Rattle.tz_entry.specs.Enter.{Work, Chosen, Done, is_secure, exc_return, dcrs_of, handling, can_harden, vector_choice, vectored_by, vectored, vector_failed, looking_at, falls, fallen, callee_process, callee_privileged, raised_choice, after_raise, stacked_by, stacked, taking, choosing_from, choosing, locked_up, goes_on, tries, interrupted, begins_raised, begins, enters}
 use Rattle.tz_entry.specs.Leave.{returning_by, side_by, noted, slot_returning, freed, unhandled, chaining, Leaving, left_of, chained, chained_raised, unstacked, modes_agree, resumes, goes_back, leaves_noting, leaves}
 
--- what a Non-secure handler finds, from the registers of the code before it, which was Secure or not, and VTOR of the
--- Non-secure side
-pub record Handled (secure : Bool) (vtor number : ℕ) (r : Registers) (c : Core) (f : Framed) : Type 0 where
+-- what a Non-secure handler finds, from the registers `r` of the code before it, which was Secure or not, and from the
+-- table that VTOR of the Non-secure side names
+pub record Handled (secure : Bool) (table number : ℕ) (r : Registers) (c : Core) (f : Framed) : Type 0 where
   pub side : c.run.side ≡ NonSecure
-  pub vector : every (is_open (map_in f.bus)) (wrap (vtor + 4 * number)) Word ≡ true
+  pub vector : every (is_open (map_in f.bus)) (wrap (table + 4 * number)) Word ≡ true
   pub registers : c.registers ≡ record {
     general = (cond secure (all_cleared r) (scratch_cleared r)).general;
     lr = c.registers.lr;
-    pc = even_of (word_at f.bus.memory (wrap (vtor + 4 * number)));
+    pc = even_of (word_at f.bus.memory (wrap (table + 4 * number)));
     apsr = no_flags;
     it = 0;
-    t = word_at f.bus.memory (wrap (vtor + 4 * number)) % 2 == 1;
+    t = word_at f.bus.memory (wrap (table + 4 * number)) % 2 == 1;
     ipsr = number;
   }
   pub lr : (c.registers.lr / 2 ^ 6 % 2 == 1) ≡ secure
-  pub table : c.status.ns.vtor ≡ vtor
+  pub vtor : c.status.ns.vtor ≡ table
 
 -- by the side of the exception that was taken; where it is Secure, Secure code runs
 abbrev pub HandledAt : Bool → ℕ → Registers → Core → Framed → Slot → Type 0
@@ -270,7 +270,7 @@ handling_finds profile w number vtor e =
       vector = open_vector w.held.bus (vector_at w.held number NonSecure) e;
       registers = cleared_registers w.entry.secure w.core.registers (exc_return w.entry w.core.stacks_ns.spsel NonSecure) (even_of vector) number (vector % 2 == 1);
       lr = return_bit w.entry.secure (dcrs_of w.entry NonSecure) w.entry.thread w.core.stacks_ns.spsel;
-      table = vtor;
+      vtor = vtor;
     }
 
 -- of what the core carries on, by what it had in the beginning
@@ -281,6 +281,7 @@ handled_from k w number c h x =
     (subst (λ (vtor : ℕ). Handled w.entry.secure vtor number k.registers c w.held) h.carried.held
     (subst (λ (r : Registers). Handled w.entry.secure w.held.vtor_ns number r c w.held) h.carried.registers x))
 
+-- a vector that fails takes no exception
 failed_came : (k : Known) (w : Work Framed) (given : Slot) → Carries k w → CameOf k (vector_failed w given)
 unfolding vector_failed
 failed_came k w given h = go (can_harden w.core w.exceptions given) where
@@ -288,6 +289,7 @@ failed_came k w given h = go (can_harden w.core w.exceptions given) where
   go true = record { carried = record { registers = h.carried.registers; status = h.carried.status; held = h.carried.held }; secure = h.secure }
   go false = tt
 
+-- by what the vector's address was refused for, or wasn't
 vectored_by_came : (k : Known) (profile : Profile) (w : Work Framed) (number : ℕ) (side : Side) (v : Option Fault) → vector_verdict w.held.bus side (vector_at w.held number side) ≡ v → Carries k w
     → CameOf k (vectored_by profile w (of_number number side) (looked v w.held (vector_at w.held number side)).1)
 vectored_by_came k profile w number Secure None e h = refl

@@ -8,6 +8,7 @@ use Rattle.tz_model.specs.declared.report.Fault.{Fault}
 use Rattle.tz_model.specs.declared.report.Fault.TheVariants as faults_of
 use Rattle.tz_model.specs.Board.{BoardValue}
 use Rattle.tz_regs.specs.declared.parts.Core.{Core}
+use Rattle.tz_regs.specs.declared.parts.Stacks.{Stacks}
 use Rattle.tz_state.specs.Memory.{Memory}
 use Rattle.tz_state.specs.Slots.{ExceptionsValue}
 use Rattle.tz_state.specs.State.{Bus, State, map_of, with_memory}
@@ -32,6 +33,7 @@ use Rattle.tz_twin.proofs.Held.{enters_held, leaves_held}
 use Rattle.tz_twin.proofs.Spared.{KeptBy, faulted_kept, faulted_side}
 use Rattle.tz_twin.proofs.EntrySpares.{entered_touched, enters_kept}
 use Rattle.tz_twin.proofs.ReturnSpares.{left_touched, leaves_kept}
+use Rattle.tz_twin.proofs.Arriving.{Comes, comes_preempted, comes_faults, comes_returns, comes_comes_back}
 use Rattle.tz_twin.proofs.Halting.{Halts, halts_preempted, halts_faults, halts_returns, halts_comes_back}
 
 -- the map of what is kept is the one before
@@ -183,10 +185,15 @@ kept_faults s0 s course fault is own k e =
 
 -- ---- as ends of a step
 
--- of a step of Non-secure code: it halts as entries and returns do, and keeps the Secure side where it didn't look at it
+-- of a step of Non-secure code: it halts as entries and returns do, keeps the Secure side where it didn't look at it, and
+-- comes to Secure code by one of the ways
 pub record Passes (s0 : State) (looked : Bool) (general : List ℕ) (p : Passed) : Type 0 where
   pub halts : Halts NonSecure s0.bus.board looked general p
   pub kept : p.ending.touched ≡ false → Kept s0 p.state
+  pub comes : Comes s0.core.stacks_s p
+
+comes_on : (stacks stacks' : Stacks) (p : Passed) → stacks ≡ stacks' → Comes stacks p → Comes stacks' p
+comes_on stacks stacks' p e h = subst (λ (t : Stacks). Comes t p) e h
 
 halts_on : (b b' : BoardValue) (looked : Bool) (general : List ℕ) (p : Passed) → b ≡ b' → Halts NonSecure b looked general p → Halts NonSecure b' looked general p
 halts_on b b' looked general p e h = subst (λ (x : BoardValue). Halts NonSecure x looked general p) e h
@@ -195,12 +202,14 @@ pub passes_preempted : (s0 s : State) (course : Course) (back : ℕ) → s.core.
 passes_preempted s0 s course back is k = record {
   halts = halts_on s.bus.board s0.bus.board course.touched s.core.registers.general (preempted s course back) k.keeps.board (halts_preempted NonSecure s course back);
   kept = λ e. kept_preempted s0 s course back is k e;
+  comes = comes_preempted s0.core.stacks_s s course back;
 }
 
 pub passes_faults : (s0 s : State) (course : Course) (fault : Fault) → s.core.run.side ≡ NonSecure → is_own fault ≡ true → Kept s0 s → Passes s0 course.touched s.core.registers.general (faults s course fault)
 passes_faults s0 s course fault is own k = record {
   halts = halts_on s.bus.board s0.bus.board course.touched s.core.registers.general (faults s course fault) k.keeps.board (halts_faults NonSecure s course fault);
   kept = λ e. kept_faults s0 s course fault is own k e;
+  comes = comes_faults s0.core.stacks_s s course fault;
 }
 
 pub passes_returns : (s0 s : State) (course : Course) (code : Code) (value : ℕ) → course.touched ≡ false → s.core.run.side ≡ NonSecure → Kept s0 s
@@ -208,6 +217,7 @@ pub passes_returns : (s0 s : State) (course : Course) (code : Code) (value : ℕ
 passes_returns s0 s course code value quiet is k = record {
   halts = halts_on s.bus.board s0.bus.board course.touched s.core.registers.general (returns s course code value) k.keeps.board (halts_returns NonSecure s course code value (λ h. quiet));
   kept = λ e. kept_returns s0 s course code value is k e;
+  comes = comes_on s.core.stacks_s s0.core.stacks_s (returns s course code value) k.keeps.stacks (comes_returns s course code value is);
 }
 
 differs : (t : Bool) → t ≡ true → t ≡ false → ⊥
@@ -215,7 +225,11 @@ differs true e f = cc
 differs false e f = cc
 
 -- FNC_RETURN has looked at Secure state
-pub passes_comes_back : (s0 s : State) (before : Core) (course : Course) (code : Code) → s.bus.board ≡ s0.bus.board → Passes s0 true before.registers.general (comes_back before s course code)
-passes_comes_back s0 s before course code board =
+pub passes_comes_back : (s0 s : State) (before : Core) (course : Course) (code : Code) → s.bus.board ≡ s0.bus.board → s.core.stacks_s ≡ s0.core.stacks_s → Passes s0 true before.registers.general (comes_back before s course code)
+passes_comes_back s0 s before course code board stacks =
     let h = halts_on s.bus.board s0.bus.board true before.registers.general (comes_back before s course code) board (halts_comes_back NonSecure before s course code) in
-    record { halts = h; kept = λ e. absurd (differs (comes_back before s course code).ending.touched (h.touched refl) e) }
+    record {
+      halts = h;
+      kept = λ e. absurd (differs (comes_back before s course code).ending.touched (h.touched refl) e);
+      comes = comes_on s.core.stacks_s s0.core.stacks_s (comes_back before s course code) stacks (comes_comes_back before s course code);
+    }

@@ -173,7 +173,7 @@ exchanged_same : (o p q : Open) (x x' y y' : Rest) (r : Registers) (before befor
 unfolding exchanged
 exchanged_same o p q x x' y y' r before before' course code stores target ns f h g =
     passed_cond o x x' stores (is_fnc_return target) _ _ _ _
-    (comes_back_both o p x x' y y' r before before' course code stores f.first f.second h.same h.leaves.board)
+    (comes_back_both o p x x' y y' r before before' course code stores f.first f.second h.same h.leaves.board h.leaves.stacks h.leaves'.stacks)
     (passed_cond o x x' stores (is_handler p.registers.ipsr && is_exc_return target) _ _ _ _
     (returns_both o q x x' y y' course code target stores f.quiet g.same (kept_of o x q y g.leaves) (kept_of o x' q y' g.leaves'))
     (passed_cond o x x' stores ns _ _ _ _ (branch_ns_same o q x x' y y' course code stores target g)

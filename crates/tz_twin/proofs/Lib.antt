@@ -17,6 +17,7 @@ pub mod FaultTwins
 pub mod EntryTwins
 pub mod ReturnTwins
 pub mod Handled
+pub mod Arriving
 pub mod Halting
 pub mod Keeping
 pub mod Passing

@@ -1,5 +1,5 @@
 -- Entries and returns of Non-secure code in two runs: twins go on as twins, both lock, or both looked at Secure state.
-use Rattle.std.proofs.Common.{◌≡◌, ℕ, Bool, true, false, ◌||◌, cond, List, Option, Some, None, refl, sym, ap, ◌∙◌, subst}
+use Rattle.std.proofs.Common.{◌≡◌, ℕ, Bool, true, false, ◌||◌, cond, List, Option, Some, None, refl, sym, ap, ◌∙◌, subst, inr}
 use Rattle.tz_table.specs.declared.units.Side.TheVariants.{Secure, NonSecure}
 use Rattle.tz_table.specs.declared.units.Code.{Code}
 use Rattle.tz_model.specs.declared.report.Fault.{Fault}
@@ -44,12 +44,8 @@ both_stop : (o : Open) (x x' : Rest) (looked : Bool) (general : List ℕ) (store
 both_stop o x x' looked general stores a a' h h' l l' =
     Stop (record { locked = l; board = h.halts.board; kept = h.kept }) (record { locked = l'; board = h'.halts.board; kept = h'.kept })
 
-apart : (t : Bool) → t ≡ true → t ≡ false → ⊥
-apart true e f = cc
-apart false e f = cc
-
-arrives_nowhere : (o : Open) (x : Rest) (looked : Bool) (general : List ℕ) (stores : List Store) (a : Passed) → Passes (join o x) looked general a → Arrives (join o x) (with_stores stores a)
-arrives_nowhere o x looked general stores a h plain secure unlocked = absurd (apart a.state.core.run.locked (h.halts.hidden plain) unlocked)
+arrives_passed : (o : Open) (x : Rest) (looked : Bool) (general : List ℕ) (stores : List Store) (a : Passed) → Passes (join o x) looked general a → Arrives (join o x) (with_stores stores a)
+arrives_passed o x looked general stores a h secure unlocked = inr (h.comes secure unlocked)
 
 -- what is seen of twins, with other registers
 seen_with : Open → Registers → Rest → Seen
@@ -67,8 +63,8 @@ both_touch : (o q : Open) (x x' z z' : Rest) (r : Registers) (looked : Bool) (st
 unfolding seen_with board_seen
 both_touch o q x x' z z' r looked stores a a' same board h h' t t' =
     Touch (seen_with q r z) (seen_with q r z') (same_seen q z z' r same) (touching_halts (join o x) (join o x) (seen_with q r z) looked r.general stores a board (λ e. refl) t h.halts)
-    (touching_halts (join o x') (join o x') (seen_with q r z') looked r.general stores a' board (λ e. refl) t' h'.halts) (arrives_nowhere o x looked r.general stores a h)
-    (arrives_nowhere o x' looked r.general stores a' h')
+    (touching_halts (join o x') (join o x') (seen_with q r z') looked r.general stores a' board (λ e. refl) t' h'.halts) (arrives_passed o x looked r.general stores a h)
+    (arrives_passed o x' looked r.general stores a' h')
 
 -- ---- ends of twins
 
@@ -266,16 +262,16 @@ returns_both o p x x' y y' course code value stores quiet same k k' =
 
 -- both look at Secure state; where it faults, both have the registers before the instruction
 pub comes_back_both : (o p : Open) (x x' y y' : Rest) (r : Registers) (before before' : Core) (course : Course) (code : Code) (stores : List Store) → before.registers ≡ r → before'.registers ≡ r → Same p y y' → p.board ≡ o.board
-    → Both (join o x) (join o x') (with_stores stores (comes_back before (join p y) course code)) (with_stores stores (comes_back before' (join p y') course code))
-comes_back_both o p x x' y y' r before before' course code stores is is' same board =
+    → y.stacks_s ≡ x.stacks_s → y'.stacks_s ≡ x'.stacks_s → Both (join o x) (join o x') (with_stores stores (comes_back before (join p y) course code)) (with_stores stores (comes_back before' (join p y') course code))
+comes_back_both o p x x' y y' r before before' course code stores is is' same board stacks stacks' =
     both_touch o p x x' y y' r true stores _ _ same board h h' (h.halts.touched refl) (h'.halts.touched refl)
   where
     h : Passes (join o x) true r.general (comes_back before (join p y) course code)
     h =
         subst (λ (b : Registers). Passes (join o x) true b.general (comes_back before (join p y) course code)) is
-        (passes_comes_back (join o x) (join p y) before course code board)
+        (passes_comes_back (join o x) (join p y) before course code board stacks)
 
     h' : Passes (join o x') true r.general (comes_back before' (join p y') course code)
     h' =
         subst (λ (b : Registers). Passes (join o x') true b.general (comes_back before' (join p y') course code)) is'
-        (passes_comes_back (join o x') (join p y') before' course code board)
+        (passes_comes_back (join o x') (join p y') before' course code board stacks')

@@ -1,5 +1,5 @@
 -- A step of Non-secure code is a function of what that code has, unless it looks at Secure state.
-use Rattle.std.proofs.Common.{◌≡◌, ℕ, ◌+◌, Bool, true, false, ◌||◌, cond, List, [], Option, Some, None, Result, Ok, Err, refl, subst}
+use Rattle.std.proofs.Common.{◌≡◌, ℕ, ◌+◌, Bool, true, false, ◌||◌, cond, List, [], Option, Some, None, Result, Ok, Err, refl, subst, inl, inr}
 use Rattle.tz_table.specs.declared.units.Side.{Side}
 use Rattle.tz_table.specs.declared.units.Side.TheVariants.{Secure, NonSecure}
 use Rattle.tz_model.specs.declared.report.Fault.{Fault}
@@ -21,7 +21,8 @@ use Rattle.tz_twin.specs.Seen.{Seen, seen}
 use Rattle.tz_twin.proofs.Fetching.{own_fetch_same, own_fetch_own}
 use Rattle.tz_twin.proofs.Faults.{is_own, Own}
 use Rattle.tz_twin.proofs.Split.{Open, Rest, open_map, join_bus, join, Same, Twins, twins_join, by_join, seen_of_twins}
-use Rattle.tz_twin.proofs.Both.{Kept, Touching, Stops, Both, Go, Stop, Touch, both_cond, both_second}
+use Rattle.tz_twin.specs.Integrity.{WayIn}
+use Rattle.tz_twin.proofs.Both.{Kept, Touching, Stops, Arrives, Both, Go, Stop, Touch, both_cond, both_second}
 use Rattle.tz_twin.proofs.Passing.{preempted_both}
 use Rattle.tz_twin.proofs.Executing.{decoded_same}
 use Rattle.tz_twin.proofs.Leaving.{kept_of, goes, left_all, left_again, both_fault}
@@ -123,6 +124,13 @@ unfolding resting
 resting_stops o x sleep event e h =
     record { locked = h.locked; board = h.board; kept = λ u. resting_kept o x sleep event e.state (h.kept u) }
 
+resting_arrives : (o : Open) (x : Rest) (sleep : Sleep) (event : Bool) (e : Ended) → Arrives (join (resting o sleep event) x) e → Arrives (join o x) e
+unfolding resting
+resting_arrives o x sleep event e a secure unlocked = go (a secure unlocked) where
+  go : WayIn (join (resting o sleep event) x) e → WayIn (join o x) e
+  go (inl gateway) = inl gateway
+  go (inr came) = inr came
+
 -- a step from such a part is one from that part
 rested_both : (o : Open) (x x' : Rest) (sleep : Sleep) (event : Bool) (e e' : Ended) → Both (join (resting o sleep event) x) (join (resting o sleep event) x') e e' → Both (join o x) (join o x') e e'
 unfolding resting
@@ -136,7 +144,7 @@ rested_both o x x' sleep event e e' (Go h) =
     })
 rested_both o x x' sleep event e e' (Stop h h') = Stop (resting_stops o x sleep event e h) (resting_stops o x' sleep event e' h')
 rested_both o x x' sleep event e e' (Touch before before' alike t t' a a') =
-    Touch before before' alike (touching_resting o x sleep event before e t) (touching_resting o x' sleep event before' e' t') a a'
+    Touch before before' alike (touching_resting o x sleep event before e t) (touching_resting o x' sleep event before' e' t') (resting_arrives o x sleep event e a) (resting_arrives o x' sleep event e' a')
 
 same_resting : (o : Open) (x x' : Rest) (sleep : Sleep) (event : Bool) → Same o x x' → Same (resting o sleep event) x x'
 unfolding resting

@@ -6,8 +6,7 @@ use Rattle.tz_state.specs.Due.{begun}
 use Rattle.tz_state.specs.State.{State, side_of}
 use Rattle.tz_sem.specs.Ended.{Ended}
 use Rattle.tz_sem.specs.Step.{ended, started}
-use Rattle.tz_twin.specs.Plain.{is_plain, steps_plainly}
-use Rattle.tz_twin.specs.Integrity.{Keeps, CountsAlone, IsAtGateway}
+use Rattle.tz_twin.specs.Integrity.{Keeps, CountsAlone, WayIn}
 use Rattle.tz_twin.proofs.Split.{twins_of_seen}
 use Rattle.tz_twin.proofs.Slots.{then, begun_kept}
 use Rattle.tz_twin.proofs.Both.{Kept, Both, Go, Stop, Touch}
@@ -22,10 +21,10 @@ keeps_both s e (Go h) untouched = h.kept
 keeps_both s e (Stop h h') untouched = h.kept untouched
 keeps_both s e (Touch before before' alike h h' a a') untouched = absurd (apart e.ending.touched h.touched untouched)
 
-arrives_both : (s : State) (e : Ended) → Both s s e e → is_plain e.ending.cause ≡ true → is_nonsecure_side (side_of e.state) ≡ false → e.state.core.run.locked ≡ false → IsAtGateway s
-arrives_both s e (Go h) plain secure unlocked = absurd (apart (is_nonsecure_side (side_of e.state)) h.twins.runs secure)
-arrives_both s e (Stop h h') plain secure unlocked = absurd (apart e.state.core.run.locked h.locked unlocked)
-arrives_both s e (Touch before before' alike h h' a a') plain secure unlocked = a plain secure unlocked
+arrives_both : (s : State) (e : Ended) → Both s s e e → is_nonsecure_side (side_of e.state) ≡ false → e.state.core.run.locked ≡ false → WayIn s e
+arrives_both s e (Go h) secure unlocked = absurd (apart (is_nonsecure_side (side_of e.state)) h.twins.runs secure)
+arrives_both s e (Stop h h') secure unlocked = absurd (apart e.state.core.run.locked h.locked unlocked)
+arrives_both s e (Touch before before' alike h h' a a') secure unlocked = a secure unlocked
 
 itself : (s : State) → is_nonsecure_side (side_of s) ≡ true → Both s s (ended s) (ended s)
 itself s is = twin_ended s s (twins_of_seen s s refl is)
@@ -51,7 +50,7 @@ pub leaves_secure : (s : State) (events : List ScriptEvent) → is_nonsecure_sid
 leaves_secure s events is untouched =
     let r = started s events in kept_from s events (ended r).state (keeps_both r (ended r) (itself r is) untouched)
 
-pub enters_by_gateway : (s : State) (events : List ScriptEvent) → is_nonsecure_side (side_of s) ≡ true → steps_plainly s events ≡ true
-    → is_nonsecure_side (side_of (ended (started s events)).state) ≡ false → (ended (started s events)).state.core.run.locked ≡ false → IsAtGateway (started s events)
-enters_by_gateway s events is plain secure unlocked =
-    let r = started s events in arrives_both r (ended r) (itself r is) plain secure unlocked
+pub enters_secure : (s : State) (events : List ScriptEvent) → is_nonsecure_side (side_of s) ≡ true → is_nonsecure_side (side_of (ended (started s events)).state) ≡ false
+    → (ended (started s events)).state.core.run.locked ≡ false → WayIn (started s events) (ended (started s events))
+enters_secure s events is secure unlocked =
+    let r = started s events in arrives_both r (ended r) (itself r is) secure unlocked

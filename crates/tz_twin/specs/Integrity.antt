@@ -1,16 +1,22 @@
 -- Integrity of Secure state: what a step of Non-secure code can't change, and how it gets to Secure code.
-use Rattle.std.specs.Prelude.{◌≡◌, ℕ, Bool, true, false, not, List, Ok}
+use Rattle.std.specs.Prelude.{◌≡◌, ◌⊎◌, ℕ, ◌+◌, ◌%◌, ◌^◌, Bool, true, false, not, List, Ok}
 use Rattle.std.specs.FinMap.{get}
 use Rattle.tz_model.specs.declared.report.ScriptEvent.{ScriptEvent}
-use Rattle.tz_model.specs.Words.{is_nonsecure_side}
-use Rattle.tz_state.specs.Memory.{Memory}
+use Rattle.tz_model.specs.Words.{wrap, even_of, is_nonsecure_side}
+use Rattle.tz_regs.specs.declared.parts.Core.{Core}
+use Rattle.tz_regs.specs.declared.parts.Stacks.{Stacks}
+use Rattle.tz_regs.specs.Registers.{sp_of}
+use Rattle.tz_state.specs.Memory.{Memory, word_at}
 use Rattle.tz_state.specs.Attribution.{MapState, is_open}
 use Rattle.tz_state.specs.Slots.{ExceptionsValue, at, side_at}
 use Rattle.tz_state.specs.Timers.{counted_down}
 use Rattle.tz_state.specs.State.{State, map_of, side_of}
 use Rattle.tz_state.specs.Fetch.{wide, sg_half, gateway_fetch}
-use Rattle.tz_sem.specs.Step.{Stepped, fetcher_in, started}
-use Rattle.tz_twin.specs.Plain.{steps_plainly}
+use Rattle.tz_entry.specs.Stack.{signature}
+use Rattle.tz_sem.specs.declared.ending.Cause.{Cause}
+use Rattle.tz_sem.specs.declared.ending.Cause.TheVariants.{CameBack, Resumed, Taken}
+use Rattle.tz_sem.specs.Ended.{Ended}
+use Rattle.tz_sem.specs.Step.{Stepped, fetcher_in, ended, started}
 
 -- each byte that isn't Non-secure is as it was
 abbrev pub KeepsBytes : MapState → Memory → Memory → Type 0
@@ -56,9 +62,26 @@ abbrev pub LeavesSecure : State → Stepped → Type 0
 LeavesSecure s r =
     is_nonsecure_side (side_of s) ≡ true → r.report.touched ≡ false → Keeps s r.state × CountsAlone s r.state
 
--- Non-secure code that got to Secure code in a plain step, and didn't lock, ran SG; what the step begins with decides
--- whether the Secure MPU counts
-abbrev pub EntersByGateway : State → List ScriptEvent → Stepped → Type 0
-EntersByGateway s events r =
-    is_nonsecure_side (side_of s) ≡ true → steps_plainly s events ≡ true → is_nonsecure_side (side_of r.state) ≡ false
-    → r.state.core.run.locked ≡ false → IsAtGateway (started s events)
+-- ---- how Non-secure code gets to Secure code
+
+-- what a call left on a Secure stack, PSP's or MSP's, says where Secure code goes on, and with which number
+pub record IsCallFrame (stacks : Stacks) (after : Core) (memory : Memory) (process : Bool) : Type 0 where
+  pub pc : after.registers.pc ≡ even_of (word_at memory (sp_of process stacks))
+  pub number : after.registers.ipsr ≡ word_at memory (wrap (sp_of process stacks + 4)) % 2 ^ 9
+
+-- by an exception that was taken; by FNC_RETURN, which found a number that agrees; or by EXC_RETURN, with the integrity
+-- signature at a Secure stack pointer
+pub data Came (stacks : Stacks) (after : State) (cause : Cause) : Type 0 where
+  ByException : cause ≡ Taken → Came stacks after cause
+  ByReturn : cause ≡ CameBack → (process : Bool) → IsCallFrame stacks after.core after.bus.memory process → Came stacks after cause
+  ByUnstacking : cause ≡ Resumed → (process : Bool) → word_at after.bus.memory (sp_of process stacks) ≡ signature → Came stacks after cause
+
+-- or by SG
+abbrev pub WayIn : State → Ended → Type 0
+WayIn s e = IsAtGateway s ⊎ Came s.core.stacks_s e.state e.ending.cause
+
+-- Non-secure code that got to Secure code, and didn't lock, came there by one of the four; what the step begins with
+-- decides whether the Secure MPU counts
+abbrev pub EntersSecure : State → List ScriptEvent → Stepped → Type 0
+EntersSecure s events r =
+    is_nonsecure_side (side_of s) ≡ true → is_nonsecure_side (side_of r.state) ≡ false → r.state.core.run.locked ≡ false → WayIn (started s events) (ended (started s events))

@@ -1,4 +1,3 @@
 pub mod Seen
-pub mod Plain
 pub mod Trace
 pub mod Integrity

@@ -15,7 +15,7 @@ ghost use Rattle.tz_sem.specs.Step.{step};
 ghost use Rattle.tz_sem.specs.Run.{Events};
 ghost use Rattle.tz_twin.specs.Seen.{Agree};
 ghost use Rattle.tz_twin.specs.Trace.{text_from};
-ghost use Rattle.tz_twin.specs.Integrity.{LeavesSecure, EntersByGateway};
+ghost use Rattle.tz_twin.specs.Integrity.{LeavesSecure, EntersSecure};
 
 /// Isolation: two runs of a board, a Non-secure image and a script, with any two Secure images, that
 /// agree in what crosses out of Secure state print the same for Non-secure code.
@@ -24,9 +24,10 @@ pub fn isolation()
         text_from Ns events 0 (boot b secure nonsecure) n ≡ text_from Ns events 0 (boot b other nonsecure) n }
 {}
 
-/// Integrity: a step of Non-secure code that doesn't look at Secure state leaves it as it was, and a plain one
-/// that gets to Secure code without locking ran SG where Non-secure code may call.
+/// Integrity: a step of Non-secure code that doesn't look at Secure state leaves it as it was, and one that gets to
+/// Secure code without locking ran SG where Non-secure code may call, took an exception, returned by FNC_RETURN to what a
+/// Secure stack holds, or returned by EXC_RETURN to a frame with the integrity signature.
 pub fn integrity()
     ensures leaves { (s : State) (events : List ScriptEvent) → LeavesSecure s (step s events) }
-    ensures enters { (s : State) (events : List ScriptEvent) → EntersByGateway s events (step s events) }
+    ensures enters { (s : State) (events : List ScriptEvent) → EntersSecure s events (step s events) }
 {}

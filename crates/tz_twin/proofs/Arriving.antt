@@ -1,0 +1,231 @@
+-- How entries and returns of Non-secure code get to Secure code: facts of one run.
+use Rattle.std.proofs.Common.{◌≡◌, ℕ, ◌+◌, ◌%◌, ◌^◌, ◌==◌, Bool, true, false, ◌&&◌, ◌||◌, not, cond, List, Option, Some, None, Result, Ok, Err, refl, sym, ap, ◌∙◌, subst, arith}
+use Rattle.std.proofs.lemmas.Bool.Decides.{nat_tests}
+use Rattle.tz_table.specs.declared.units.Side.{Side}
+use Rattle.tz_table.specs.declared.units.Side.TheVariants.{Secure, NonSecure}
+use Rattle.tz_table.specs.declared.units.Code.{Code}
+use Rattle.tz_model.specs.declared.board.Profile.{Profile}
+use Rattle.tz_model.specs.declared.report.Fault.{Fault}
+use Rattle.tz_model.specs.declared.report.Fault.TheVariants.{InvPc}
+use Rattle.tz_model.specs.Words.{wrap, even_of, is_nonsecure_side}
+use Rattle.tz_regs.specs.declared.parts.Core.{Core}
+use Rattle.tz_regs.specs.declared.parts.Stacks.{Stacks}
+use Rattle.tz_regs.specs.Registers.{uses_process, sp_of}
+use Rattle.tz_state.specs.declared.request.Kind.TheVariants.{Read}
+use Rattle.tz_state.specs.Memory.{Memory, word_at}
+use Rattle.tz_state.specs.Slots.{ExceptionsValue}
+use Rattle.tz_state.specs.Execution.{takes_first}
+use Rattle.tz_state.specs.State.{State, is_privileged_in, with_core, side_of}
+use Rattle.tz_frames.specs.Looks.{SecureLoad, FrameLoad}
+use Rattle.tz_frames.specs.Machine.{Framed, frame_verdict, looked, framed}
+use Rattle.tz_entry.specs.declared.frame.StackFault.{StackFault}
+use Rattle.tz_entry.specs.declared.frame.StackFault.TheVariants.{Signature}
+use Rattle.tz_entry.specs.declared.frame.Basic.{Basic}
+use Rattle.tz_entry.specs.declared.frame.Callee.{Callee}
+use Rattle.tz_entry.specs.declared.entering.Entered.{Entered}
+use Rattle.tz_entry.specs.declared.entering.Entered.TheVariants as entered
+use Rattle.tz_entry.specs.declared.leaving.Returning.{Returning}
+use Rattle.tz_entry.specs.declared.leaving.Unstacked.{Unstacked}
+use Rattle.tz_entry.specs.declared.leaving.Left.{Left}
+use Rattle.tz_entry.specs.declared.leaving.Left.TheVariants as left
+use Rattle.tz_entry.specs.Status.{Raised, faulted, frame_faulted}
+use Rattle.tz_entry.specs.Stack.{signature, word_answer, word_read, reads, callee_read, signed, popped_additional, popped_basic}
+use Rattle.tz_entry.specs.Enter.{with_lock, enters, tries}
+use Rattle.tz_entry.specs.Leave.{returning_by, side_by, noted, slot_returning, freed, unhandled, chaining, Leaving, left_of, chained, chained_raised, has_callee, returns_to_process, returns_privileged, return_sp, with_basic, with_callee, unstacked, modes_agree, resumes, goes_back, leaves_noting, leaves}
+use Rattle.tz_entry.specs.Gate.{return_base, numbers_agree, came_back, returned_with, after_second, after_first, function_returned}
+use Rattle.tz_sem.specs.declared.ending.Cause.TheVariants as causes
+use Rattle.tz_sem.specs.declared.ending.Course.{Course}
+use Rattle.tz_sem.specs.Ended.{Passed}
+use Rattle.tz_sem.specs.Taking.{state_of, locks, framed_in, taken_by, preempted, goes_on_at, passed_by, after_raise, faults, left_by, returns}
+use Rattle.tz_sem.specs.Exchange.{core_back, back_with, looking, comes_back}
+use Rattle.tz_twin.specs.Integrity.{IsCallFrame, Came, ByException, ByReturn, ByUnstacking}
+use Rattle.tz_twin.proofs.ReturnSpares.{bits, leaves_still}
+
+-- where it ends in Secure code, it came there so, with these Secure stacks before
+abbrev pub Comes : Stacks → Passed → Type 0
+Comes stacks p = is_nonsecure_side (side_of p.state) ≡ false → p.state.core.run.locked ≡ false → Came stacks p.state p.ending.cause
+
+comes_locks : (stacks : Stacks) (s : State) (touched : Bool) → Comes stacks (locks s touched)
+comes_locks stacks s touched = λ secure unlocked. absurd (cc)
+
+-- ---- entry
+
+comes_taken_by : (stacks : Stacks) (s : State) (course : Course) (result : Entered) → Comes stacks (taken_by s course result)
+comes_taken_by stacks s course (entered.Taken given touched) = λ secure unlocked. ByException refl
+comes_taken_by stacks s course (entered.Lockup touched) = comes_locks stacks s (course.touched || touched)
+
+pub comes_preempted : (stacks : Stacks) (s : State) (course : Course) (back : ℕ) → Comes stacks (preempted s course back)
+unfolding preempted
+comes_preempted stacks s course back =
+    let d = enters framed s.bus.board.profile s.core s.exceptions (framed_in course.negative s) back in
+    comes_taken_by stacks (state_of d.core d.exceptions d.held.bus) course d.result
+
+comes_cond : (stacks : Stacks) (t : Bool) (p q : Passed) → Comes stacks p → Comes stacks q → Comes stacks (cond t p q)
+comes_cond stacks true p q h k = h
+comes_cond stacks false p q h k = k
+
+pub comes_faults : (stacks : Stacks) (s : State) (course : Course) (fault : Fault) → Comes stacks (faults s course fault)
+unfolding faults
+comes_faults stacks s course fault =
+    let r = faulted s.core.run.side fault s.core s.exceptions in
+    let entry = preempted (state_of (passed_by fault r.core) r.exceptions s.bus) course (goes_on_at fault s.core.registers.pc) in
+    comes_cond stacks r.locks _ entry (comes_locks stacks (state_of r.core r.exceptions s.bus) course.touched)
+    (comes_preempted stacks (state_of (passed_by fault r.core) r.exceptions s.bus) course (goes_on_at fault s.core.registers.pc))
+
+-- ---- a return
+
+-- where it resumed Secure code, a Secure stack held the signature
+record Signed (stacks : Stacks) (m : Memory) : Type 0 where
+  pub process : Bool
+  pub word : word_at m (sp_of process stacks) ≡ signature
+
+abbrev SignedWhere : Stacks → Memory → Side → Left → Type 0
+SignedWhere stacks m side (left.Resumed touched) = is_nonsecure_side side ≡ false → Signed stacks m
+SignedWhere stacks m side (left.Chained given touched) = Unit {0}
+SignedWhere stacks m side (left.Lockup touched) = Unit {0}
+
+abbrev SignedBy : Stacks → Memory → Leaving Framed → Type 0
+SignedBy stacks m l = SignedWhere stacks m l.core.run.side l.result
+
+signed_cond : (stacks : Stacks) (m : Memory) (t : Bool) (x y : Leaving Framed) → SignedBy stacks m x → SignedBy stacks m y → SignedBy stacks m (cond t x y)
+signed_cond stacks m true x y h k = h
+signed_cond stacks m false x y h k = k
+
+signed_chained : (stacks : Stacks) (m : Memory) (profile : Profile) (r : Returning) (touched : Bool) (c : Core) (e : ExceptionsValue) (f : Framed) → SignedBy stacks m (chained framed profile r touched c e f)
+unfolding chained
+signed_chained stacks m profile r touched c e f =
+    let d = tries framed profile 4 (record { core = c; exceptions = e; held = f; entry = chaining r touched }) in go d.core.run.side d.result
+  where
+    go : (side : Side) (x : Entered) → SignedWhere stacks m side (left_of x)
+    go side (entered.Taken given touched) = tt
+    go side (entered.Lockup touched) = tt
+
+signed_raised : (stacks : Stacks) (m : Memory) (profile : Profile) (r : Returning) (touched : Bool) (f : Framed) (raised : Raised) → SignedBy stacks m (chained_raised framed profile r touched f raised)
+signed_raised stacks m profile r touched f raised =
+    signed_cond stacks m raised.locks _ (chained framed profile r touched raised.core raised.exceptions f) tt (signed_chained stacks m profile r touched raised.core raised.exceptions f)
+
+-- the word that was read, where it was
+looked_word : (v : Option Fault) (f : Framed) (a word : ℕ) → word_answer (looked v f a).1 ≡ Ok word → word_at f.bus.memory a ≡ word
+looked_word None f a word e = cc
+looked_word (Some fault) f a word e = cc
+
+signed_when : (t : Bool) (word : ℕ) (later : Result (List ℕ) StackFault) (k : Callee) → (word == signature) ≡ t → cond t (callee_read later) (Err Signature) ≡ Ok k → word ≡ signature
+signed_when true word later k is h = grind (arith, nat_tests)
+signed_when false word later k is h = cc
+
+ok_of : ℕ → Result ℕ StackFault
+ok_of word = Ok word
+
+signed_word : (x : Result ℕ StackFault) (later : Result (List ℕ) StackFault) (k : Callee) → signed x later ≡ Ok k → x ≡ Ok signature
+unfolding ok_of
+signed_word (Err fault) later k e = cc
+signed_word (Ok word) later k e = ap ok_of (signed_when (word == signature) word later k refl e)
+
+signed_popped : (f : Framed) (sp : ℕ) (privileged : Bool) (k : Callee) → popped_additional framed f sp privileged ≡ Ok k → word_at f.bus.memory sp ≡ signature
+signed_popped f sp privileged k e =
+    looked_word (frame_verdict f Read sp Secure privileged) f sp signature
+    (signed_word (word_read framed Secure privileged f sp) (reads framed Secure privileged f (wrap (sp + 4)) 9) k e)
+
+first_read : (x : Result Callee StackFault) (y : Result Basic StackFault) (u : Unstacked) → with_callee x y ≡ Ok u → (k : Callee) × (x ≡ Ok k)
+first_read (Ok k) y u e = (k, refl)
+first_read (Err fault) y u e = cc
+
+-- Secure code that Non-secure code returns to has an additional frame
+signed_unstacked : (c : Core) (f : Framed) (es process thread dcrs : Bool) (u : Unstacked) → es ≡ false → unstacked framed c (bits es process thread dcrs true) f ≡ Ok u → Signed c.stacks_s f.bus.memory
+unfolding unstacked
+signed_unstacked c f true process thread dcrs u own e = cc
+signed_unstacked c f false process thread dcrs u own e =
+    let r = bits false process thread dcrs true in
+    let first = first_read (popped_additional framed f (return_sp c r) (returns_privileged c r)) (popped_basic framed f (wrap (return_sp c r + 40)) Secure (returns_privileged c r)) u e in
+    record { process = returns_to_process c r; word = signed_popped f (return_sp c r) (returns_privileged c r) first.0 first.1 }
+
+resumed_signed : (c : Core) (f : Framed) (es process thread dcrs secure : Bool) (u : Unstacked) → es ≡ false → unstacked framed c (bits es process thread dcrs secure) f ≡ Ok u → is_nonsecure_side (side_by secure) ≡ false
+    → Signed c.stacks_s f.bus.memory
+resumed_signed c f es process thread dcrs true u own e is = signed_unstacked c f es process thread dcrs u own e
+resumed_signed c f es process thread dcrs false u own e is = cc
+
+resumes_signed : (profile : Profile) (r : Returning) (c : Core) (e : ExceptionsValue) (f : Framed) (u : Result Unstacked StackFault) → r.es ≡ false → unstacked framed c r f ≡ u
+    → SignedBy c.stacks_s f.bus.memory (resumes framed profile r c e f u)
+resumes_signed profile r c e f (Err fault) own is = signed_raised c.stacks_s f.bus.memory profile r r.secure f (frame_faulted false (side_by r.secure) fault c e)
+resumes_signed profile r c e f (Ok u) own is =
+    let raised = faulted (side_by r.secure) (InvPc (side_by r.secure)) c e in
+    signed_cond c.stacks_s f.bus.memory (modes_agree r u.basic) _ (chained_raised framed profile r r.secure f raised)
+    (λ secure. resumed_signed c f r.es r.process r.thread r.dcrs r.secure u own is secure) (signed_raised c.stacks_s f.bus.memory profile r r.secure f raised)
+
+goes_back_signed : (profile : Profile) (r : Returning) (c : Core) (e : ExceptionsValue) (f : Framed) → r.es ≡ false → SignedBy c.stacks_s f.bus.memory (goes_back framed profile r c e f)
+unfolding goes_back
+goes_back_signed profile r c e f own =
+    signed_cond c.stacks_s f.bus.memory (takes_first e c.masks) (chained framed profile r false c e f) (resumes framed profile r c e f (unstacked framed c r f))
+    (signed_chained c.stacks_s f.bus.memory profile r false c e f) (resumes_signed profile r c e f (unstacked framed c r f) own refl)
+
+noting_signed : (profile : Profile) (side : Side) (fault : Option Fault) (r : Returning) (c : Core) (e : ExceptionsValue) (f : Framed) → r.es ≡ false
+    → SignedBy c.stacks_s f.bus.memory (leaves_noting framed profile side fault r c e f)
+noting_signed profile side (Some fault) r c e f own = signed_raised c.stacks_s f.bus.memory profile r false f (faulted side fault c e)
+noting_signed profile side None r c e f own = goes_back_signed profile r c e f own
+
+-- a return of Non-secure code leaves the Secure stacks alone until then
+unhandled_stacks : (e : ExceptionsValue) (c : Core) (es process thread dcrs secure : Bool) → es ≡ false → (unhandled e (bits es process thread dcrs secure) c).stacks_s ≡ c.stacks_s
+unhandled_stacks e c true process thread dcrs secure own = cc
+unhandled_stacks e c false process thread dcrs secure own = refl
+
+no_es : (side : Side) (value : ℕ) → side ≡ NonSecure → (returning_by side value).es ≡ false
+no_es Secure value is = cc
+no_es NonSecure value is = refl
+
+leaves_signed : (profile : Profile) (c : Core) (e : ExceptionsValue) (f : Framed) (value : ℕ) → c.run.side ≡ NonSecure → SignedBy c.stacks_s f.bus.memory (leaves framed profile c e f value)
+unfolding leaves
+leaves_signed profile c e f value is =
+    let r = returning_by c.run.side value in
+    let own = no_es c.run.side value is in
+    subst (λ (t : Stacks). SignedBy t f.bus.memory (leaves_noting framed profile c.run.side (noted c e value) r (unhandled e r c) (freed e (slot_returning c r)) f))
+    (unhandled_stacks e c r.es r.process r.thread r.dcrs r.secure own)
+    (noting_signed profile c.run.side (noted c e value) r (unhandled e r c) (freed e (slot_returning c r)) f own)
+
+came_signed : (stacks : Stacks) (s : State) (m : Memory) → s.bus.memory ≡ m → Signed stacks m → Came stacks s causes.Resumed
+came_signed stacks s m same h = ByUnstacking refl h.process (ap (λ (n : Memory). word_at n (sp_of h.process stacks)) same ∙ h.word)
+
+unlocked_side : (locked : Bool) (side : Side) → locked ≡ false → is_nonsecure_side (cond locked Secure side) ≡ false → is_nonsecure_side side ≡ false
+unlocked_side true side l e = cc
+unlocked_side false side l e = e
+
+comes_left_by : (stacks : Stacks) (s : State) (m : Memory) (course : Course) (code : Code) (result : Left) → s.bus.memory ≡ m → SignedWhere stacks m s.core.run.side result → Comes stacks (left_by s course code result)
+comes_left_by stacks s m course code (left.Resumed touched) same h =
+    λ secure unlocked. came_signed stacks _ m same (h (unlocked_side s.core.run.locked s.core.run.side unlocked secure))
+comes_left_by stacks s m course code (left.Chained given touched) same h = λ secure unlocked. ByException refl
+comes_left_by stacks s m course code (left.Lockup touched) same h = comes_locks stacks s (course.touched || touched)
+
+pub comes_returns : (s : State) (course : Course) (code : Code) (value : ℕ) → s.core.run.side ≡ NonSecure → Comes s.core.stacks_s (returns s course code value)
+unfolding returns
+comes_returns s course code value is =
+    let f = framed_in course.negative s in
+    let l = leaves framed s.bus.board.profile s.core s.exceptions f value in
+    comes_left_by s.core.stacks_s (state_of l.core l.exceptions l.held.bus) s.bus.memory course code l.result
+    (ap (λ (g : Framed). g.bus.memory) (leaves_still s.bus.board.profile s.core s.exceptions f value is)) (leaves_signed s.bus.board.profile s.core s.exceptions f value is)
+
+-- ---- FNC_RETURN
+
+abbrev CalledFrom : Core → Memory → Result Core Fault → Type 0
+CalledFrom c m (Ok back) = IsCallFrame c.stacks_s back m (uses_process c.registers.ipsr c.stacks_s)
+CalledFrom c m (Err fault) = Unit {0}
+
+second_called : (c : Core) (m : Memory) (v : Option Fault) (f : Framed) (back a : ℕ) → f.bus.memory ≡ m → a ≡ wrap (return_base c + 4) → back ≡ word_at m (return_base c) → CalledFrom c m (after_second c back (looked v f a).1)
+second_called c m (Some fault) f back a same at is = tt
+second_called c m None f back a same at is = go (numbers_agree c.registers.ipsr (word_at f.bus.memory a % 2 ^ 9)) where
+  go : (t : Bool) → CalledFrom c m (cond t (Ok (came_back c back (word_at f.bus.memory a % 2 ^ 9))) (Err (InvPc c.run.side)))
+  go true = record { pc = ap even_of is; number = ap (λ (n : ℕ). n % 2 ^ 9) ((λ i. word_at (same i) (at i))) }
+  go false = tt
+
+first_called : (c : Core) (m : Memory) (v w : Option Fault) (f : Framed) → f.bus.memory ≡ m → CalledFrom c m (after_first c (looked v f (return_base c)).1 (looked w f (wrap (return_base c + 4))).1)
+first_called c m (Some fault) w f same = tt
+first_called c m None w f same = second_called c m w f (word_at f.bus.memory (return_base c)) (wrap (return_base c + 4)) same refl (ap (λ (n : Memory). word_at n (return_base c)) same)
+
+comes_back_with : (before : Core) (s : State) (course : Course) (code : Code) (r : Result Core Fault) → CalledFrom s.core s.bus.memory r → Comes s.core.stacks_s (back_with before s course code r)
+comes_back_with before s course code (Ok c) h = λ secure unlocked. ByReturn refl (uses_process s.core.registers.ipsr s.core.stacks_s) h
+comes_back_with before s course code (Err fault) h = comes_faults s.core.stacks_s (with_core s (core_back before s.core)) course fault
+
+pub comes_comes_back : (before : Core) (s : State) (course : Course) (code : Code) → Comes s.core.stacks_s (comes_back before s course code)
+unfolding comes_back
+comes_comes_back before s course code =
+    let f = framed_in course.negative s in
+    comes_back_with before s (looking course) code (function_returned framed s.core f)
+    (first_called s.core s.bus.memory (frame_verdict f Read (return_base s.core) Secure f.secure_privileged) (frame_verdict f Read (wrap (return_base s.core + 4)) Secure f.secure_privileged) f refl)
