@@ -2,17 +2,16 @@
 
 ghost use Rattle.std.specs.Prelude.{◌≡◌, ◌+◌, Some};
 ghost use Rattle.tz_model.specs.Words.{wrap};
-ghost use Rattle.tz_sem.specs.declared.ending.Cause.{Cause as Ends};
 ghost use Rattle.tz_sem.specs.Exchange.{core_back, looking};
 ghost use Rattle.tz_sem.specs.Step.{is_call};
 
 use crate::changes::Stores;
 use crate::port::CorePort;
 use crate::running::{Machine, next_of};
+use crate::taking::frames_over;
 use tz_excret::is_exc_return;
-use tz_frames::BusFrames;
 use tz_gate::{branch_ns, call_ns, function_return, is_fnc_return};
-use tz_model::{Code, Insn, Side};
+use tz_model::{Code, Insn};
 use tz_regs::Core;
 use tz_sem::{Cause, Course, Ending};
 
@@ -90,14 +89,7 @@ impl Machine {
     fn come_back(&mut self, before: &Core, course: Course, code: &Code) -> Ending
         ensures { comes_back before.now self.old course code.now ≡ record { state = self.new; ending = result } }
     {
-        let mut frames = BusFrames {
-            vtor_s: self.core.status.s.vtor,
-            vtor_ns: self.core.status.ns.vtor,
-            secure_privileged: self.core.privileged(Side::Secure),
-            negative: course.negative,
-            room: 40,
-            bus: &mut self.bus,
-        };
+        let mut frames = frames_over(&mut self.bus, &self.core, course.negative);
         match function_return(&mut self.core, &mut frames) {
             Ok(()) => ran_by(Cause::CameBack, looking(course), code),
             Err(fault) => {

@@ -71,7 +71,7 @@ impl Machine {
     ghost use Rattle.tz_exec.specs.Exec.{executed};
     ghost use Rattle.tz_model.specs.Codes.{meaning_of};
     ghost use Rattle.tz_sem.specs.Step.{past, goes_next, skips, goes_on, concludes, executes, faulting, placed, decoded, enters, looks, unready, course_in, instructs, idles, by_sleep, takes, ended, step};
-    ghost use Rattle.tz_twin.specs.Integrity.{LeavesSecure, EntersByGateway};
+    ghost use Rattle.tz_twin.specs.Integrity.{LeavesSecure, EntersSecure};
 
     /// The state that the machine is in; a locked machine counts as Secure.
     pub fn side(&self) -> Side
@@ -409,7 +409,7 @@ impl Machine {
     pub fn step_into(&mut self, due: &[ScriptEvent], report: &mut Report)
         ensures steps { step self.old due.now ≡ record { state = self.new; report = report.new } }
         ensures leaves_secure { LeavesSecure self.old (record { state = self.new; report = report.new }) }
-        ensures enters_by_gateway { EntersByGateway self.old due.now (record { state = self.new; report = report.new }) }
+        ensures enters_secure { EntersSecure self.old due.now (record { state = self.new; report = report.new }) }
     {
         self.report_step(due, report);
     }
@@ -419,12 +419,12 @@ impl Machine {
     ///
     /// It is the step relation. Where Non-secure code runs and doesn't look at Secure state, that stays
     /// as it was, but for the count of the Secure timer and for what pends and is active; where Non-secure code gets to
-    /// Secure code in a step that takes no exception, returns from none and doesn't return by FNC_RETURN, it ran SG where it may
-    /// call.
+    /// Secure code, it ran SG where it may call, took an exception, returned by FNC_RETURN to what a Secure stack holds, or
+    /// returned by EXC_RETURN to a frame with the integrity signature.
     pub fn step(&mut self, due: &[ScriptEvent]) -> Report
         ensures steps { step self.old due.now ≡ record { state = self.new; report = result } }
         ensures leaves_secure { LeavesSecure self.old (record { state = self.new; report = result }) }
-        ensures enters_by_gateway { EntersByGateway self.old due.now (record { state = self.new; report = result }) }
+        ensures enters_secure { EntersSecure self.old due.now (record { state = self.new; report = result }) }
     {
         let mut report = Report::new();
         self.step_into(due, &mut report);

@@ -1,10 +1,13 @@
 //! Exceptions of the machine: they are taken by a fault of an instruction or before one, and return.
 
 ghost use Rattle.std.specs.Prelude.{◌≡◌};
+ghost use Rattle.tz_table.specs.declared.units.Side.TheVariants.{Secure};
+ghost use Rattle.tz_state.specs.State.{is_privileged_in};
 ghost use Rattle.tz_sem.specs.Taking.{goes_on_at, passed_by};
 ghost use Rattle.tz_sem.specs.Exchange.{ran_by};
 
 use crate::running::Machine;
+use tz_access::Bus;
 use tz_excret::{Entered, Left, enter, leave, raise_fault};
 use tz_frames::BusFrames;
 use tz_model::{Code, Fault, Side};
@@ -28,6 +31,27 @@ fn pass_by(core: &mut Core, fault: Fault)
     match fault {
         Fault::Call => core.registers.advance_it(),
         _ => {}
+    }
+}
+
+/// The bus as entries and returns reach it, with room for the stores of one.
+pub(crate) fn frames_over<'a>(bus: &'a mut Bus, core: &Core, negative: bool) -> BusFrames<'a>
+    ensures { result ≡ record {
+      bus = bus;
+      vtor_s = core.now.status.s.vtor;
+      vtor_ns = core.now.status.ns.vtor;
+      secure_privileged = is_privileged_in Secure core.now;
+      negative = negative;
+      room = 40;
+    } }
+{
+    BusFrames {
+        bus,
+        vtor_s: core.status.s.vtor,
+        vtor_ns: core.status.ns.vtor,
+        secure_privileged: core.privileged(Side::Secure),
+        negative,
+        room: 40,
     }
 }
 
@@ -67,14 +91,7 @@ impl Machine {
         ensures { preempted self.old course back ≡ record { state = self.new; ending = result } }
     {
         let profile = self.bus.board().profile;
-        let mut frames = BusFrames {
-            vtor_s: self.core.status.s.vtor,
-            vtor_ns: self.core.status.ns.vtor,
-            secure_privileged: self.core.privileged(Side::Secure),
-            negative: course.negative,
-            room: 40,
-            bus: &mut self.bus,
-        };
+        let mut frames = frames_over(&mut self.bus, &self.core, course.negative);
         match enter(
             &mut self.core,
             &mut self.exceptions,
@@ -120,14 +137,7 @@ impl Machine {
         ensures { returns self.old course code.now value ≡ record { state = self.new; ending = result } }
     {
         let profile = self.bus.board().profile;
-        let mut frames = BusFrames {
-            vtor_s: self.core.status.s.vtor,
-            vtor_ns: self.core.status.ns.vtor,
-            secure_privileged: self.core.privileged(Side::Secure),
-            negative: course.negative,
-            room: 40,
-            bus: &mut self.bus,
-        };
+        let mut frames = frames_over(&mut self.bus, &self.core, course.negative);
         match leave(
             &mut self.core,
             &mut self.exceptions,
