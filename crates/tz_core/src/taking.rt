@@ -37,7 +37,7 @@ fn pass_by(core: &mut Core, fault: Fault)
 /// The bus as entries and returns reach it, with room for the stores of one.
 pub(crate) fn frames_over<'a>(bus: &'a mut Bus, core: &Core, negative: bool) -> BusFrames<'a>
     ensures { result ≡ record {
-      bus = bus;
+      bus = bus.entry;
       vtor_s = core.now.status.s.vtor;
       vtor_ns = core.now.status.ns.vtor;
       secure_privileged = is_privileged_in Secure core.now;
