@@ -42,38 +42,52 @@ fn read<'s>(line: &'s [u8], tokens: &mut Vec<Token<'s>>) -> Result<&'static str,
     })
 }
 
+/// Lines, and what they say.
+static DIRECTIVES: [(&[u8], &str); 9] = [
+    (b"", "nothing"),
+    (b"movs:", "nothing"),
+    (b"a: .org 0x10", "org"),
+    (b".org -1", "org back"),
+    (b".align 0x80000000", "align"),
+    (b".word 1", "number"),
+    (b".half -1", "negative"),
+    (b".byte r13+1", "label"),
+    (b".byte a_b-1", "below a label"),
+];
+
+/// Lines that say nothing, and why.
+static REFUSALS: [(&[u8], &str); 15] = [
+    (b".ORG 1", "mnemonic"),
+    (b"5", "mnemonic"),
+    (b": nop", "mnemonic"),
+    (b".word: .byte 1", "operands"),
+    (b"PC: .byte 1", "operands"),
+    (b".align 0", "operands"),
+    (b".align -4", "operands"),
+    (b".align 6", "operands"),
+    (b".org a", "operands"),
+    (b".word", "operands"),
+    (b".word #5", "operands"),
+    (b".word lr", "operands"),
+    (b".word a.b", "operands"),
+    (b".word a+", "operands"),
+    (b".word a+1+1", "operands"),
+];
+
 #[test]
 fn directives(rt: HostRuntime) -> Result<(), Fail> {
     let mut tokens = Vec::new(rt.alloc());
-    assert_eq!(rt; read(b"", &mut tokens)?, "nothing");
-    assert_eq!(rt; read(b"movs:", &mut tokens)?, "nothing");
-    assert_eq!(rt; read(b"a: .org 0x10", &mut tokens)?, "org");
-    assert_eq!(rt; read(b".org -1", &mut tokens)?, "org back");
-    assert_eq!(rt; read(b".align 0x80000000", &mut tokens)?, "align");
-    assert_eq!(rt; read(b".word 1", &mut tokens)?, "number");
-    assert_eq!(rt; read(b".half -1", &mut tokens)?, "negative");
-    assert_eq!(rt; read(b".byte r13+1", &mut tokens)?, "label");
-    assert_eq!(rt; read(b".byte a_b-1", &mut tokens)?, "below a label");
+    for &(line, says) in DIRECTIVES.iter() {
+        assert_eq!(rt; read(line, &mut tokens)?, says);
+    }
     Ok(())
 }
 
 #[test]
 fn refusals(rt: HostRuntime) -> Result<(), Fail> {
     let mut tokens = Vec::new(rt.alloc());
-    assert_eq!(rt; read(b".ORG 1", &mut tokens)?, "mnemonic");
-    assert_eq!(rt; read(b"5", &mut tokens)?, "mnemonic");
-    assert_eq!(rt; read(b": nop", &mut tokens)?, "mnemonic");
-    assert_eq!(rt; read(b".word: .byte 1", &mut tokens)?, "operands");
-    assert_eq!(rt; read(b"PC: .byte 1", &mut tokens)?, "operands");
-    assert_eq!(rt; read(b".align 0", &mut tokens)?, "operands");
-    assert_eq!(rt; read(b".align -4", &mut tokens)?, "operands");
-    assert_eq!(rt; read(b".align 6", &mut tokens)?, "operands");
-    assert_eq!(rt; read(b".org a", &mut tokens)?, "operands");
-    assert_eq!(rt; read(b".word", &mut tokens)?, "operands");
-    assert_eq!(rt; read(b".word #5", &mut tokens)?, "operands");
-    assert_eq!(rt; read(b".word lr", &mut tokens)?, "operands");
-    assert_eq!(rt; read(b".word a.b", &mut tokens)?, "operands");
-    assert_eq!(rt; read(b".word a+", &mut tokens)?, "operands");
-    assert_eq!(rt; read(b".word a+1+1", &mut tokens)?, "operands");
+    for &(line, why) in REFUSALS.iter() {
+        assert_eq!(rt; read(line, &mut tokens)?, why);
+    }
     Ok(())
 }
