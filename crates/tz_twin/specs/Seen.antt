@@ -67,7 +67,7 @@ public_of s =
 
 -- what Secure code hands to the Non-secure code that goes on: all registers where it returns and where an exception
 -- of Non-secure code does; all but LR, which is FNC_RETURN, where it calls; R4 to R11 where a Non-secure exception
--- follows a Secure one; and nothing where a Non-secure exception interrupts it
+-- follows a Secure one; and nothing where a Non-secure exception interrupts it, or a step of Non-secure code is refused
 pub data Handed : Type 0 where
   Nothing : Handed
   Saved : (r4_to_r11 : List ℕ) → Handed
