@@ -46,67 +46,80 @@ fn places(rt: HostRuntime) -> Result<(), Fail> {
     Ok(())
 }
 
+/// At the last address.
+static LAST_ADDRESS: [(&[u8], &str); 2] = [
+    (
+        b".org 0xffffffff\n.byte 1\nend: .align 2\n.org 0xffffffff",
+        "A7 4",
+    ),
+    (
+        b".org 0xffffffff\n.byte 1\nend: .align 2\n.byte end-0xffffff01",
+        "A8 4",
+    ),
+];
+
 #[test]
 fn the_last_address(rt: HostRuntime) -> Result<(), Fail> {
-    let source = b".org 0xffffffff\n.byte 1\nend: .align 2\n.org 0xffffffff";
-    assert_eq!(rt; told(rt.alloc(), source)?.as_str(), "A7 4");
-    let source = b".org 0xffffffff\n.byte 1\nend: .align 2\n.byte end-0xffffff01";
-    assert_eq!(rt; told(rt.alloc(), source)?.as_str(), "A8 4");
+    for &(source, image) in LAST_ADDRESS.iter() {
+        assert_eq!(rt; told(rt.alloc(), source)?.as_str(), image);
+    }
     Ok(())
 }
+
+/// One of each refusal, and which comes first.
+static REFUSALS: [(&[u8], &str); 9] = [
+    (b"\n .word $ 1", "A1 2"),
+    (b"a: 5", "A2 1"),
+    (b".align 3", "A3 1"),
+    (b"Sp: .byte 1", "A3 1"),
+    (b".byte 256\n.byte k", "A4 1"),
+    (b".byte k\n.byte 256", "A5 1"),
+    (b"a:\na: .org -1", "A6 2"),
+    (b".byte 300\n.org 1\n.org 0", "A7 3"),
+    (b".byte 0\n.align 0x800000", "A8 2"),
+];
 
 #[test]
 fn refusals(rt: HostRuntime) -> Result<(), Fail> {
-    assert_eq!(rt; told(rt.alloc(), b"\n .word $ 1")?.as_str(), "A1 2");
-    assert_eq!(rt; told(rt.alloc(), b"a: 5")?.as_str(), "A2 1");
-    assert_eq!(rt; told(rt.alloc(), b".align 3")?.as_str(), "A3 1");
-    assert_eq!(rt; told(rt.alloc(), b"Sp: .byte 1")?.as_str(), "A3 1");
-    assert_eq!(rt; told(rt.alloc(), b".byte 256\n.byte k")?.as_str(), "A4 1");
-    assert_eq!(rt; told(rt.alloc(), b".byte k\n.byte 256")?.as_str(), "A5 1");
-    assert_eq!(rt; told(rt.alloc(), b"a:\na: .org -1")?.as_str(), "A6 2");
-    assert_eq!(rt;
-        told(rt.alloc(), b".byte 300\n.org 1\n.org 0")?.as_str(),
-        "A7 3"
-    );
-    assert_eq!(rt;
-        told(rt.alloc(), b".byte 0\n.align 0x800000")?.as_str(),
-        "A8 2"
-    );
+    for &(source, image) in REFUSALS.iter() {
+        assert_eq!(rt; told(rt.alloc(), source)?.as_str(), image);
+    }
     Ok(())
 }
 
-// The code is that of GNU binutils.
+/// Instructions, with the codes of GNU binutils.
+static INSTRUCTIONS: [(&[u8], &str); 6] = [
+    (
+        b"start: ldr r0, k\n b start\n nop\n NOP\nk: .word 0x12345678\n beq.w start\n",
+        "00000000 0148fde700bf00bf785634123ff4f8af\n",
+    ),
+    (b".org 0x00200040\nmovs r0, #5\n", "00200040 0520\n"),
+    (b"\nmovs r0, #256", "A4 2"),
+    (b"\nmvos r0, #5", "A2 2"),
+    (b"b nowhere\nmovs r0, #256", "A5 1"),
+    (b"movs r0, 5\nb nowhere", "A3 1"),
+];
+
 #[test]
 fn instructions(rt: HostRuntime) -> Result<(), Fail> {
-    let source = b"start: ldr r0, k\n b start\n nop\n NOP\nk: .word 0x12345678\n beq.w start\n";
-    assert_eq!(rt;
-        told(rt.alloc(), source)?.as_str(),
-        "00000000 0148fde700bf00bf785634123ff4f8af\n"
-    );
-    let source = b".org 0x00200040\nmovs r0, #5\n";
-    assert_eq!(rt; told(rt.alloc(), source)?.as_str(), "00200040 0520\n");
-    assert_eq!(rt; told(rt.alloc(), b"\nmovs r0, #256")?.as_str(), "A4 2");
-    assert_eq!(rt; told(rt.alloc(), b"\nmvos r0, #5")?.as_str(), "A2 2");
-    assert_eq!(rt;
-        told(rt.alloc(), b"b nowhere\nmovs r0, #256")?.as_str(),
-        "A5 1"
-    );
-    assert_eq!(rt;
-        told(rt.alloc(), b"movs r0, 5\nb nowhere")?.as_str(),
-        "A3 1"
-    );
+    for &(source, image) in INSTRUCTIONS.iter() {
+        assert_eq!(rt; told(rt.alloc(), source)?.as_str(), image);
+    }
     Ok(())
 }
 
-// There is no code behind the last address, and a target there is out of range.
+/// There is no code behind the last address, and a target there is out of range.
+static BEHIND_THE_LAST: [(&[u8], &str); 3] = [
+    (b".org 0xfffffffc\nb end\nnop\nend:", "A4 2"),
+    (b".org 0xfffffffc\nnop\nldr r0, eq\nit eq\n", "A8 4"),
+    (b".org 0xfffffffc\nit eq\nit EQ\neq:", "fffffffc 08bf08bf\n"),
+];
+
 #[test]
 fn a_label_behind_the_last_address(rt: HostRuntime) -> Result<(), Fail> {
-    let source = b".org 0xfffffffc\nb end\nnop\nend:";
-    assert_eq!(rt; told(rt.alloc(), source)?.as_str(), "A4 2");
-    let source = b".org 0xfffffffc\nnop\nldr r0, eq\nit eq\n";
-    assert_eq!(rt; told(rt.alloc(), source)?.as_str(), "A8 4");
-    let source = b".org 0xfffffffc\nit eq\nit EQ\neq:";
-    assert_eq!(rt; told(rt.alloc(), source)?.as_str(), "fffffffc 08bf08bf\n");
+    for &(source, image) in BEHIND_THE_LAST.iter() {
+        assert_eq!(rt; told(rt.alloc(), source)?.as_str(), image);
+    }
     Ok(())
 }
 
