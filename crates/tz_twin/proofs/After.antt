@@ -1,5 +1,5 @@
 -- What is seen after a step that looked at Secure state: it is fixed by what was seen before it and by its crossing.
-use Rattle.std.proofs.Common.{◌≡◌, ℕ, ◌+◌, ◌*◌, ◌/◌, ◌%◌, ◌^◌, ◌==◌, Bool, true, false, cond, List, [], ◌∷◌, Option, Some, None, refl, sym, ap, ◌∙◌, subst}
+use Rattle.std.proofs.Common.{◌≡◌, ℕ, ◌+◌, ◌*◌, ◌/◌, ◌%◌, ◌^◌, ◌==◌, Bool, true, false, cond, List, [], ◌∷◌, Option, Some, None, refl, ap, ◌∙◌}
 use Rattle.std.specs.Prelude.{unwrap_or, slice_index, replicate, option_map}
 use Rattle.std.specs.Int.{w32, from_le_bytes}
 use Rattle.tz_table.specs.declared.units.Side.{Side}

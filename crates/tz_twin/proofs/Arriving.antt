@@ -1,5 +1,5 @@
 -- How entries and returns of Non-secure code get to Secure code: facts of one run.
-use Rattle.std.proofs.Common.{◌≡◌, ℕ, ◌+◌, ◌%◌, ◌^◌, ◌==◌, Bool, true, false, ◌&&◌, ◌||◌, not, cond, List, Option, Some, None, Result, Ok, Err, refl, sym, ap, ◌∙◌, subst, arith}
+use Rattle.std.proofs.Common.{◌≡◌, ℕ, ◌+◌, ◌%◌, ◌^◌, ◌==◌, Bool, true, false, ◌||◌, cond, List, Option, Some, None, Result, Ok, Err, refl, ap, ◌∙◌, subst, arith}
 use Rattle.std.proofs.lemmas.Bool.Decides.{nat_tests}
 use Rattle.tz_table.specs.declared.units.Side.{Side}
 use Rattle.tz_table.specs.declared.units.Side.TheVariants.{Secure, NonSecure}
@@ -15,8 +15,7 @@ use Rattle.tz_state.specs.declared.request.Kind.TheVariants.{Read}
 use Rattle.tz_state.specs.Memory.{Memory, word_at}
 use Rattle.tz_state.specs.Slots.{ExceptionsValue}
 use Rattle.tz_state.specs.Execution.{takes_first}
-use Rattle.tz_state.specs.State.{State, is_privileged_in, with_core, side_of}
-use Rattle.tz_frames.specs.Looks.{SecureLoad, FrameLoad}
+use Rattle.tz_state.specs.State.{State, with_core, side_of}
 use Rattle.tz_frames.specs.Machine.{Framed, frame_verdict, looked, framed}
 use Rattle.tz_entry.specs.declared.frame.StackFault.{StackFault}
 use Rattle.tz_entry.specs.declared.frame.StackFault.TheVariants.{Signature}
@@ -30,13 +29,13 @@ use Rattle.tz_entry.specs.declared.leaving.Left.{Left}
 use Rattle.tz_entry.specs.declared.leaving.Left.TheVariants as left
 use Rattle.tz_entry.specs.Status.{Raised, faulted, frame_faulted}
 use Rattle.tz_entry.specs.Stack.{signature, word_answer, word_read, reads, callee_read, signed, popped_additional, popped_basic}
-use Rattle.tz_entry.specs.Enter.{with_lock, enters, tries}
-use Rattle.tz_entry.specs.Leave.{returning_by, side_by, noted, slot_returning, freed, unhandled, chaining, Leaving, left_of, chained, chained_raised, has_callee, returns_to_process, returns_privileged, return_sp, with_basic, with_callee, unstacked, modes_agree, resumes, goes_back, leaves_noting, leaves}
-use Rattle.tz_entry.specs.Gate.{return_base, numbers_agree, came_back, returned_with, after_second, after_first, function_returned}
+use Rattle.tz_entry.specs.Enter.{enters, tries}
+use Rattle.tz_entry.specs.Leave.{returning_by, side_by, noted, slot_returning, freed, unhandled, chaining, Leaving, left_of, chained, chained_raised, returns_to_process, returns_privileged, return_sp, with_callee, unstacked, modes_agree, resumes, goes_back, leaves_noting, leaves}
+use Rattle.tz_entry.specs.Gate.{return_base, numbers_agree, came_back, after_second, after_first, function_returned}
 use Rattle.tz_sem.specs.declared.ending.Cause.TheVariants as causes
 use Rattle.tz_sem.specs.declared.ending.Course.{Course}
 use Rattle.tz_sem.specs.Ended.{Passed}
-use Rattle.tz_sem.specs.Taking.{state_of, locks, framed_in, taken_by, preempted, goes_on_at, passed_by, after_raise, faults, left_by, returns}
+use Rattle.tz_sem.specs.Taking.{state_of, locks, framed_in, taken_by, preempted, goes_on_at, passed_by, faults, left_by, returns}
 use Rattle.tz_sem.specs.Exchange.{core_back, back_with, looking, comes_back}
 use Rattle.tz_twin.specs.Integrity.{IsCallFrame, Came, ByException, ByReturn, ByUnstacking}
 use Rattle.tz_twin.proofs.ReturnSpares.{bits, leaves_still}

@@ -5,7 +5,7 @@ use Rattle.tz_model.specs.declared.report.Fault.{Fault}
 use Rattle.tz_model.specs.declared.report.Fault.TheVariants.{EntryPoint, Exec, ExecBus}
 use Rattle.tz_model.specs.declared.report.Store.{Store}
 use Rattle.tz_model.specs.declared.fetch.Fetched.{Fetched}
-use Rattle.tz_model.specs.Words.{wrap, is_nonsecure_side}
+use Rattle.tz_model.specs.Words.{wrap}
 use Rattle.tz_regs.specs.Registers.{side_in}
 use Rattle.tz_state.specs.declared.fetcher.Fetcher.{Fetcher}
 use Rattle.tz_state.specs.Memory.{half_at}

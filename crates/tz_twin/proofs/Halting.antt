@@ -37,7 +37,7 @@ use Rattle.tz_sem.specs.Exchange.{core_back, back_with, looking, comes_back}
 use Rattle.tz_exec.specs.Exec.{released}
 use Rattle.tz_twin.specs.Seen.{public_of, handed, Seen, Hidden, seen}
 use Rattle.tz_twin.proofs.Split.{board_seen}
-use Rattle.tz_twin.proofs.After.{word_shown, shown_word, way_taken, general_seen, registers_after, begun_with, found}
+use Rattle.tz_twin.proofs.After.{word_shown, shown_word, way_taken, general_seen, registers_after, found}
 use Rattle.tz_twin.proofs.Both.{Found, Touching, touching_found}
 use Rattle.tz_twin.proofs.Held.{enters_held, leaves_held}
 use Rattle.tz_twin.proofs.Handled.{Handled, HandledAt, EnteredHandled, LeftHandled, enters_handled, leaves_handled}

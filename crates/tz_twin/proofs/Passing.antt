@@ -1,5 +1,5 @@
 -- Entries and returns of Non-secure code in two runs: twins go on as twins, both lock, or both looked at Secure state.
-use Rattle.std.proofs.Common.{◌≡◌, ℕ, Bool, true, false, ◌||◌, cond, List, Option, Some, None, refl, sym, ap, ◌∙◌, subst, inr}
+use Rattle.std.proofs.Common.{◌≡◌, ℕ, Bool, true, false, ◌||◌, cond, List, Option, Some, None, refl, sym, ◌∙◌, subst, inr}
 use Rattle.tz_table.specs.declared.units.Side.TheVariants.{Secure, NonSecure}
 use Rattle.tz_table.specs.declared.units.Code.{Code}
 use Rattle.tz_model.specs.declared.report.Fault.{Fault}
@@ -9,19 +9,19 @@ use Rattle.tz_regs.specs.declared.parts.Core.{Core}
 use Rattle.tz_regs.specs.declared.parts.Registers.{Registers}
 use Rattle.tz_regs.specs.ItState.{it_advanced}
 use Rattle.tz_state.specs.State.{State, is_privileged_in}
-use Rattle.tz_frames.specs.Machine.{Framed, framed}
+use Rattle.tz_frames.specs.Machine.{Framed}
 use Rattle.tz_entry.specs.declared.entering.Entered.{Entered}
 use Rattle.tz_entry.specs.declared.entering.Entered.TheVariants as entered
 use Rattle.tz_entry.specs.declared.leaving.Left.{Left}
 use Rattle.tz_entry.specs.declared.leaving.Left.TheVariants as left
 use Rattle.tz_entry.specs.Status.{Raised, faulted}
-use Rattle.tz_entry.specs.Enter.{Done, enters}
-use Rattle.tz_entry.specs.Leave.{Leaving, leaves}
+use Rattle.tz_entry.specs.Enter.{Done}
+use Rattle.tz_entry.specs.Leave.{Leaving}
 use Rattle.tz_sem.specs.declared.ending.Cause.{Cause}
 use Rattle.tz_sem.specs.declared.ending.Cause.TheVariants as causes
 use Rattle.tz_sem.specs.declared.ending.Course.{Course}
 use Rattle.tz_sem.specs.Ended.{Passed, with_stores}
-use Rattle.tz_sem.specs.Taking.{state_of, locks, framed_in, taken_by, after_entry, preempted, goes_on_at, passed_by, after_raise, faults, left_by, after_return, returns}
+use Rattle.tz_sem.specs.Taking.{state_of, locks, taken_by, after_entry, preempted, goes_on_at, passed_by, after_raise, faults, left_by, after_return, returns}
 use Rattle.tz_sem.specs.Exchange.{comes_back}
 use Rattle.tz_exec.specs.Exec.{released}
 use Rattle.tz_twin.specs.Seen.{public_of, Seen, Shown}
@@ -30,11 +30,11 @@ use Rattle.tz_twin.proofs.Both.{Kept, Stops, Arrives, Both, Go, Stop, Touch}
 use Rattle.tz_twin.proofs.Faults.{is_own}
 use Rattle.tz_twin.proofs.EntrySpares.{entered_touched}
 use Rattle.tz_twin.proofs.ReturnSpares.{left_touched}
-use Rattle.tz_twin.proofs.Works.{Ground, Guise, held_of, RaisedTwins, done_of, DoneTwins, locks_up, DoneBoth, EntersAlike, EntersLocked, EntersLooking, leaving_of, LeavingTwins, leaves_locked, LeavingBoth, LeavesAlike, LeavesLocked, LeavesLooking}
+use Rattle.tz_twin.proofs.Works.{Ground, Guise, RaisedTwins, done_of, locks_up, DoneBoth, EntersAlike, EntersLocked, EntersLooking, leaving_of, leaves_locked, LeavingBoth, LeavesAlike, LeavesLocked, LeavesLooking}
 use Rattle.tz_twin.proofs.FaultTwins.{faulted_twins}
 use Rattle.tz_twin.proofs.EntryTwins.{enters_twins}
 use Rattle.tz_twin.proofs.ReturnTwins.{leaves_twins}
-use Rattle.tz_twin.proofs.Halting.{or_true, touching_halts}
+use Rattle.tz_twin.proofs.Halting.{touching_halts}
 use Rattle.tz_twin.proofs.Keeping.{kept_locked, kept_passed, kept_fault, Passes, passes_preempted, passes_returns, passes_comes_back}
 
 -- ---- both lock, or both looked at Secure state

@@ -1,4 +1,4 @@
--- A step of Non-secure code is a function of what that code has, unless it looks at Secure state.
+-- A step of Non-secure code in two runs, stage by stage.
 use Rattle.std.proofs.Common.{◌≡◌, ℕ, ◌+◌, Bool, true, false, ◌||◌, cond, List, [], Option, Some, None, Result, Ok, Err, refl, subst, inl, inr}
 use Rattle.tz_table.specs.declared.units.Side.{Side}
 use Rattle.tz_table.specs.declared.units.Side.TheVariants.{Secure, NonSecure}
