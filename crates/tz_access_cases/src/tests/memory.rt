@@ -2,6 +2,7 @@
 
 use crate::{bus_of, put};
 use std::test::Fail;
+use tz_access::Bus;
 use tz_mem::Refused;
 use tz_model::{Profile, Size};
 
@@ -30,37 +31,38 @@ fn reads(rt: HostRuntime) -> Result<(), Fail> {
     Ok(())
 }
 
+/// What a write came to.
+fn write_told(bus: &mut Bus, addr: u32, size: Size, value: u32) -> &'static str {
+    match bus.write(addr, size, value) {
+        Ok(()) => "written",
+        Err(Refused::ReadOnly) => "read only",
+        Err(Refused::NotMapped) => "not mapped",
+    }
+}
+
+/// Writes in turn, and the word at 0x2000_0000 after each.
+static WRITES: [(u32, Size, u32, u32); 2] = [
+    (0x2000_0001, Size::Word, 0x8765_4321, 0x6543_2100),
+    (0x2000_0002, Size::Byte, 0x1ff, 0x65ff_2100),
+];
+
+/// Writes of 1 that are refused, and why.
+static REFUSALS: [(u32, Size, &str); 3] = [
+    (0x1000_0000, Size::Byte, "read only"),
+    (0x1000_fffe, Size::Word, "not mapped"),
+    (0x2000_7ffe, Size::Word, "not mapped"),
+];
+
 #[test]
 fn writes(rt: HostRuntime) -> Result<(), Fail> {
     let mut bus = bus_of(rt.alloc(), Profile::V80)?;
-    assert!(rt; bus.write(0x2000_0001, Size::Word, 0x8765_4321).is_ok());
-    assert_eq!(rt;
-        bus.read(0x2000_0000, Size::Word).unwrap_or(99),
-        0x6543_2100
-    );
-    assert!(rt; bus.write(0x2000_0002, Size::Byte, 0x1ff).is_ok());
-    assert_eq!(rt;
-        bus.read(0x2000_0000, Size::Word).unwrap_or(99),
-        0x65ff_2100
-    );
-    assert!(rt;
-        matches!(
-            bus.write(0x1000_0000, Size::Byte, 1),
-            Err(Refused::ReadOnly)
-        )
-    );
-    assert!(rt;
-        matches!(
-            bus.write(0x1000_fffe, Size::Word, 1),
-            Err(Refused::NotMapped)
-        )
-    );
-    assert!(rt;
-        matches!(
-            bus.write(0x2000_7ffe, Size::Word, 1),
-            Err(Refused::NotMapped)
-        )
-    );
+    for &(addr, size, value, word) in WRITES.iter() {
+        assert_eq!(rt; write_told(&mut bus, addr, size, value), "written");
+        assert_eq!(rt; bus.read(0x2000_0000, Size::Word).unwrap_or(99), word);
+    }
+    for &(addr, size, why) in REFUSALS.iter() {
+        assert_eq!(rt; write_told(&mut bus, addr, size, 1), why);
+    }
     assert_eq!(rt; bus.read(0x2000_7ffe, Size::Half).unwrap_or(99), 0);
     Ok(())
 }
