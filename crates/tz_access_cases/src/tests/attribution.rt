@@ -96,12 +96,19 @@ fn of_two_regions_neither_wins(rt: HostRuntime) -> Result<(), Fail> {
     Ok(())
 }
 
+/// The address of the first case that is told otherwise with the SAU off.
+fn first_wrong_without_sau(bus: &mut Bus) -> Option<u32> {
+    bus.set_register(SAU_CTRL, Side::Secure, 2);
+    if let Some(addr) = first_wrong(bus, &BY_BOARD) {
+        return Some(addr);
+    }
+    bus.set_register(SAU_CTRL, Side::Secure, 0);
+    first_wrong(bus, &ALL_SECURE)
+}
+
 #[test]
 fn with_the_sau_off(rt: HostRuntime) -> Result<(), Fail> {
     let mut bus = bus_of(rt.alloc(), Profile::V80)?;
-    bus.set_register(SAU_CTRL, Side::Secure, 2);
-    assert_eq!(rt; first_wrong(&bus, &BY_BOARD), None);
-    bus.set_register(SAU_CTRL, Side::Secure, 0);
-    assert_eq!(rt; first_wrong(&bus, &ALL_SECURE), None);
+    assert_eq!(rt; first_wrong_without_sau(&mut bus), None);
     Ok(())
 }

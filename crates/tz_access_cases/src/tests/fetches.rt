@@ -80,16 +80,22 @@ fn answers(bus: &mut Bus, pc: u32, side: Side, told: (&str, u16, u16), touched: 
     text == told.0 && first == told.1 && second == told.2
 }
 
+/// The address of the first of `AT_BOOT` that is fetched otherwise.
+fn first_wrong(bus: &mut Bus) -> Option<u32> {
+    for &(side, pc, text, first, second, touched) in AT_BOOT.iter() {
+        if !answers(bus, pc, side, (text, first, second), touched) {
+            return Some(pc);
+        }
+    }
+    None
+}
+
 #[test]
 fn at_boot(rt: HostRuntime) -> Result<(), Fail> {
     let mut bus = bus_of(rt.alloc(), Profile::V80)?;
-    assert!(rt; put_code(&mut bus));
-    for &(side, pc, text, first, second, touched) in AT_BOOT.iter() {
-        assert!(rt;
-            answers(&mut bus, pc, side, (text, first, second), touched),
-            "{pc:x}"
-        );
-    }
+    let is_put = put_code(&mut bus);
+    let wrong = first_wrong(&mut bus);
+    assert!(rt; is_put && wrong.is_none(), "{:x}", wrong.unwrap_or(0));
     Ok(())
 }
 
@@ -130,42 +136,55 @@ static SECOND_HALFWORDS: [(u32, &str, u16, u16); 3] = [
     (0x0020_0022, "exec ns", 0, 0),
 ];
 
-/// A fetch of privileged Non-secure code.
-fn fetched_at(bus: &mut Bus, pc: u32) -> (&'static str, u16, u16) {
-    fetched_told(&bus.fetch(pc, NS, true, true, false))
+/// Whether a fetch of privileged Non-secure code is answered so.
+fn is_fetched(bus: &mut Bus, pc: u32, text: &str, first: u16, second: u16) -> bool {
+    let told = fetched_told(&bus.fetch(pc, NS, true, true, false));
+    told.0 == text && told.1 == first && told.2 == second
+}
+
+/// The address of the first instruction at the end of a region that is fetched otherwise, with XN behind it and
+/// then without.
+fn first_wrong_at_the_end(bus: &mut Bus) -> Option<u32> {
+    set_mpu(bus, NS, 0, 0x0020_0006, 0x0020_0001);
+    set_mpu(bus, NS, 1, 0x0020_0027, 0x0020_0021);
+    bus.set_register(MPU_CTRL, NS, 1);
+    for &(pc, text, first, second) in SECOND_HALFWORDS.iter() {
+        if !is_fetched(bus, pc, text, first, second) {
+            return Some(pc);
+        }
+    }
+    set_mpu(bus, NS, 1, 0x0020_0026, 0x0020_0021);
+    if !is_fetched(bus, 0x0020_001e, "long", 0xf3af, 0x8000) {
+        return Some(0x0020_001e);
+    }
+    None
 }
 
 /// XN, at the end of a region: the second halfword of an instruction is checked too.
 #[test]
 fn second_halfword(rt: HostRuntime) -> Result<(), Fail> {
     let mut bus = bus_of(rt.alloc(), Profile::V80)?;
-    assert!(rt; put(&mut bus, 0x0020_001e, &[0xf3af, 0x8000, 0xf3af, 0x8000]));
-    set_mpu(&mut bus, NS, 0, 0x0020_0006, 0x0020_0001);
-    set_mpu(&mut bus, NS, 1, 0x0020_0027, 0x0020_0021);
-    bus.set_register(MPU_CTRL, NS, 1);
-    for &(pc, text, first, second) in SECOND_HALFWORDS.iter() {
-        assert_eq!(rt; fetched_at(&mut bus, pc), (text, first, second), "{pc:x}");
-    }
-    set_mpu(&mut bus, NS, 1, 0x0020_0026, 0x0020_0021);
-    assert_eq!(rt; fetched_at(&mut bus, 0x0020_001e), ("long", 0xf3af, 0x8000));
+    let is_put = put(&mut bus, 0x0020_001e, &[0xf3af, 0x8000, 0xf3af, 0x8000]);
+    let wrong = first_wrong_at_the_end(&mut bus);
+    assert!(rt; is_put && wrong.is_none(), "{:x}", wrong.unwrap_or(0));
     Ok(())
 }
 
-/// A fetch at the gateway, with the privilege that Secure code would have.
-fn fetched_at_gateway(bus: &mut Bus, secure_privileged: bool) -> (&'static str, u16, u16) {
-    fetched_told(&bus.fetch(0x1000_8000, NS, false, secure_privileged, false))
+/// Whether a fetch at the gateway, with the privilege that Secure code would have, is answered so.
+fn is_gateway(bus: &mut Bus, secure_privileged: bool, text: &str, half: u16) -> bool {
+    let answer = bus.fetch(0x1000_8000, NS, false, secure_privileged, false);
+    let told = fetched_told(&answer);
+    told.0 == text && told.1 == half && told.2 == half
 }
 
 /// The gateway asks the Secure MPU, with the privilege that Secure code would have.
 #[test]
 fn gateway_privilege(rt: HostRuntime) -> Result<(), Fail> {
     let mut bus = bus_of(rt.alloc(), Profile::V80)?;
-    assert!(rt; put_code(&mut bus));
+    let is_put = put_code(&mut bus);
     bus.set_register(MPU_CTRL, S, 5);
-    assert_eq!(rt;
-        fetched_at_gateway(&mut bus, true),
-        ("gateway", 0xe97f, 0xe97f)
-    );
-    assert_eq!(rt; fetched_at_gateway(&mut bus, false), ("exec s", 0, 0));
+    let is_open = is_gateway(&mut bus, true, "gateway", 0xe97f);
+    let is_shut = is_gateway(&mut bus, false, "exec s", 0);
+    assert!(rt; is_put && is_open && is_shut, "{is_open} {is_shut}");
     Ok(())
 }

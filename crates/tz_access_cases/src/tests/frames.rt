@@ -40,15 +40,25 @@ static VECTORS: [(u32, u32, u16, Side, &str, u32); 4] = [
     (0x6000_0000, 0x1000_0000, 16, NS, "violation", 0x1000_0040),
 ];
 
+/// The number of the first of `VECTORS` that is read otherwise.
+fn first_wrong_vector(bus: &mut Bus) -> Option<u16> {
+    for &(vtor_s, vtor_ns, number, side, text, at) in VECTORS.iter() {
+        let mut frames = frames_over(bus, vtor_s, vtor_ns, true);
+        let told = word_told(&frames.vector(number, side));
+        if told.0 != text || told.1 != at {
+            return Some(number);
+        }
+    }
+    None
+}
+
 #[test]
 fn vectors(rt: HostRuntime) -> Result<(), Fail> {
     let mut bus = bus_of(rt.alloc(), Profile::V80)?;
-    assert!(rt; put(&mut bus, 0x1000_0040, &[0x2211, 0x4433]));
-    assert!(rt; put(&mut bus, 0x0020_000c, &[0x6655, 0x8877]));
-    for &(vtor_s, vtor_ns, number, side, text, at) in VECTORS.iter() {
-        let mut frames = frames_over(&mut bus, vtor_s, vtor_ns, true);
-        assert_eq!(rt; word_told(&frames.vector(number, side)), (text, at));
-    }
+    let is_put = put(&mut bus, 0x1000_0040, &[0x2211, 0x4433])
+        && put(&mut bus, 0x0020_000c, &[0x6655, 0x8877]);
+    let wrong = first_wrong_vector(&mut bus);
+    assert!(rt; is_put && wrong.is_none(), "{}", wrong.unwrap_or(0));
     Ok(())
 }
 
@@ -83,25 +93,56 @@ static LOADS: [(u32, Side, bool, &str, u32); 4] = [
     (0xe000_ed08, NS, true, "precise", 0xe000_ed08),
 ];
 
+/// The address of the first of `LOADS` that is answered otherwise.
+fn first_wrong_load(bus: &mut Bus) -> Option<u32> {
+    for &(addr, side, privileged, text, at) in LOADS.iter() {
+        let told = load_told(bus, addr, side, privileged);
+        if told.0 != text || told.1 != at {
+            return Some(addr);
+        }
+    }
+    None
+}
+
+/// The first of some stores and loads that is answered otherwise.
+fn first_wrong_step(bus: &mut Bus) -> &'static str {
+    let (room, text, _) = store_told(bus, 0x3000_0100, S, 0xfefa_125b);
+    if text != "word" || room != 39 {
+        return "the store";
+    }
+    let (text, word) = secure_told(bus, 0x3000_0100, true);
+    if text != "word" || word != 0xfefa_125b {
+        return "the load of Secure code";
+    }
+    if first_wrong_load(bus).is_some() {
+        return "a load";
+    }
+    let (_, text, at) = store_told(bus, 0x0020_0040, NS, 1);
+    if text != "precise" || at != 0x0020_0040 {
+        return "the store that is refused";
+    }
+    "none"
+}
+
 #[test]
 fn words(rt: HostRuntime) -> Result<(), Fail> {
     let mut bus = bus_of(rt.alloc(), Profile::V80)?;
-    let stored = store_told(&mut bus, 0x3000_0100, S, 0xfefa_125b);
-    assert_eq!(rt; stored, (39, "word", 0));
-    assert_eq!(rt;
-        secure_told(&mut bus, 0x3000_0100, true),
-        ("word", 0xfefa_125b)
-    );
-    for &(addr, side, privileged, text, at) in LOADS.iter() {
-        assert_eq!(rt;
-            load_told(&mut bus, addr, side, privileged),
-            (text, at),
-            "{addr:x}"
-        );
-    }
-    let (_, text, at) = store_told(&mut bus, 0x0020_0040, NS, 1);
-    assert_eq!(rt; (text, at), ("precise", 0x0020_0040));
+    assert_eq!(rt; first_wrong_step(&mut bus), "none");
     Ok(())
+}
+
+/// Whether the Secure MPU asks for the privilege that a load has.
+fn asks_for_privilege(bus: &mut Bus) -> bool {
+    let (privileged, word) = secure_told(bus, 0x3000_0100, true);
+    let (user, at) = secure_told(bus, 0x3000_0100, false);
+    let mut frames = frames_over(bus, 0, 0, false);
+    let (frame, frame_word) = word_told(&frames.frame_load(0x3000_0100, S, true));
+    privileged == "word"
+        && word == 0
+        && user == "access s"
+        && at == 0x3000_0100
+        && frame == "word"
+        && frame_word == 0
 }
 
 #[test]
@@ -109,16 +150,7 @@ fn privilege_of_secure_code(rt: HostRuntime) -> Result<(), Fail> {
     let mut bus = bus_of(rt.alloc(), Profile::V80)?;
     set_mpu(&mut bus, S, 0, 0x3000_0000, 0x3000_7fe1);
     bus.set_register(MPU_CTRL, S, 1);
-    assert_eq!(rt; secure_told(&mut bus, 0x3000_0100, true), ("word", 0));
-    assert_eq!(rt;
-        secure_told(&mut bus, 0x3000_0100, false),
-        ("access s", 0x3000_0100)
-    );
-    let mut frames = frames_over(&mut bus, 0, 0, false);
-    assert_eq!(rt;
-        word_told(&frames.frame_load(0x3000_0100, S, true)),
-        ("word", 0)
-    );
+    assert!(rt; asks_for_privilege(&mut bus));
     Ok(())
 }
 

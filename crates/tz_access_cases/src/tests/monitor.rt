@@ -27,16 +27,30 @@ fn takes(bus: &mut Bus, case: &(u32, Size, u32, Size, bool)) -> bool {
     is_set && is_right && is_gone && !bus.monitor_take(addr, size)
 }
 
+/// The address of the first of `CASES` for which the monitor does something else.
+fn first_wrong(bus: &mut Bus) -> Option<u32> {
+    for case in CASES.iter() {
+        if !takes(bus, case) {
+            return Some(case.2);
+        }
+    }
+    None
+}
+
+/// Whether the monitor takes nothing at the start.
+fn is_empty(bus: &mut Bus) -> bool {
+    bus.monitor().is_none() && !bus.monitor_take(0, Size::Byte)
+}
+
 #[test]
 fn takes_what_it_holds(rt: HostRuntime) -> Result<(), Fail> {
     let mut bus = bus_of(rt.alloc(), Profile::V80)?;
-    assert!(rt; bus.monitor().is_none());
-    assert!(rt; !bus.monitor_take(0, Size::Byte));
-    for case in CASES.iter() {
-        assert!(rt; takes(&mut bus, case), "{:x} {:x}", case.0, case.2);
-    }
+    let was_empty = is_empty(&mut bus);
+    let wrong = first_wrong(&mut bus);
     bus.monitor_set(0x2000_0000, Size::Word);
     bus.monitor_clear();
-    assert!(rt; !bus.monitor_take(0x2000_0000, Size::Word));
+    let is_cleared = !bus.monitor_take(0x2000_0000, Size::Word);
+    assert!(rt; was_empty && is_cleared, "{was_empty} {is_cleared}");
+    assert_eq!(rt; wrong, None);
     Ok(())
 }
