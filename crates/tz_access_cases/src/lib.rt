@@ -80,43 +80,62 @@ pub fn put(bus: &mut Bus, addr: u32, halves: &[u16]) -> bool {
     all
 }
 
-/// A fault in words.
-pub fn fault_text(alloc: Global, fault: &Fault) -> Result<String, AllocError> {
+/// A fault in words, and its address, or 0 where it has none.
+pub fn fault_told(fault: &Fault) -> (&'static str, u32) {
     match fault {
-        Fault::Unaligned => String::from_str(alloc, "unaligned"),
-        Fault::Violation(addr) => format!(in alloc; "violation {addr:x}"),
-        Fault::DataAccess(addr, Side::Secure) => format!(in alloc; "access s {addr:x}"),
-        Fault::DataAccess(addr, Side::NonSecure) => format!(in alloc; "access ns {addr:x}"),
-        Fault::Precise(addr) => format!(in alloc; "precise {addr:x}"),
-        Fault::Exec(Side::Secure) => String::from_str(alloc, "exec s"),
-        Fault::Exec(Side::NonSecure) => String::from_str(alloc, "exec ns"),
-        Fault::ExecBus => String::from_str(alloc, "exec bus"),
-        Fault::EntryPoint => String::from_str(alloc, "entry point"),
-        Fault::Transition => String::from_str(alloc, "transition"),
-        _ => String::from_str(alloc, "other fault"),
+        Fault::Unaligned => ("unaligned", 0),
+        Fault::Violation(addr) => ("violation", *addr),
+        Fault::DataAccess(addr, Side::Secure) => ("access s", *addr),
+        Fault::DataAccess(addr, Side::NonSecure) => ("access ns", *addr),
+        Fault::Precise(addr) => ("precise", *addr),
+        Fault::Exec(Side::Secure) => ("exec s", 0),
+        Fault::Exec(Side::NonSecure) => ("exec ns", 0),
+        Fault::ExecBus => ("exec bus", 0),
+        Fault::EntryPoint => ("entry point", 0),
+        Fault::Transition => ("transition", 0),
+        _ => ("other fault", 0),
     }
 }
 
-/// Where an access goes, or its fault.
-pub fn place_text(alloc: Global, answer: &Result<Place, Fault>) -> Result<String, AllocError> {
+/// Where an access goes, or its fault and the fault's address.
+pub fn place_told(answer: &Result<Place, Fault>) -> (&'static str, u32) {
     match answer {
-        Ok(Place::Memory) => String::from_str(alloc, "memory"),
-        Ok(Place::System) => String::from_str(alloc, "system"),
-        Err(fault) => fault_text(alloc, fault),
+        Ok(Place::Memory) => ("memory", 0),
+        Ok(Place::System) => ("system", 0),
+        Err(fault) => fault_told(fault),
     }
 }
 
-/// The halfwords of a fetched instruction, or its fault.
-pub fn fetched_text(alloc: Global, answer: &Result<Fetched, Fault>) -> Result<String, AllocError> {
+/// A word that was read, or the fault and its address.
+pub fn word_told(answer: &Result<u32, Fault>) -> (&'static str, u32) {
+    match answer {
+        Ok(word) => ("word", *word),
+        Err(fault) => fault_told(fault),
+    }
+}
+
+/// The length of a fetched instruction and its halfwords, or its fault in words; 0 for no halfword.
+pub fn fetched_told(answer: &Result<Fetched, Fault>) -> (&'static str, u16, u16) {
     match answer {
         Ok(fetched) => {
             let first = fetched.code.first;
-            let gateway = if fetched.gateway { " gateway" } else { "" };
             match fetched.code.second {
-                None => format!(in alloc; "{first:x}{gateway}"),
-                Some(second) => format!(in alloc; "{first:x} {second:x}{gateway}"),
+                None => (
+                    if fetched.gateway {
+                        "short gateway"
+                    } else {
+                        "short"
+                    },
+                    first,
+                    0,
+                ),
+                Some(second) => (
+                    if fetched.gateway { "gateway" } else { "long" },
+                    first,
+                    second,
+                ),
             }
         }
-        Err(fault) => fault_text(alloc, fault),
+        Err(fault) => (fault_told(fault).0, 0, 0),
     }
 }

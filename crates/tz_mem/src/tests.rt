@@ -79,12 +79,20 @@ static NUMBERS: [(u32, Size, Option<u32>); 22] = [
     (0xffff_fffe, Size::Word, None),
 ];
 
+/// The address of the first of `NUMBERS` that is read otherwise.
+fn first_misread(memory: &Memory) -> Option<u32> {
+    for &(addr, size, number) in NUMBERS.iter() {
+        if memory.read(addr, size).ok() != number {
+            return Some(addr);
+        }
+    }
+    None
+}
+
 #[test]
 fn numbers_are_read(rt: HostRuntime) -> Result<(), Fail> {
     let memory = counted(rt.alloc())?;
-    for (addr, size, number) in &NUMBERS {
-        assert_eq!(rt; memory.read(*addr, *size).ok(), *number, "at {addr:x}");
-    }
+    assert_eq!(rt; first_misread(&memory), None);
     Ok(())
 }
 
@@ -112,25 +120,24 @@ static WRITES: [(u32, Size, &str, u32, u32); 10] = [
     (0x7c, Size::Word, "written", 0xa1a2_a3a4, 0x7b7a_7978),
 ];
 
+/// What that write comes to, and the words from there and from four bytes before.
+fn written(
+    alloc: Global,
+    addr: u32,
+    size: Size,
+) -> Result<(&'static str, Option<u32>, Option<u32>), AllocError> {
+    let mut memory = counted(alloc)?;
+    let told = outcome(memory.write(addr, size, 0xa1a2_a3a4));
+    let here = memory.read(addr, Size::Word).ok();
+    let before = memory.read(addr.wrapping_sub(4), Size::Word).ok();
+    Ok((told, here, before))
+}
+
 #[test]
 fn numbers_are_written(rt: HostRuntime) -> Result<(), Fail> {
-    for (addr, size, told, here, before) in &WRITES {
-        let mut memory = counted(rt.alloc())?;
-        assert_eq!(rt;
-            outcome(memory.write(*addr, *size, 0xa1a2_a3a4)),
-            *told,
-            "at {addr:x}"
-        );
-        assert_eq!(rt;
-            memory.read(*addr, Size::Word).ok(),
-            Some(*here),
-            "at {addr:x}"
-        );
-        assert_eq!(rt;
-            memory.read(addr.wrapping_sub(4), Size::Word).ok(),
-            Some(*before),
-            "at {addr:x}"
-        );
+    for &(addr, size, told, here, before) in WRITES.iter() {
+        let found = written(rt.alloc(), addr, size)?;
+        assert_eq!(rt; found, (told, Some(here), Some(before)), "at {addr:x}");
     }
     Ok(())
 }
@@ -146,39 +153,68 @@ static UNMAPPED: [(u32, Size); 7] = [
     (0x1fff, Size::Half),
 ];
 
+/// The address of the first of `UNMAPPED` where a write does something else.
+fn first_mapped(memory: &mut Memory) -> Option<u32> {
+    for &(addr, size) in UNMAPPED.iter() {
+        if !matches!(
+            memory.write(addr, size, 0xffff_ffff),
+            Err(Refused::NotMapped)
+        ) {
+            return Some(addr);
+        }
+    }
+    None
+}
+
+/// A word, or 99 where it isn't mapped.
+fn word(memory: &Memory, addr: u32) -> u32 {
+    memory.read(addr, Size::Word).unwrap_or(99)
+}
+
 #[test]
 fn unmapped_writes_change_nothing(rt: HostRuntime) -> Result<(), Fail> {
     let mut memory = counted(rt.alloc())?;
-    for (addr, size) in &UNMAPPED {
-        assert_eq!(rt;
-            outcome(memory.write(*addr, *size, 0xffff_ffff)),
-            "not mapped",
-            "at {addr:x}"
-        );
-    }
-    assert_eq!(rt; memory.read(0x7c, Size::Word).ok(), Some(0x7f7e_7d7c));
-    assert_eq!(rt; memory.read(0x101c, Size::Word).ok(), Some(0));
-    assert_eq!(rt; memory.read(0x2000, Size::Word).ok(), Some(0));
+    assert_eq!(rt; first_mapped(&mut memory), None);
+    let words = (
+        word(&memory, 0x7c),
+        word(&memory, 0x101c),
+        word(&memory, 0x2000),
+    );
+    assert_eq!(rt; words, (0x7f7e_7d7c, 0, 0));
     Ok(())
+}
+
+/// Where a byte is placed in turn, and whether it is mapped.
+static PLACES: [(u32, bool); 4] = [
+    (0x0012, true),
+    (0x0062, true),
+    (0x101f, true),
+    (0x1020, false),
+];
+
+/// The address of the first of `PLACES` where placing 0xEE does something else.
+fn first_misplaced(memory: &mut Memory) -> Option<u32> {
+    for &(addr, placed) in PLACES.iter() {
+        let done = match memory.place(addr, 0xee) {
+            Ok(()) => true,
+            Err(NotMapped) => false,
+        };
+        if done != placed {
+            return Some(addr);
+        }
+    }
+    None
 }
 
 #[test]
 fn bytes_are_placed(rt: HostRuntime) -> Result<(), Fail> {
     let mut memory = counted(rt.alloc())?;
-    for (addr, placed) in [
-        (0x0012, true),
-        (0x0062, true),
-        (0x101f, true),
-        (0x1020, false),
-    ] {
-        let done = match memory.place(addr, 0xee) {
-            Ok(()) => true,
-            Err(NotMapped) => false,
-        };
-        assert_eq!(rt; done, placed, "at {addr:x}");
-    }
-    assert_eq!(rt; memory.read(0x10, Size::Word).ok(), Some(0x13ee_1110));
-    assert_eq!(rt; memory.read(0x60, Size::Word).ok(), Some(0x63ee_6160));
-    assert_eq!(rt; memory.read(0x101c, Size::Word).ok(), Some(0xee00_0000));
+    assert_eq!(rt; first_misplaced(&mut memory), None);
+    let words = (
+        word(&memory, 0x10),
+        word(&memory, 0x60),
+        word(&memory, 0x101c),
+    );
+    assert_eq!(rt; words, (0x13ee_1110, 0x63ee_6160, 0xee00_0000));
     Ok(())
 }

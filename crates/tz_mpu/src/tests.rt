@@ -56,6 +56,16 @@ fn answer(
     }
 }
 
+/// The answers for a fetch with privilege and without, a read and a write.
+fn answers_with_pxn(mpu: &Mpu) -> [Option<Option<u8>>; 4] {
+    [
+        answer(mpu, 0x0020_0040, Kind::Fetch, true, false),
+        answer(mpu, 0x0020_0040, Kind::Fetch, false, false),
+        answer(mpu, 0x0020_0040, Kind::Read, true, false),
+        answer(mpu, 0x0020_0040, Kind::Write, true, false),
+    ]
+}
+
 /// RLAR's PXN keeps privileged code out, where the profile has it.
 #[test]
 fn privileged_code_is_kept_out(rt: HostRuntime) -> Result<(), Fail> {
@@ -63,25 +73,15 @@ fn privileged_code_is_kept_out(rt: HostRuntime) -> Result<(), Fail> {
         (Profile::V81, 0x0020_fff1, None),
         (Profile::V80, 0x0020_ffe1, Some(Some(0))),
     ];
-    for (profile, rlar, privileged) in &rows {
+    for (profile, rlar, privileged) in rows {
         let mpu = written(
-            *profile,
+            profile,
             &[(RBAR, 0x0020_0006), (RLAR, 0x0020_fff1), (CTRL, 1)],
         );
-        assert_eq!(rt; mpu.read(RLAR), *rlar);
-        assert_eq!(rt;
-            answer(&mpu, 0x0020_0040, Kind::Fetch, true, false),
-            *privileged
-        );
-        assert_eq!(rt;
-            answer(&mpu, 0x0020_0040, Kind::Fetch, false, false),
-            Some(Some(0))
-        );
-        assert_eq!(rt;
-            answer(&mpu, 0x0020_0040, Kind::Read, true, false),
-            Some(Some(0))
-        );
-        assert_eq!(rt; answer(&mpu, 0x0020_0040, Kind::Write, true, false), None);
+        assert_eq!(rt; mpu.read(RLAR), rlar);
+        let [fetch, user_fetch, read, write] = answers_with_pxn(&mpu);
+        assert_eq!(rt; (fetch, user_fetch), (privileged, Some(Some(0))));
+        assert_eq!(rt; (read, write), (Some(Some(0)), None));
     }
     Ok(())
 }
@@ -98,28 +98,27 @@ static OVERLAP: [(u32, Option<Option<u8>>, Option<u8>); 8] = [
     (0x2000_00a0, None, None),
 ];
 
+/// The address of the first of `OVERLAP` that is answered or told otherwise.
+fn first_wrong(mpu: &Mpu) -> Option<u32> {
+    for &(addr, permitted, told) in OVERLAP.iter() {
+        if answer(mpu, addr, Kind::Read, true, false) != permitted
+            || answer(mpu, addr, Kind::Write, false, false) != permitted
+            || mpu.examine(addr, false) != told
+            || mpu.examine(addr, true).is_some()
+        {
+            return Some(addr);
+        }
+    }
+    None
+}
+
 #[test]
 fn overlapping_regions_permit_nothing(rt: HostRuntime) -> Result<(), Fail> {
     let mut mpu = overlapping();
-    for (addr, permitted, told) in &OVERLAP {
-        assert_eq!(rt;
-            answer(&mpu, *addr, Kind::Read, true, false),
-            *permitted,
-            "at {addr:x}"
-        );
-        assert_eq!(rt;
-            answer(&mpu, *addr, Kind::Write, false, false),
-            *permitted,
-            "at {addr:x}"
-        );
-        assert_eq!(rt; mpu.examine(*addr, false), *told, "at {addr:x}");
-        assert_eq!(rt; mpu.examine(*addr, true), None, "at {addr:x}");
-    }
+    assert_eq!(rt; first_wrong(&mpu), None);
     mpu.write(RLAR, 0x2000_0080);
-    assert_eq!(rt;
-        answer(&mpu, 0x2000_0040, Kind::Read, false, false),
-        Some(Some(0))
-    );
+    let permitted = answer(&mpu, 0x2000_0040, Kind::Read, false, false);
+    assert_eq!(rt; permitted, Some(Some(0)));
     assert_eq!(rt; mpu.examine(0x2000_0040, false), Some(0));
     Ok(())
 }
@@ -144,27 +143,31 @@ static PERMISSIONS: [(u32, bool, bool, bool, bool); 16] = [
     (0b111, false, true, false, false),
 ];
 
+/// Whether an MPU whose region 7 has these low bits of RBAR permits a read, a write and a fetch; nothing where
+/// another region is told.
+fn permits(profile: Profile, bits: u32, privileged: bool) -> Option<(bool, bool, bool)> {
+    let rbar = 0x2000_0000 | (bits & 7);
+    let mpu = written(
+        profile,
+        &[(RNR, 7), (RBAR, rbar), (RLAR, 0x2000_0001), (CTRL, 5)],
+    );
+    let mut permitted = [false; 3];
+    for (index, kind) in [Kind::Read, Kind::Write, Kind::Fetch].iter().enumerate() {
+        match answer(&mpu, 0x2000_001f, *kind, privileged, false) {
+            Some(Some(7)) => permitted[index] = true,
+            Some(_) => return None,
+            None => {}
+        }
+    }
+    Some((permitted[0], permitted[1], permitted[2]))
+}
+
 #[test]
 fn a_region_permits(rt: HostRuntime) -> Result<(), Fail> {
-    for (bits, privileged, read, write, run) in &PERMISSIONS {
+    for &(bits, privileged, read, write, run) in PERMISSIONS.iter() {
         for profile in [Profile::V80, Profile::V81] {
-            let rbar = 0x2000_0000 | (*bits & 7);
-            let mpu = written(
-                profile,
-                &[(RNR, 7), (RBAR, rbar), (RLAR, 0x2000_0001), (CTRL, 5)],
-            );
-            for (kind, permitted) in [
-                (Kind::Read, read),
-                (Kind::Write, write),
-                (Kind::Fetch, run),
-            ] {
-                let want = if *permitted { Some(Some(7)) } else { None };
-                assert_eq!(rt;
-                    answer(&mpu, 0x2000_001f, kind, *privileged, false),
-                    want,
-                    "{bits} {privileged}"
-                );
-            }
+            let permitted = permits(profile, bits, privileged);
+            assert_eq!(rt; permitted, Some((read, write, run)), "{bits} {privileged}");
         }
     }
     Ok(())
@@ -197,18 +200,23 @@ static DEFAULTS: [(u32, u32, bool, bool, bool, bool); 22] = [
     (7, 0x0000_0000, false, false, true, false),
 ];
 
+/// The place of the first of `DEFAULTS` that is answered otherwise.
+fn first_wrong_default() -> Option<usize> {
+    for (index, row) in DEFAULTS.iter().enumerate() {
+        let (ctrl, addr, fetch, privileged, negative, permitted) = *row;
+        let mpu = written(Profile::V81, &[(CTRL, ctrl)]);
+        let kind = if fetch { Kind::Fetch } else { Kind::Read };
+        let want = if permitted { Some(None) } else { None };
+        if answer(&mpu, addr, kind, privileged, negative) != want {
+            return Some(index);
+        }
+    }
+    None
+}
+
 #[test]
 fn the_default_map_permits(rt: HostRuntime) -> Result<(), Fail> {
-    for (ctrl, addr, fetch, privileged, negative, permitted) in &DEFAULTS {
-        let mpu = written(Profile::V81, &[(CTRL, *ctrl)]);
-        let kind = if *fetch { Kind::Fetch } else { Kind::Read };
-        let want = if *permitted { Some(None) } else { None };
-        assert_eq!(rt;
-            answer(&mpu, *addr, kind, *privileged, *negative),
-            want,
-            "{ctrl} {addr:x} {negative}"
-        );
-    }
+    assert_eq!(rt; first_wrong_default(), None);
     Ok(())
 }
 
@@ -228,12 +236,17 @@ static REGISTERS: [(u32, u32, u32); 12] = [
     (0x2000_0000, 0xffff_ffff, 0),
 ];
 
+/// What a register of a new MPU reads as, after it got a value.
+fn kept(addr: u32, value: u32) -> u32 {
+    let mut mpu = Mpu::new(8, Profile::V81);
+    mpu.write(addr, value);
+    mpu.read(addr)
+}
+
 #[test]
 fn registers_keep_their_bits(rt: HostRuntime) -> Result<(), Fail> {
-    for (addr, value, kept) in &REGISTERS {
-        let mut mpu = Mpu::new(8, Profile::V81);
-        mpu.write(*addr, *value);
-        assert_eq!(rt; mpu.read(*addr), *kept, "at {addr:x}");
+    for &(addr, value, read) in REGISTERS.iter() {
+        assert_eq!(rt; kept(addr, value), read, "at {addr:x}");
     }
     for (regions, told) in [(0, 0), (1, 0x100), (16, 0x1000)] {
         assert_eq!(rt; Mpu::new(regions, Profile::V80).read(TYPE), told);
@@ -257,32 +270,37 @@ static ALIASES: [(u32, u32, Option<u8>); 12] = [
     (255, RBAR, None),
 ];
 
-#[test]
-fn aliases_name_regions_beside_that_of_rnr(rt: HostRuntime) -> Result<(), Fail> {
-    for (rnr, addr, region) in &ALIASES {
-        let mut mpu = Mpu::new(8, Profile::V81);
-        mpu.write(RNR, *rnr);
-        mpu.write(*addr, 0x2000_0020);
-        mpu.write(addr.wrapping_add(4), 0x2000_0041);
-        let values = if region.is_some() {
+/// Whether an RBAR and the RLAR behind it, written with this RNR, are those of a region and of no other.
+fn names(rnr: u32, addr: u32, region: Option<u8>) -> bool {
+    let mut mpu = Mpu::new(8, Profile::V81);
+    mpu.write(RNR, rnr);
+    mpu.write(addr, 0x2000_0020);
+    mpu.write(addr.wrapping_add(4), 0x2000_0041);
+    let values = if region.is_some() {
+        (0x2000_0020, 0x2000_0041)
+    } else {
+        (0, 0)
+    };
+    if mpu.read(addr) != values.0 || mpu.read(addr.wrapping_add(4)) != values.1 {
+        return false;
+    }
+    for index in 0..8u8 {
+        let want = if region == Some(index) {
             (0x2000_0020, 0x2000_0041)
         } else {
             (0, 0)
         };
-        assert_eq!(rt;
-            (mpu.read(*addr), mpu.read(addr.wrapping_add(4))),
-            values,
-            "{rnr} {addr:x}"
-        );
-        for index in 0..8u8 {
-            let want = if *region == Some(index) {
-                (0x2000_0020, 0x2000_0041)
-            } else {
-                (0, 0)
-            };
-            assert_eq!(rt; mpu.region(index), Some(want), "{rnr} {addr:x} {index}");
+        if mpu.region(index) != Some(want) {
+            return false;
         }
-        assert_eq!(rt; mpu.region(8), None);
+    }
+    mpu.region(8).is_none()
+}
+
+#[test]
+fn aliases_name_regions_beside_that_of_rnr(rt: HostRuntime) -> Result<(), Fail> {
+    for &(rnr, addr, region) in ALIASES.iter() {
+        assert!(rt; names(rnr, addr, region), "{rnr} {addr:x}");
     }
     Ok(())
 }

@@ -71,12 +71,20 @@ fn tells(bus: &Bus, case: &Case) -> bool {
         && word.iregion.unwrap_or(99) == iregion
 }
 
+/// The address of the first case that the bus tells otherwise.
+fn first_wrong(bus: &Bus, cases: &[Case]) -> Option<u32> {
+    for case in cases.iter() {
+        if !tells(bus, case) {
+            return Some(case.0);
+        }
+    }
+    None
+}
+
 #[test]
 fn at_boot(rt: HostRuntime) -> Result<(), Fail> {
     let bus = bus_of(rt.alloc(), Profile::V80)?;
-    for case in AT_BOOT.iter() {
-        assert!(rt; tells(&bus, case), "{:x}", case.0);
-    }
+    assert_eq!(rt; first_wrong(&bus, &AT_BOOT), None);
     Ok(())
 }
 
@@ -84,22 +92,23 @@ fn at_boot(rt: HostRuntime) -> Result<(), Fail> {
 fn of_two_regions_neither_wins(rt: HostRuntime) -> Result<(), Fail> {
     let regions = [(0x1000_8000, 0x1000_8001), (0x1000_8000, 0x1000_ffe3)];
     let bus = bus_with_sau(rt.alloc(), &regions)?;
-    for case in OVERLAPPING.iter() {
-        assert!(rt; tells(&bus, case), "{:x}", case.0);
-    }
+    assert_eq!(rt; first_wrong(&bus, &OVERLAPPING), None);
     Ok(())
+}
+
+/// The address of the first case that is told otherwise with the SAU off.
+fn first_wrong_without_sau(bus: &mut Bus) -> Option<u32> {
+    bus.set_register(SAU_CTRL, Side::Secure, 2);
+    if let Some(addr) = first_wrong(bus, &BY_BOARD) {
+        return Some(addr);
+    }
+    bus.set_register(SAU_CTRL, Side::Secure, 0);
+    first_wrong(bus, &ALL_SECURE)
 }
 
 #[test]
 fn with_the_sau_off(rt: HostRuntime) -> Result<(), Fail> {
     let mut bus = bus_of(rt.alloc(), Profile::V80)?;
-    bus.set_register(SAU_CTRL, Side::Secure, 2);
-    for case in BY_BOARD.iter() {
-        assert!(rt; tells(&bus, case), "{:x}", case.0);
-    }
-    bus.set_register(SAU_CTRL, Side::Secure, 0);
-    for case in ALL_SECURE.iter() {
-        assert!(rt; tells(&bus, case), "{:x}", case.0);
-    }
+    assert_eq!(rt; first_wrong_without_sau(&mut bus), None);
     Ok(())
 }

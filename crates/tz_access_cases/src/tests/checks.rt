@@ -1,13 +1,14 @@
 //! The checks of accesses in their order.
 
-use crate::{MPU_CTRL, bus_of, bus_with_sau, fault_text, place_text, set_mpu};
+use crate::{MPU_CTRL, bus_of, bus_with_sau, fault_told, place_told, set_mpu};
 use std::test::Fail;
 use tz_access::Bus;
 use tz_model::{Profile, Side, Size};
 use tz_state::{Asker, Kind, Request};
 
-/// Who asks, with privilege or not; what for, whether it has to be aligned, and the answer.
-type Case = (Side, bool, Kind, Size, u32, bool, &'static str);
+/// Who asks, with privilege or not; what for, whether it has to be aligned; the answer, and the
+/// address of its fault, or 0.
+type Case = (Side, bool, Kind, Size, u32, bool, &'static str, u32);
 
 const S: Side = Side::Secure;
 
@@ -23,6 +24,7 @@ static AT_BOOT: [Case; 22] = [
         0x1000_0000,
         false,
         "memory",
+        0,
     ),
     (
         NS,
@@ -31,7 +33,8 @@ static AT_BOOT: [Case; 22] = [
         Size::Word,
         0x1000_0000,
         false,
-        "violation 10000000",
+        "violation",
+        0x1000_0000,
     ),
     (
         NS,
@@ -40,7 +43,8 @@ static AT_BOOT: [Case; 22] = [
         Size::Byte,
         0x1000_8000,
         false,
-        "violation 10008000",
+        "violation",
+        0x1000_8000,
     ),
     (
         S,
@@ -49,7 +53,8 @@ static AT_BOOT: [Case; 22] = [
         Size::Word,
         0x1000_0000,
         false,
-        "precise 10000000",
+        "precise",
+        0x1000_0000,
     ),
     (
         NS,
@@ -58,7 +63,8 @@ static AT_BOOT: [Case; 22] = [
         Size::Half,
         0x0020_0000,
         false,
-        "precise 200000",
+        "precise",
+        0x0020_0000,
     ),
     (
         NS,
@@ -68,6 +74,7 @@ static AT_BOOT: [Case; 22] = [
         0x2000_0000,
         false,
         "memory",
+        0,
     ),
     (
         S,
@@ -77,6 +84,7 @@ static AT_BOOT: [Case; 22] = [
         0x2000_0000,
         false,
         "memory",
+        0,
     ),
     (
         NS,
@@ -86,6 +94,7 @@ static AT_BOOT: [Case; 22] = [
         0x2000_0001,
         true,
         "unaligned",
+        0,
     ),
     (
         NS,
@@ -95,6 +104,7 @@ static AT_BOOT: [Case; 22] = [
         0x2000_0001,
         false,
         "memory",
+        0,
     ),
     (
         NS,
@@ -104,6 +114,7 @@ static AT_BOOT: [Case; 22] = [
         0x2000_0001,
         true,
         "memory",
+        0,
     ),
     (
         S,
@@ -112,7 +123,8 @@ static AT_BOOT: [Case; 22] = [
         Size::Word,
         0x4000_0000,
         false,
-        "precise 40000000",
+        "precise",
+        0x4000_0000,
     ),
     (
         S,
@@ -121,7 +133,8 @@ static AT_BOOT: [Case; 22] = [
         Size::Word,
         0x1000_fffd,
         false,
-        "precise 1000fffd",
+        "precise",
+        0x1000_fffd,
     ),
     (
         S,
@@ -131,6 +144,7 @@ static AT_BOOT: [Case; 22] = [
         0x1000_7ffe,
         false,
         "memory",
+        0,
     ),
     (
         S,
@@ -140,6 +154,7 @@ static AT_BOOT: [Case; 22] = [
         0xffff_fffe,
         false,
         "unaligned",
+        0,
     ),
     (
         S,
@@ -148,7 +163,8 @@ static AT_BOOT: [Case; 22] = [
         Size::Word,
         0xdfff_fffe,
         false,
-        "precise dffffffe",
+        "precise",
+        0xdfff_fffe,
     ),
     (
         S,
@@ -158,6 +174,7 @@ static AT_BOOT: [Case; 22] = [
         0xe000_ed00,
         false,
         "system",
+        0,
     ),
     (
         S,
@@ -167,6 +184,7 @@ static AT_BOOT: [Case; 22] = [
         0xe000_ed02,
         false,
         "unaligned",
+        0,
     ),
     (
         S,
@@ -175,7 +193,8 @@ static AT_BOOT: [Case; 22] = [
         Size::Word,
         0xe000_ed00,
         false,
-        "precise e000ed00",
+        "precise",
+        0xe000_ed00,
     ),
     (
         NS,
@@ -185,6 +204,7 @@ static AT_BOOT: [Case; 22] = [
         0xe000_ed00,
         false,
         "system",
+        0,
     ),
     (
         NS,
@@ -193,7 +213,8 @@ static AT_BOOT: [Case; 22] = [
         Size::Word,
         0xe000_3000,
         false,
-        "violation e0003000",
+        "violation",
+        0xe000_3000,
     ),
     (
         S,
@@ -203,6 +224,7 @@ static AT_BOOT: [Case; 22] = [
         0xe00f_fffc,
         false,
         "system",
+        0,
     ),
     (
         S,
@@ -211,7 +233,8 @@ static AT_BOOT: [Case; 22] = [
         Size::Word,
         0xe010_0000,
         false,
-        "precise e0100000",
+        "precise",
+        0xe010_0000,
     ),
 ];
 
@@ -225,6 +248,7 @@ static AT_AN_END: [Case; 7] = [
         0x2000_3fff,
         false,
         "memory",
+        0,
     ),
     (
         NS,
@@ -233,7 +257,8 @@ static AT_AN_END: [Case; 7] = [
         Size::Byte,
         0x2000_4000,
         false,
-        "violation 20004000",
+        "violation",
+        0x2000_4000,
     ),
     (
         NS,
@@ -242,7 +267,8 @@ static AT_AN_END: [Case; 7] = [
         Size::Word,
         0x2000_3ffe,
         false,
-        "violation 20003ffe",
+        "violation",
+        0x2000_3ffe,
     ),
     (
         NS,
@@ -252,6 +278,7 @@ static AT_AN_END: [Case; 7] = [
         0x2000_3ffe,
         true,
         "unaligned",
+        0,
     ),
     (
         NS,
@@ -261,6 +288,7 @@ static AT_AN_END: [Case; 7] = [
         0x2000_3ffe,
         true,
         "memory",
+        0,
     ),
     (
         NS,
@@ -269,7 +297,8 @@ static AT_AN_END: [Case; 7] = [
         Size::Word,
         0x2000_3ffd,
         false,
-        "violation 20003ffd",
+        "violation",
+        0x2000_3ffd,
     ),
     (
         S,
@@ -279,6 +308,7 @@ static AT_AN_END: [Case; 7] = [
         0x2000_3ffe,
         false,
         "memory",
+        0,
     ),
 ];
 
@@ -292,7 +322,8 @@ static WITH_MPUS: [Case; 12] = [
         Size::Word,
         0x1000_0000,
         false,
-        "access s 10000000",
+        "access s",
+        0x1000_0000,
     ),
     (
         S,
@@ -301,7 +332,8 @@ static WITH_MPUS: [Case; 12] = [
         Size::Word,
         0x4000_0000,
         false,
-        "access s 40000000",
+        "access s",
+        0x4000_0000,
     ),
     (
         S,
@@ -311,6 +343,7 @@ static WITH_MPUS: [Case; 12] = [
         0xe000_ed00,
         false,
         "system",
+        0,
     ),
     (
         NS,
@@ -319,7 +352,8 @@ static WITH_MPUS: [Case; 12] = [
         Size::Word,
         0x1000_0000,
         false,
-        "violation 10000000",
+        "violation",
+        0x1000_0000,
     ),
     (
         NS,
@@ -329,6 +363,7 @@ static WITH_MPUS: [Case; 12] = [
         0x2000_0ffc,
         false,
         "memory",
+        0,
     ),
     (
         NS,
@@ -337,7 +372,8 @@ static WITH_MPUS: [Case; 12] = [
         Size::Word,
         0x2000_0ffc,
         false,
-        "access ns 20000ffc",
+        "access ns",
+        0x2000_0ffc,
     ),
     (
         NS,
@@ -347,6 +383,7 @@ static WITH_MPUS: [Case; 12] = [
         0x2000_0ffe,
         false,
         "memory",
+        0,
     ),
     (
         NS,
@@ -355,7 +392,8 @@ static WITH_MPUS: [Case; 12] = [
         Size::Word,
         0x2000_0ffe,
         false,
-        "access ns 20000ffe",
+        "access ns",
+        0x2000_0ffe,
     ),
     (
         NS,
@@ -364,7 +402,8 @@ static WITH_MPUS: [Case; 12] = [
         Size::Half,
         0x2000_0fff,
         false,
-        "access ns 20000fff",
+        "access ns",
+        0x2000_0fff,
     ),
     (
         NS,
@@ -374,6 +413,7 @@ static WITH_MPUS: [Case; 12] = [
         0x2000_101e,
         false,
         "memory",
+        0,
     ),
     (
         NS,
@@ -382,7 +422,8 @@ static WITH_MPUS: [Case; 12] = [
         Size::Half,
         0x2000_101f,
         false,
-        "access ns 2000101f",
+        "access ns",
+        0x2000_101f,
     ),
     (
         NS,
@@ -391,13 +432,14 @@ static WITH_MPUS: [Case; 12] = [
         Size::Half,
         0x2000_1000,
         false,
-        "access ns 20001000",
+        "access ns",
+        0x2000_1000,
     ),
 ];
 
 /// The request of a case.
 fn request_of(case: &Case) -> Request {
-    let (side, privileged, kind, size, addr, must_align, _) = *case;
+    let (side, privileged, kind, size, addr, must_align, _, _) = *case;
     Request {
         addr,
         size,
@@ -407,6 +449,17 @@ fn request_of(case: &Case) -> Request {
         negative: false,
         must_align,
     }
+}
+
+/// The address of the first case that the bus answers otherwise.
+fn first_wrong(bus: &mut Bus, cases: &[Case]) -> Option<u32> {
+    for case in cases.iter() {
+        let (told, at) = place_told(&bus.check(&request_of(case)));
+        if told != case.6 || at != case.7 {
+            return Some(case.4);
+        }
+    }
+    None
 }
 
 /// The bus with the MPUs of `WITH_MPUS` set.
@@ -419,83 +472,110 @@ fn set_mpus(bus: &mut Bus) {
 
 #[test]
 fn at_boot(rt: HostRuntime) -> Result<(), Fail> {
-    let alloc = rt.alloc();
-    let mut bus = bus_of(alloc, Profile::V80)?;
-    for case in AT_BOOT.iter() {
-        let told = place_text(alloc, &bus.check(&request_of(case)))?;
-        assert_eq!(rt; told.as_str(), case.6, "{:x}", case.4);
-    }
+    let mut bus = bus_of(rt.alloc(), Profile::V80)?;
+    assert_eq!(rt; first_wrong(&mut bus, &AT_BOOT), None);
     Ok(())
 }
 
 #[test]
 fn at_the_end_of_a_region(rt: HostRuntime) -> Result<(), Fail> {
-    let alloc = rt.alloc();
-    let mut bus = bus_with_sau(alloc, &[(0x2000_0000, 0x2000_3fe1)])?;
-    for case in AT_AN_END.iter() {
-        let told = place_text(alloc, &bus.check(&request_of(case)))?;
-        assert_eq!(rt; told.as_str(), case.6, "{:x}", case.4);
-    }
+    let mut bus = bus_with_sau(rt.alloc(), &[(0x2000_0000, 0x2000_3fe1)])?;
+    assert_eq!(rt; first_wrong(&mut bus, &AT_AN_END), None);
     Ok(())
 }
 
 #[test]
 fn with_the_mpus_on(rt: HostRuntime) -> Result<(), Fail> {
-    let alloc = rt.alloc();
-    let mut bus = bus_of(alloc, Profile::V80)?;
+    let mut bus = bus_of(rt.alloc(), Profile::V80)?;
     set_mpus(&mut bus);
-    for case in WITH_MPUS.iter() {
-        let told = place_text(alloc, &bus.check(&request_of(case)))?;
-        assert_eq!(rt; told.as_str(), case.6, "{:x}", case.4);
-    }
+    assert_eq!(rt; first_wrong(&mut bus, &WITH_MPUS), None);
     Ok(())
+}
+
+/// Privileged Non-secure code.
+fn asker() -> Asker {
+    Asker {
+        side: NS,
+        privileged: true,
+        negative: false,
+        aligned: false,
+    }
+}
+
+/// Why a load of a word is refused, and the fault's address.
+fn load_told(bus: &Bus, addr: u32, must_align: bool, user: bool) -> (&'static str, u32) {
+    match bus.load(&asker(), Size::Word, addr, must_align, user) {
+        Ok(_) => ("loaded", 0),
+        Err(fault) => fault_told(&fault),
+    }
+}
+
+/// Why a store of a word is refused, and the fault's address.
+fn store_told(
+    bus: &mut Bus,
+    addr: u32,
+    value: u32,
+    must_align: bool,
+    user: bool,
+) -> (&'static str, u32) {
+    match bus.store(&asker(), Size::Word, addr, value, must_align, user) {
+        Ok(_) => ("stored", 0),
+        Err(fault) => fault_told(&fault),
+    }
+}
+
+/// Loads and stores that are refused: the address, whether it has to be aligned, and whether as a user; the
+/// fault and its address.
+static REFUSALS: [(u32, bool, bool, &str, u32); 3] = [
+    (0x2000_0000, false, true, "access ns", 0x2000_0000),
+    (0x2000_0002, true, false, "unaligned", 0),
+    (0x1000_0000, false, false, "violation", 0x1000_0000),
+];
+
+/// The address of the first of `REFUSALS` that is answered otherwise, for a load or a store.
+fn first_not_refused(bus: &mut Bus) -> Option<u32> {
+    for &(addr, must_align, user, fault, at) in REFUSALS.iter() {
+        let (loaded, loaded_at) = load_told(bus, addr, must_align, user);
+        if loaded != fault || loaded_at != at {
+            return Some(addr);
+        }
+        let (stored, stored_at) = store_told(bus, addr, 0, must_align, user);
+        if stored != fault || stored_at != at {
+            return Some(addr);
+        }
+    }
+    None
+}
+
+/// The first of some loads and stores that is answered otherwise: a store, loads of a part of its word and of a
+/// system register, loads and stores that are refused, and the word after them.
+fn first_wrong_step(bus: &mut Bus) -> &'static str {
+    if store_told(bus, 0x2000_0000, 0x8765_4321, false, false).0 != "stored" {
+        return "the store";
+    }
+    let half = bus.load(&asker(), Size::Half, 0x2000_0001, false, false);
+    if half.unwrap_or(None) != Some(0x6543) {
+        return "the load of a half";
+    }
+    let system = bus.load(&asker(), Size::Word, 0xe000_ed00, false, false);
+    if system.unwrap_or(Some(99)).is_some() {
+        return "the load of a system register";
+    }
+    if first_not_refused(bus).is_some() {
+        return "a refusal";
+    }
+    if bus.read(0x2000_0000, Size::Word).unwrap_or(99) != 0x8765_4321 {
+        return "the word";
+    }
+    "none"
 }
 
 /// The machine's loads and stores: system registers aren't built, and code that stores as a user has no
 /// privilege.
 #[test]
 fn loads_and_stores(rt: HostRuntime) -> Result<(), Fail> {
-    let alloc = rt.alloc();
-    let mut bus = bus_of(alloc, Profile::V80)?;
+    let mut bus = bus_of(rt.alloc(), Profile::V80)?;
     set_mpus(&mut bus);
-    let asker = Asker {
-        side: NS,
-        privileged: true,
-        negative: false,
-        aligned: false,
-    };
-    assert!(rt;
-        bus.store(&asker, Size::Word, 0x2000_0000, 0x8765_4321, false, false)
-            .is_ok()
-    );
-    assert_eq!(rt;
-        bus.load(&asker, Size::Half, 0x2000_0001, false, false)
-            .unwrap_or(None),
-        Some(0x6543)
-    );
-    assert_eq!(rt;
-        bus.load(&asker, Size::Word, 0xe000_ed00, false, false)
-            .unwrap_or(Some(99)),
-        None
-    );
-    let refusals = [
-        (0x2000_0000, false, true, "access ns 20000000"),
-        (0x2000_0002, true, false, "unaligned"),
-        (0x1000_0000, false, false, "violation 10000000"),
-    ];
-    for (addr, must_align, user, fault) in refusals {
-        match bus.load(&asker, Size::Word, addr, must_align, user) {
-            Ok(_) => assert!(rt; false, "{addr:x}"),
-            Err(told) => assert_eq!(rt; fault_text(alloc, &told)?.as_str(), fault),
-        }
-        match bus.store(&asker, Size::Word, addr, 0, must_align, user) {
-            Ok(_) => assert!(rt; false, "{addr:x}"),
-            Err(told) => assert_eq!(rt; fault_text(alloc, &told)?.as_str(), fault),
-        }
-    }
-    assert_eq!(rt;
-        bus.read(0x2000_0000, Size::Word).unwrap_or(99),
-        0x8765_4321
-    );
+    assert_eq!(rt; first_wrong_step(&mut bus), "none");
     Ok(())
 }

@@ -2,6 +2,7 @@
 
 use crate::{MPU_RBAR, MPU_RLAR, SAU_CTRL, SAU_RBAR, SAU_RLAR, SAU_RNR, SAU_TYPE, bus_of, set_mpu};
 use std::test::Fail;
+use tz_access::Bus;
 use tz_model::{Profile, Side};
 
 /// A region of the SAU at boot: its number, RBAR and RLAR.
@@ -30,16 +31,30 @@ static WRITES: [(u32, u32, u32); 13] = [
     (0xe000_eda1, 0x1234_5678, 0),
 ];
 
+/// The number of the first of `AT_BOOT` that is told otherwise.
+fn first_wrong_region(bus: &Bus) -> Option<u8> {
+    for &(number, rbar, rlar) in AT_BOOT.iter() {
+        let region = bus.sau().region(number).unwrap_or((1, 1));
+        if region.0 != rbar || region.1 != rlar {
+            return Some(number);
+        }
+    }
+    None
+}
+
+/// Whether SAU_CTRL, SAU_TYPE and SAU_RNR are those at boot, and there is no region 8.
+fn is_sau_at_boot(bus: &Bus) -> bool {
+    bus.register(SAU_CTRL, Side::Secure) == 1
+        && bus.register(SAU_TYPE, Side::Secure) == 8
+        && bus.register(SAU_RNR, Side::Secure) == 0
+        && bus.sau().region(8).is_none()
+}
+
 #[test]
 fn sau_regions_at_boot(rt: HostRuntime) -> Result<(), Fail> {
     let bus = bus_of(rt.alloc(), Profile::V80)?;
-    assert_eq!(rt; bus.register(SAU_CTRL, Side::Secure), 1);
-    assert_eq!(rt; bus.register(SAU_TYPE, Side::Secure), 8);
-    assert_eq!(rt; bus.register(SAU_RNR, Side::Secure), 0);
-    for (number, rbar, rlar) in AT_BOOT {
-        assert_eq!(rt; bus.sau().region(number).unwrap_or((1, 1)), (rbar, rlar));
-    }
-    assert!(rt; bus.sau().region(8).is_none());
+    assert!(rt; is_sau_at_boot(&bus));
+    assert_eq!(rt; first_wrong_region(&bus), None);
     Ok(())
 }
 
@@ -53,20 +68,30 @@ fn sau_registers(rt: HostRuntime) -> Result<(), Fail> {
     Ok(())
 }
 
+/// Whether region 3 of the Non-secure MPU was written and has this RLAR, and that of the Secure one wasn't.
+fn is_of_one_side(bus: &Bus, rlar: u32) -> bool {
+    let own = bus.mpu(Side::NonSecure).region(3).unwrap_or((1, 1));
+    let other = bus.mpu(Side::Secure).region(3).unwrap_or((1, 1));
+    own.0 == 0x0020_0006 && own.1 == rlar && other.0 == 0 && other.1 == 0
+}
+
+/// Whether the registers of both MPUs, which select that region at the Non-secure one, say so too.
+fn is_read_so(bus: &Bus, rlar: u32) -> bool {
+    bus.register(MPU_RBAR, Side::NonSecure) == 0x0020_0006
+        && bus.register(MPU_RLAR, Side::NonSecure) == rlar
+        && bus.register(MPU_RLAR, Side::Secure) == 0
+}
+
 /// Each side has its own MPU, and RLAR has PXN where the profile has it.
 #[test]
 fn mpu_registers(rt: HostRuntime) -> Result<(), Fail> {
     for (profile, rlar) in [(Profile::V80, 0x0020_ffe1), (Profile::V81, 0x0020_fff1)] {
         let mut bus = bus_of(rt.alloc(), profile)?;
         set_mpu(&mut bus, Side::NonSecure, 3, 0x0020_0006, 0x0020_fff1);
-        assert_eq!(rt; bus.register(MPU_RBAR, Side::NonSecure), 0x0020_0006);
-        assert_eq!(rt; bus.register(MPU_RLAR, Side::NonSecure), rlar);
-        assert_eq!(rt; bus.register(MPU_RLAR, Side::Secure), 0);
-        assert_eq!(rt;
-            bus.mpu(Side::NonSecure).region(3).unwrap_or((1, 1)),
-            (0x0020_0006, rlar)
+        assert!(rt;
+            is_read_so(&bus, rlar) && is_of_one_side(&bus, rlar),
+            "{rlar:x}"
         );
-        assert_eq!(rt; bus.mpu(Side::Secure).region(3).unwrap_or((1, 1)), (0, 0));
     }
     Ok(())
 }

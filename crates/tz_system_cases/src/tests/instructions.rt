@@ -2,6 +2,7 @@
 
 use crate::{NOTHING, demo_bus, difference, ending, filled_for};
 use std::test::Fail;
+use tz_access::Bus;
 use tz_system::execute;
 use tz_table::{BarrierOp, Insn, Side};
 
@@ -55,18 +56,34 @@ static ENDINGS: [(Insn, &str, &str); 18] = [
     (Insn::Preload, "undefined", "undefined"),
 ];
 
+/// How an instruction ends; "changed" where it changes the core.
+fn told(bus: &mut Bus, insn: &Insn, side: Side, privileged: bool) -> &'static str {
+    let start = filled_for(side, privileged);
+    let mut core = start;
+    let end = ending(execute(insn, &mut core, bus, 256));
+    if difference(&start, &core) != NOTHING {
+        return "changed";
+    }
+    end
+}
+
+/// The place of the first of `ENDINGS` that ends otherwise.
+fn first_wrong(bus: &mut Bus, privileged: bool) -> Option<usize> {
+    for (index, (insn, secure, nonsecure)) in ENDINGS.iter().enumerate() {
+        if told(bus, insn, Side::Secure, privileged) != *secure
+            || told(bus, insn, Side::NonSecure, privileged) != *nonsecure
+        {
+            return Some(index);
+        }
+    }
+    None
+}
+
 #[test]
 fn ends_and_changes_nothing(rt: HostRuntime) -> Result<(), Fail> {
     let mut bus = demo_bus(rt.alloc())?;
-    for (insn, secure, nonsecure) in &ENDINGS {
-        for privileged in [true, false] {
-            for (side, want) in [(Side::Secure, *secure), (Side::NonSecure, *nonsecure)] {
-                let start = filled_for(side, privileged);
-                let mut core = start;
-                assert_eq!(rt; ending(execute(insn, &mut core, &mut bus, 256)), want);
-                assert_eq!(rt; difference(&start, &core), NOTHING);
-            }
-        }
+    for privileged in [true, false] {
+        assert_eq!(rt; first_wrong(&mut bus, privileged), None);
     }
     Ok(())
 }

@@ -37,19 +37,28 @@ static BLOCKS: [&[(u8, bool, bool)]; 6] = [
     &[(0xf0, false, false), (0, false, false)],
 ];
 
+/// The first IT value of a block that isn't met as instructions pass, or that is told otherwise.
+fn first_wrong(block: &[(u8, bool, bool)]) -> Option<u8> {
+    let mut core = Core::new();
+    if let Some((first, _, _)) = block.first() {
+        core.registers.begin_it(*first / 16, *first % 16);
+    }
+    for &(it, within, last) in block.iter() {
+        if core.it() != it
+            || core.registers.in_it_block() != within
+            || core.registers.is_last_in_it_block() != last
+        {
+            return Some(it);
+        }
+        core.registers.advance_it();
+    }
+    None
+}
+
 #[test]
 fn it_moves_on(rt: HostRuntime) -> Result<(), Fail> {
-    for block in &BLOCKS {
-        let mut core = Core::new();
-        if let Some((first, _, _)) = block.first() {
-            core.registers.begin_it(*first / 16, *first % 16);
-        }
-        for (it, within, last) in block.iter() {
-            assert_eq!(rt; core.it(), *it);
-            assert_eq!(rt; core.registers.in_it_block(), *within, "{it}");
-            assert_eq!(rt; core.registers.is_last_in_it_block(), *last, "{it}");
-            core.registers.advance_it();
-        }
+    for &block in BLOCKS.iter() {
+        assert_eq!(rt; first_wrong(block), None);
     }
     Ok(())
 }
@@ -75,22 +84,26 @@ static CONDITIONS: [(u8, &str, u32); 16] = [
     (15, "always", 0xffff),
 ];
 
+/// The flags that meet a condition, as such a number.
+fn flags_met(cond: u8) -> u32 {
+    let mut met = 0u32;
+    for flags in 0..16u32 {
+        let mut core = Core::new();
+        core.set_n(flags / 8 % 2 == 1);
+        core.set_z(flags / 4 % 2 == 1);
+        core.set_c(flags / 2 % 2 == 1);
+        core.set_v(flags % 2 == 1);
+        if core.registers.apsr.condition_holds(cond) {
+            met |= 1 << flags;
+        }
+    }
+    met
+}
+
 #[test]
 fn conditions_by_flags(rt: HostRuntime) -> Result<(), Fail> {
-    for (cond, name, met) in &CONDITIONS {
-        for flags in 0..16u32 {
-            let mut core = Core::new();
-            core.set_n(flags / 8 % 2 == 1);
-            core.set_z(flags / 4 % 2 == 1);
-            core.set_c(flags / 2 % 2 == 1);
-            core.set_v(flags % 2 == 1);
-            let want = (*met >> flags) % 2 == 1;
-            assert_eq!(rt;
-                core.registers.apsr.condition_holds(*cond),
-                want,
-                "{name} {flags}"
-            );
-        }
+    for &(cond, name, met) in CONDITIONS.iter() {
+        assert_eq!(rt; flags_met(cond), met, "{name}");
     }
     Ok(())
 }

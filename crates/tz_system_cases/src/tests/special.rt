@@ -47,34 +47,34 @@ fn read(start: &Core, bus: &mut Bus, sysm: u8) -> (u32, u32, &'static str) {
     (core.get(3), start.special(sysm), end)
 }
 
+/// Whether MRS gives a value, the register reads as that, and the instruction ends well.
+fn is_read(start: &Core, bus: &mut Bus, sysm: u8, value: u32) -> bool {
+    let (found, told, end) = read(start, bus, sysm);
+    found == value && told == value && end == "next"
+}
+
+/// The number of the first of `READS` that code of a side reads otherwise.
+fn first_misread(bus: &mut Bus, side: Side, privileged: bool) -> Option<u8> {
+    let start = filled_for(side, privileged);
+    for &(sysm, _, s, su, n, nu) in READS.iter() {
+        let value = match side {
+            Side::Secure => if privileged { s } else { su },
+            Side::NonSecure => if privileged { n } else { nu },
+        };
+        if !is_read(&start, bus, sysm, value) {
+            return Some(sysm);
+        }
+    }
+    None
+}
+
 #[test]
 fn reads_by_state_and_privilege(rt: HostRuntime) -> Result<(), Fail> {
     let mut bus = demo_bus(rt.alloc())?;
-    let secure = filled_for(Side::Secure, true);
-    let secure_user = filled_for(Side::Secure, false);
-    let nonsecure = filled_for(Side::NonSecure, true);
-    let nonsecure_user = filled_for(Side::NonSecure, false);
-    for (sysm, name, s, su, n, nu) in &READS {
-        assert_eq!(rt;
-            read(&secure, &mut bus, *sysm),
-            (*s, *s, "next"),
-            "{name} secure"
-        );
-        assert_eq!(rt;
-            read(&secure_user, &mut bus, *sysm),
-            (*su, *su, "next"),
-            "{name} secure user"
-        );
-        assert_eq!(rt;
-            read(&nonsecure, &mut bus, *sysm),
-            (*n, *n, "next"),
-            "{name} nonsecure"
-        );
-        assert_eq!(rt;
-            read(&nonsecure_user, &mut bus, *sysm),
-            (*nu, *nu, "next"),
-            "{name} nonsecure user"
-        );
+    for side in [Side::Secure, Side::NonSecure] {
+        for privileged in [true, false] {
+            assert_eq!(rt; first_misread(&mut bus, side, privileged), None);
+        }
     }
     Ok(())
 }
@@ -104,23 +104,22 @@ fn handling(side: Side) -> Core {
     core
 }
 
+/// The number of the first of `HANDLER_READS` that is read otherwise.
+fn first_misread_in_handler(bus: &mut Bus) -> Option<u8> {
+    let secure = handling(Side::Secure);
+    let nonsecure = handling(Side::NonSecure);
+    for &(sysm, _, s, n) in HANDLER_READS.iter() {
+        if !is_read(&secure, bus, sysm, s) || !is_read(&nonsecure, bus, sysm, n) {
+            return Some(sysm);
+        }
+    }
+    None
+}
+
 #[test]
 fn reads_in_handler_mode(rt: HostRuntime) -> Result<(), Fail> {
     let mut bus = demo_bus(rt.alloc())?;
-    let secure = handling(Side::Secure);
-    let nonsecure = handling(Side::NonSecure);
-    for (sysm, name, s, n) in &HANDLER_READS {
-        assert_eq!(rt;
-            read(&secure, &mut bus, *sysm),
-            (*s, *s, "next"),
-            "{name} secure"
-        );
-        assert_eq!(rt;
-            read(&nonsecure, &mut bus, *sysm),
-            (*n, *n, "next"),
-            "{name} nonsecure"
-        );
-    }
+    assert_eq!(rt; first_misread_in_handler(&mut bus), None);
     Ok(())
 }
 
@@ -173,30 +172,36 @@ fn is_written(start: &Core, bus: &mut Bus, sysm: u8, value: u32, place: usize, a
     end == "next"
 }
 
+/// Whether MSR of all ones and of another value put these into a place.
+fn are_written(start: &Core, bus: &mut Bus, sysm: u8, place: usize, ones: u32, other: u32) -> bool {
+    is_written(start, bus, sysm, 0xffff_ffff, place, ones)
+        && is_written(start, bus, sysm, 0x4567_8a20, place, other)
+}
+
+/// The number of the first of `WRITES` that privileged code writes otherwise, or that code without privilege
+/// writes at all.
+fn first_miswritten(bus: &mut Bus, side: Side) -> Option<u8> {
+    let start = filled_for(side, true);
+    let user = filled_for(side, false);
+    for &(sysm, _, s, n, ones, other) in WRITES.iter() {
+        let place = match side {
+            Side::Secure => s,
+            Side::NonSecure => n,
+        };
+        if !are_written(&start, bus, sysm, place, ones, other)
+            || !are_written(&user, bus, sysm, NOTHING, 0, 0)
+        {
+            return Some(sysm);
+        }
+    }
+    None
+}
+
 #[test]
 fn writes_by_state_and_privilege(rt: HostRuntime) -> Result<(), Fail> {
     let mut bus = demo_bus(rt.alloc())?;
-    let secure = filled_for(Side::Secure, true);
-    let secure_user = filled_for(Side::Secure, false);
-    let nonsecure = filled_for(Side::NonSecure, true);
-    let nonsecure_user = filled_for(Side::NonSecure, false);
-    for (sysm, name, s, n, ones, other) in &WRITES {
-        for (value, after) in [(0xffff_ffff, *ones), (0x4567_8a20, *other)] {
-            assert!(rt;
-                is_written(&secure, &mut bus, *sysm, value, *s, after),
-                "{name} {value} secure"
-            );
-            assert!(rt;
-                is_written(&nonsecure, &mut bus, *sysm, value, *n, after),
-                "{name} {value} nonsecure"
-            );
-            for user in [&secure_user, &nonsecure_user] {
-                assert!(rt;
-                    is_written(user, &mut bus, *sysm, value, NOTHING, 0),
-                    "{name} {value} user"
-                );
-            }
-        }
+    for side in [Side::Secure, Side::NonSecure] {
+        assert_eq!(rt; first_miswritten(&mut bus, side), None);
     }
     Ok(())
 }
@@ -212,20 +217,32 @@ static FLAGS: [(u32, u32); 7] = [
     (0x0800_0000, 0x0800_0000),
 ];
 
+/// Whether MSR of each number from 0 to 3 writes these flags.
+fn are_flags_written(start: &Core, bus: &mut Bus, value: u32, after: u32) -> bool {
+    let mut all = true;
+    for sysm in 0..4u8 {
+        all = is_written(start, bus, sysm, value, 16, after) && all;
+    }
+    all
+}
+
+/// The first word of `FLAGS` that comes to other flags.
+fn first_wrong_flags(bus: &mut Bus, side: Side, privileged: bool) -> Option<u32> {
+    let start = filled_for(side, privileged);
+    for &(value, after) in FLAGS.iter() {
+        if !are_flags_written(&start, bus, value, after) {
+            return Some(value);
+        }
+    }
+    None
+}
+
 #[test]
 fn flags_are_written_by_all(rt: HostRuntime) -> Result<(), Fail> {
     let mut bus = demo_bus(rt.alloc())?;
     for side in [Side::Secure, Side::NonSecure] {
         for privileged in [true, false] {
-            let start = filled_for(side, privileged);
-            for (value, after) in &FLAGS {
-                for sysm in [0, 1, 2, 3] {
-                    assert!(rt;
-                        is_written(&start, &mut bus, sysm, *value, 16, *after),
-                        "{sysm} {value}"
-                    );
-                }
-            }
+            assert_eq!(rt; first_wrong_flags(&mut bus, side, privileged), None);
         }
     }
     Ok(())
@@ -246,41 +263,62 @@ static SP_NS: [(u32, u16, u32, usize, &str); 10] = [
     (3, 0, 0x2000_01fc, NOTHING, "limit n"),
 ];
 
+/// How MSR of SP_NS ends, and the place that it changes; "changed" where that gets another value or isn't the
+/// only one.
+fn sp_ns_told(bus: &mut Bus, control: u32, ipsr: u16, value: u32) -> (&'static str, usize) {
+    let mut start = filled();
+    start.set_control(Side::NonSecure, control);
+    start.set_ipsr(ipsr);
+    start.set(3, value);
+    let (core, end) = write(&start, bus, 0x98, value);
+    let place = difference(&start, &core);
+    if place < SHOWN && (shown(&core)[place] != value || differences(&start, &core) != 1) {
+        return ("changed", place);
+    }
+    (end, place)
+}
+
+/// The place of the first of `SP_NS` that comes to something else.
+fn first_wrong_sp_ns(bus: &mut Bus) -> Option<usize> {
+    for (index, row) in SP_NS.iter().enumerate() {
+        let (control, ipsr, value, place, end) = *row;
+        let (found, changed) = sp_ns_told(bus, control, ipsr, value);
+        if found != end || changed != place {
+            return Some(index);
+        }
+    }
+    None
+}
+
 #[test]
 fn nonsecure_stack_pointer_by_its_limit(rt: HostRuntime) -> Result<(), Fail> {
     let mut bus = demo_bus(rt.alloc())?;
-    for (control, ipsr, value, place, end) in &SP_NS {
-        let mut start = filled();
-        start.set_control(Side::NonSecure, *control);
-        start.set_ipsr(*ipsr);
-        start.set(3, *value);
-        let (core, found) = write(&start, &mut bus, 0x98, *value);
-        assert_eq!(rt; found, *end, "{control} {ipsr} {value}");
-        assert_eq!(rt;
-            difference(&start, &core),
-            *place,
-            "{control} {ipsr} {value}"
-        );
-        if *place < SHOWN {
-            assert_eq!(rt; shown(&core)[*place], *value);
-            assert_eq!(rt; differences(&start, &core), 1);
+    assert_eq!(rt; first_wrong_sp_ns(&mut bus), None);
+    Ok(())
+}
+
+/// Whether SP_NS is ignored in a state and with a privilege.
+fn is_ignored(bus: &mut Bus, side: Side, privileged: bool) -> bool {
+    is_written(&filled_for(side, privileged), bus, 0x98, 0, NOTHING, 0)
+}
+
+/// The number of the first stack pointer whose limit is asked for, though it isn't by that name.
+fn first_limited(bus: &mut Bus) -> Option<u8> {
+    for sysm in [8, 9, 0x88, 0x89] {
+        let (_, end) = write(&filled(), bus, sysm, 0);
+        if end != "next" {
+            return Some(sysm);
         }
     }
-    for start in [
-        filled_for(Side::Secure, false),
-        filled_for(Side::NonSecure, true),
-    ] {
-        assert!(rt;
-            is_written(&start, &mut bus, 0x98, 0, NOTHING, 0),
-            "ignored"
-        );
-    }
-    for sysm in [8, 9, 0x88, 0x89] {
-        assert_eq!(rt;
-            write(&filled(), &mut bus, sysm, 0).1,
-            "next",
-            "{sysm} has no limit"
-        );
-    }
+    None
+}
+
+#[test]
+fn stack_pointers_without_a_limit(rt: HostRuntime) -> Result<(), Fail> {
+    let mut bus = demo_bus(rt.alloc())?;
+    let by_user = is_ignored(&mut bus, Side::Secure, false);
+    let by_nonsecure = is_ignored(&mut bus, Side::NonSecure, true);
+    assert!(rt; by_user && by_nonsecure, "{by_user} {by_nonsecure}");
+    assert_eq!(rt; first_limited(&mut bus), None);
     Ok(())
 }

@@ -1,7 +1,8 @@
 //! The stack pointer in use, and its limit.
 
-use crate::{NOTHING, difference, filled, shown};
+use crate::{NOTHING, SHOWN, difference, filled, shown};
 use std::test::Fail;
+use tz_regs::Core;
 use tz_table::Side;
 
 /// The state, IPSR and CONTROL of its side, the stack pointer in use, and its place among the numbers shown.
@@ -18,30 +19,45 @@ static CHOICES: [(Side, u16, u32, u32, usize); 10] = [
     (Side::NonSecure, 15, 1, 0x2000_1000, 8),
 ];
 
+/// A core in this state.
+fn in_state(side: Side, ipsr: u16, control: u32) -> Core {
+    let mut core = filled();
+    core.set_side(side);
+    core.set_ipsr(ipsr);
+    core.set_control(side, control);
+    core
+}
+
+/// The place that a write of 7 to R13 goes to, and the stack pointer after it.
+fn written(start: &Core) -> (usize, u32) {
+    let mut core = *start;
+    core.set(13, 7);
+    (difference(start, &core), core.pointer())
+}
+
+/// The place of the first of `CHOICES` that is told otherwise, or written otherwise: no limit is asked for, and bits
+/// 1:0 are dropped.
+fn first_wrong_choice() -> Option<usize> {
+    for (index, row) in CHOICES.iter().enumerate() {
+        let (side, ipsr, control, pointer, place) = *row;
+        let core = in_state(side, ipsr, control);
+        let (changed, after) = written(&core);
+        if core.pointer() != pointer
+            || core.get(13) != pointer
+            || core.handler() != (ipsr != 0)
+            || core.privileged(side) != (ipsr != 0 || control % 2 == 0)
+            || changed != place
+            || after != 4
+        {
+            return Some(index);
+        }
+    }
+    None
+}
+
 #[test]
 fn stack_pointer_in_use(rt: HostRuntime) -> Result<(), Fail> {
-    for (side, ipsr, control, pointer, place) in &CHOICES {
-        let mut core = filled();
-        core.set_side(*side);
-        core.set_ipsr(*ipsr);
-        core.set_control(*side, *control);
-        assert_eq!(rt; core.pointer(), *pointer, "{ipsr} {control}");
-        assert_eq!(rt; core.get(13), *pointer, "{ipsr} {control}");
-        assert_eq!(rt; core.handler(), *ipsr != 0);
-        assert_eq!(rt;
-            core.privileged(*side),
-            *ipsr != 0 || *control % 2 == 0,
-            "{ipsr} {control}"
-        );
-        let start = core;
-        core.set(13, 7);
-        assert_eq!(rt; difference(&start, &core), *place, "{ipsr} {control}");
-        assert_eq!(rt;
-            core.pointer(),
-            4,
-            "no limit is asked for, and bits 1:0 are dropped"
-        );
-    }
+    assert_eq!(rt; first_wrong_choice(), None);
     Ok(())
 }
 
@@ -59,20 +75,33 @@ static CHECKED: [(Side, u16, u32, u32, usize); 9] = [
     (Side::NonSecure, 9, 2, 0x2000_0100, 8),
 ];
 
+/// Whether a checked write of the stack pointer is taken, the place that it goes to, and what is there; 0 for no
+/// place.
+fn checked(start: &Core, value: u32) -> (bool, usize, u32) {
+    let mut core = *start;
+    let is_taken = core.set_sp_checked(value).is_ok();
+    let place = difference(start, &core);
+    (
+        is_taken,
+        place,
+        if place < SHOWN {
+            shown(&core)[place]
+        } else {
+            0
+        },
+    )
+}
+
 #[test]
 fn checked_stack_pointer(rt: HostRuntime) -> Result<(), Fail> {
-    for (side, ipsr, control, value, place) in &CHECKED {
-        let mut start = filled();
-        start.set_side(*side);
-        start.set_ipsr(*ipsr);
-        start.set_control(*side, *control);
-        let mut core = start;
-        let written = core.set_sp_checked(*value).is_ok();
-        assert_eq!(rt; written, *place != NOTHING, "{value}");
-        assert_eq!(rt; difference(&start, &core), *place, "{value}");
-        if *place < NOTHING {
-            assert_eq!(rt; shown(&core)[*place], *value / 4 * 4, "{value}");
-        }
+    for &(side, ipsr, control, value, place) in CHECKED.iter() {
+        let start = in_state(side, ipsr, control);
+        let held = if place < NOTHING { value / 4 * 4 } else { 0 };
+        assert_eq!(rt;
+            checked(&start, value),
+            (place != NOTHING, place, held),
+            "{value}"
+        );
     }
     Ok(())
 }

@@ -3,6 +3,7 @@
 use super::target::Form::{Tt, Tta, Ttat, Ttt};
 use crate::{NOTHING, demo_bus, difference, ending, filled};
 use std::test::Fail;
+use tz_access::Bus;
 use tz_model::Size;
 use tz_regs::Core;
 use tz_system::execute;
@@ -63,18 +64,39 @@ static AT_BOOT: [(Form, Side, u32, u32, u32, u32); 19] = [
     (Ttt, NonSecure, 0, 1, 0x0020_0000, 0),
 ];
 
+/// How a form ends, and the word in R3 after it.
+fn told(bus: &mut Bus, form: Form, core: &Core, priority: i32) -> (&'static str, u32) {
+    let mut core = *core;
+    let end = ending(execute(&test_target(form), &mut core, bus, priority));
+    (end, core.get(3))
+}
+
+/// How a form ends, and the place of what it changes beside a word in R3.
+fn change(bus: &mut Bus, form: Form, start: &Core, word: u32) -> (&'static str, usize) {
+    let mut core = *start;
+    let end = ending(execute(&test_target(form), &mut core, bus, 256));
+    let mut after = *start;
+    after.set(3, word);
+    (end, difference(&after, &core))
+}
+
+/// The address of the first of `AT_BOOT` that is told otherwise, or of which more is changed than R3.
+fn first_wrong_at_boot(bus: &mut Bus) -> Option<u32> {
+    for &(form, side, control_s, control_ns, addr, want) in AT_BOOT.iter() {
+        let start = asking(side, control_s, control_ns, addr);
+        let (end, word) = told(bus, form, &start, 256);
+        let (_, changed) = change(bus, form, &start, want);
+        if end != "next" || word != want || changed != NOTHING {
+            return Some(addr);
+        }
+    }
+    None
+}
+
 #[test]
 fn targets_at_boot(rt: HostRuntime) -> Result<(), Fail> {
     let mut bus = demo_bus(rt.alloc())?;
-    for (form, side, control_s, control_ns, addr, want) in &AT_BOOT {
-        let mut core = asking(*side, *control_s, *control_ns, *addr);
-        let mut after = core;
-        after.set(3, *want);
-        let end = ending(execute(&test_target(*form), &mut core, &mut bus, 256));
-        assert_eq!(rt; end, "next", "{addr:x}");
-        assert_eq!(rt; core.get(3), *want, "{addr:x}");
-        assert_eq!(rt; difference(&after, &core), NOTHING, "{addr:x}");
-    }
+    assert_eq!(rt; first_wrong_at_boot(&mut bus), None);
     Ok(())
 }
 
@@ -96,6 +118,18 @@ static BY_MPU: [(Form, Side, u32, u32, i32, u32, u32); 13] = [
     (Tta, Secure, 0, 0, -1, 0x2000_0000, 0x04be_0100),
 ];
 
+/// The address of the first of `BY_MPU` that is told otherwise.
+fn first_wrong_by_mpu(bus: &mut Bus) -> Option<u32> {
+    for &(form, side, control_s, control_ns, priority, addr, want) in BY_MPU.iter() {
+        let start = asking(side, control_s, control_ns, addr);
+        let (end, word) = told(bus, form, &start, priority);
+        if end != "next" || word != want {
+            return Some(addr);
+        }
+    }
+    None
+}
+
 #[test]
 fn targets_by_the_mpu(rt: HostRuntime) -> Result<(), Fail> {
     let mut bus = demo_bus(rt.alloc())?;
@@ -103,13 +137,15 @@ fn targets_by_the_mpu(rt: HostRuntime) -> Result<(), Fail> {
     bus.set_register(0xe000_ed9c, NonSecure, 0x2000_0004);
     bus.set_register(0xe000_eda0, NonSecure, 0x2000_0fe1);
     bus.set_register(0xe000_ed94, NonSecure, 1);
-    for (form, side, control_s, control_ns, priority, addr, want) in &BY_MPU {
-        let mut core = asking(*side, *control_s, *control_ns, *addr);
-        let end = ending(execute(&test_target(*form), &mut core, &mut bus, *priority));
-        assert_eq!(rt; end, "next", "{addr:x}");
-        assert_eq!(rt; core.get(3), *want, "{addr:x}");
-    }
+    assert_eq!(rt; first_wrong_by_mpu(&mut bus), None);
     Ok(())
+}
+
+/// Whether a form is undefined to Non-secure code with this CONTROL_NS, and changes nothing.
+fn is_undefined(bus: &mut Bus, form: Form, control: u32) -> bool {
+    let start = asking(NonSecure, 0, control, 0x0020_0000);
+    let (end, changed) = change(bus, form, &start, start.get(3));
+    end == "undefined" && changed == NOTHING
 }
 
 #[test]
@@ -117,11 +153,7 @@ fn alternate_forms_are_of_secure_state(rt: HostRuntime) -> Result<(), Fail> {
     let mut bus = demo_bus(rt.alloc())?;
     for form in [Tta, Ttat] {
         for control in [0, 1] {
-            let start = asking(NonSecure, 0, control, 0x0020_0000);
-            let mut core = start;
-            let end = ending(execute(&test_target(form), &mut core, &mut bus, 256));
-            assert_eq!(rt; end, "undefined");
-            assert_eq!(rt; difference(&start, &core), NOTHING);
+            assert!(rt; is_undefined(&mut bus, form, control), "{control}");
         }
     }
     Ok(())
@@ -135,20 +167,24 @@ static BARRIERS: [(BarrierOp, bool); 4] = [
     (BarrierOp::Isb, true),
 ];
 
+/// How a barrier ends; "changed" where it changes the core.
+fn barrier_told(bus: &mut Bus, op: BarrierOp) -> &'static str {
+    let start = filled();
+    let mut core = start;
+    let end = ending(execute(&Insn::Barrier { op, option: 15 }, &mut core, bus, 256));
+    if difference(&start, &core) != NOTHING {
+        return "changed";
+    }
+    end
+}
+
 #[test]
 fn monitor_is_cleared(rt: HostRuntime) -> Result<(), Fail> {
-    for (op, holds) in &BARRIERS {
+    for &(op, holds) in BARRIERS.iter() {
         let mut bus = demo_bus(rt.alloc())?;
         bus.monitor_set(0x2000_0000, Size::Word);
-        let start = filled();
-        let mut core = start;
-        let insn = Insn::Barrier {
-            op: *op,
-            option: 15,
-        };
-        assert_eq!(rt; ending(execute(&insn, &mut core, &mut bus, 256)), "next");
-        assert_eq!(rt; bus.monitor().is_some(), *holds);
-        assert_eq!(rt; difference(&start, &core), NOTHING);
+        assert_eq!(rt; barrier_told(&mut bus, op), "next");
+        assert_eq!(rt; bus.monitor().is_some(), holds);
     }
     Ok(())
 }
