@@ -1,5 +1,7 @@
 //! The cases, by family.
 
+ghost use Rattle.std.specs.Prelude.{◌≤◌, length};
+
 mod branches;
 mod calls;
 mod exclusive;
@@ -9,9 +11,15 @@ mod narrow;
 mod ordered;
 mod pairs;
 mod tables;
+mod told;
 mod written_back;
 
-use tz_model::{Address, Insn, Size};
+use crate::tests::told::{branch_text, load_store_text};
+use std::alloc::Global;
+use std::process::Abort;
+use std::test::Fail;
+use tz_model::{Address, Insn, Size, TableEntry, TablePort};
+use tz_regs::Core;
 
 /// How an address is made of a register and an offset.
 #[derive(Clone, Copy)]
@@ -96,4 +104,41 @@ fn store_many(order: Order, rn: u8, list: u16) -> Insn {
         down: is_down(order),
         back: is_back(order),
     }
+}
+
+/// Compares texts of a row, which is told by its place in its table.
+fn check(rt: &impl Abort, found: &str, want: &str, row: usize) {
+    assert_eq!(rt; found, want, "row {row}");
+}
+
+/// Runs a branch over a port, and compares how it went on and what it changed.
+fn check_branch(
+    rt: &impl Abort,
+    alloc: Global,
+    insn: &Insn,
+    core: &Core,
+    port: &mut TablePort,
+    want: &str,
+    row: usize,
+) -> Result<(), Fail> {
+    let found = branch_text(alloc, insn, core, port)?;
+    check(rt, found.as_str(), want, row);
+    Ok(())
+}
+
+/// The same of a load or a store.
+fn check_load_store(
+    rt: &impl Abort,
+    alloc: Global,
+    insn: &Insn,
+    core: &Core,
+    port: &mut TablePort,
+    want: &str,
+    row: usize,
+) -> Result<(), Fail>
+    requires { length port.old.entries.items ≤ 16 }
+{
+    let found = load_store_text(alloc, insn, core, port)?;
+    check(rt, found.as_str(), want, row);
+    Ok(())
 }

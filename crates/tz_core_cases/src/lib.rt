@@ -13,11 +13,10 @@ mod tests;
 use std::alloc::{AllocError, Global};
 use std::fmt::Write;
 use tz_asm::assemble;
-use tz_board::demo_board;
 use tz_core::Machine;
-use tz_model::{Board, Image, ScriptEvent, Side, Size, Sleep, StepKind};
+use tz_model::{Board, Image, Side, Sleep};
 use tz_nvic::{Exceptions, PLACES};
-use tz_regs::{Core, SideStatus};
+use tz_regs::Core;
 
 /// Where the vectors of a side begin, with its stack pointer and its start.
 const SECURE: &str = ".org 0x10000000
@@ -56,9 +55,6 @@ writes: .word ";
 /// The most steps that a row takes.
 const MOST: u32 = 200;
 
-/// An address at which no code stands.
-pub const NOWHERE: u32 = 0;
-
 /// Adds the vectors of exceptions 2 to 23: the handler of exception N stands 0x800 and 16 N bytes from `base` on.
 fn push_vectors(text: &mut String, base: u32) -> Result<(), AllocError> {
     for number in 2..VECTORS {
@@ -76,6 +72,15 @@ fn push_writes(text: &mut String, writes: &[(u32, u32)]) -> Result<(), AllocErro
     Ok(())
 }
 
+/// Adds the Secure vectors, the code that writes words at addresses, and these words.
+fn push_start(text: &mut String, writes: [&[(u32, u32)]; 2]) -> Result<(), AllocError> {
+    push_vectors(text, 0x1000_0000)?;
+    text.push_str(START)?;
+    let [first, second] = writes;
+    push_writes(text, first)?;
+    push_writes(text, second)
+}
+
 /// The source of the Secure code: it writes words at addresses, and goes on with code at 0x10000400.
 fn secure_source(
     alloc: Global,
@@ -83,11 +88,7 @@ fn secure_source(
     code: &str,
 ) -> Result<String, AllocError> {
     let mut text = String::from_str(alloc, SECURE)?;
-    push_vectors(&mut text, 0x1000_0000)?;
-    write!(text, "{START}")?;
-    let [first, second] = writes;
-    push_writes(&mut text, first)?;
-    push_writes(&mut text, second)?;
+    push_start(&mut text, writes)?;
     write!(text, "0\n .word 0\n.org 0x10000400\n{code}\n")?;
     Ok(text)
 }
@@ -140,17 +141,6 @@ pub fn machine_on(
     Machine::new(alloc, board, &secure, &nonsecure)
 }
 
-/// The same of the built-in board.
-pub fn machine_of(
-    alloc: Global,
-    writes: [&[(u32, u32)]; 2],
-    secure: &str,
-    nonsecure: &str,
-) -> Result<Machine, AllocError> {
-    let board = demo_board(alloc)?;
-    machine_on(alloc, &board, writes, secure, nonsecure)
-}
-
 /// Makes steps until the machine locks or its code stands at an address, but at most `MOST`.
 pub fn run_to(machine: &mut Machine, address: u32) {
     for _ in 0..MOST {
@@ -161,48 +151,6 @@ pub fn run_to(machine: &mut Machine, address: u32) {
     }
 }
 
-/// Makes steps until the machine takes an exception or locks, but at most `MOST`: what the last of them was.
-pub fn run_to_end(machine: &mut Machine) -> StepKind {
-    let mut kind = StepKind::Idle;
-    for _ in 0..MOST {
-        let report = machine.step(&[]);
-        kind = report.kind;
-        match kind {
-            StepKind::Locked | StepKind::Taken { .. } => return kind,
-            StepKind::Idle | StepKind::Ran { .. } => {}
-        }
-    }
-    kind
-}
-
-/// What is shown of a machine that ran until it took an exception or locked.
-pub fn ended_as(
-    alloc: Global,
-    writes: [&[(u32, u32)]; 2],
-    secure: &str,
-    nonsecure: &str,
-) -> Result<String, AllocError> {
-    let mut machine = machine_of(alloc, writes, secure, nonsecure)?;
-    let kind = run_to_end(&mut machine);
-    ended(alloc, &machine, kind)
-}
-
-/// What a step was, in a word.
-fn kind_text(kind: StepKind) -> &'static str {
-    match kind {
-        StepKind::Locked => "locked",
-        StepKind::Idle => "idle",
-        StepKind::Taken { .. } => "taken",
-        StepKind::Ran { .. } => "ran",
-    }
-}
-
-/// Makes a step at which events are due, and tells what it was.
-pub fn step_kind(machine: &mut Machine, due: &[ScriptEvent]) -> &'static str {
-    let report = machine.step(due);
-    kind_text(report.kind)
-}
-
 /// Tells a value that isn't 0.
 fn tell(text: &mut String, name: &str, value: u32) -> Result<(), AllocError> {
     if value != 0 {
@@ -211,24 +159,33 @@ fn tell(text: &mut String, name: &str, value: u32) -> Result<(), AllocError> {
     Ok(())
 }
 
-/// Tells the fault registers of a side.
-fn tell_side(text: &mut String, status: &SideStatus, names: [&str; 3]) -> Result<(), AllocError> {
-    let [ufsr, mmfsr, mmfar] = names;
-    tell(text, ufsr, status.ufsr)?;
-    tell(text, mmfsr, status.mmfsr)?;
-    tell(text, mmfar, status.mmfar)
+/// Tells the values that aren't 0.
+fn tell_each(text: &mut String, named: &[(&str, u32)]) -> Result<(), AllocError> {
+    for (name, value) in named {
+        tell(text, name, *value)?;
+    }
+    Ok(())
 }
 
 /// Tells the fault registers.
 fn tell_status(text: &mut String, core: &Core) -> Result<(), AllocError> {
     let status = &core.status;
-    tell_side(text, &status.s, ["ufsr_s", "mmfsr_s", "mmfar_s"])?;
-    tell_side(text, &status.ns, ["ufsr_ns", "mmfsr_ns", "mmfar_ns"])?;
-    tell(text, "bfsr", status.bus.bfsr)?;
-    tell(text, "bfar", status.bus.bfar)?;
-    tell(text, "sfsr", status.security.sfsr)?;
-    tell(text, "sfar", status.security.sfar)?;
-    tell(text, "hfsr", status.bus.hfsr)
+    tell_each(
+        text,
+        &[
+            ("ufsr_s", status.s.ufsr),
+            ("mmfsr_s", status.s.mmfsr),
+            ("mmfar_s", status.s.mmfar),
+            ("ufsr_ns", status.ns.ufsr),
+            ("mmfsr_ns", status.ns.mmfsr),
+            ("mmfar_ns", status.ns.mmfar),
+            ("bfsr", status.bus.bfsr),
+            ("bfar", status.bus.bfar),
+            ("sfsr", status.security.sfsr),
+            ("sfar", status.security.sfar),
+            ("hfsr", status.bus.hfsr),
+        ],
+    )
 }
 
 /// Tells the slot at a place where it is pending or active.
@@ -263,25 +220,6 @@ fn tell_place(text: &mut String, core: &Core) -> Result<(), AllocError> {
     write!(text, "{state} at {:x}", core.registers.pc)
 }
 
-/// Where the basic frame of an exception lies whose LR this is, and which was taken over code on a main stack: above the
-/// additional frame where a Non-secure exception was taken over Secure code.
-fn frame_of(core: &Core, lr: u32) -> u32 {
-    match lr & 0x41 {
-        0x41 => core.stacks_s.msp,
-        0x40 => core.stacks_s.msp.wrapping_add(0x28),
-        _ => core.stacks_ns.msp,
-    }
-}
-
-/// Tells the return address of the frame of an exception whose LR this is.
-fn tell_return(text: &mut String, machine: &Machine, lr: u32) -> Result<(), AllocError> {
-    let place = frame_of(machine.core(), lr).wrapping_add(0x18);
-    match machine.bus().read(place, Size::Word) {
-        Ok(back) => write!(text, "from {back:x}"),
-        Err(_) => write!(text, "from nowhere"),
-    }
-}
-
 /// Tells the fault registers that aren't 0, HFSR last, and the exceptions that are pending or active, in the order of
 /// their numbers.
 fn tell_rest(text: &mut String, machine: &Machine) -> Result<(), AllocError> {
@@ -292,24 +230,6 @@ fn tell_rest(text: &mut String, machine: &Machine) -> Result<(), AllocError> {
     Ok(())
 }
 
-/// A machine after a step as a line. Where an exception was taken: the stacked return address, the fault registers, the
-/// exceptions, and the number and LR of the exception. Otherwise what `shown` tells.
-pub fn ended(alloc: Global, machine: &Machine, kind: StepKind) -> Result<String, AllocError> {
-    let mut text = String::new(alloc);
-    match kind {
-        StepKind::Taken { number, lr } => {
-            tell_return(&mut text, machine, lr)?;
-            tell_rest(&mut text, machine)?;
-            write!(text, " X {number} {lr:x}")?;
-        }
-        StepKind::Locked | StepKind::Idle | StepKind::Ran { .. } => {
-            tell_place(&mut text, machine.core())?;
-            tell_rest(&mut text, machine)?;
-        }
-    }
-    Ok(text)
-}
-
 /// A machine as a line: whether it is locked, sleeps or runs, and where; its fault registers that aren't 0, HFSR last;
 /// and the exceptions that are pending or active, in the order of their numbers.
 pub fn shown(alloc: Global, machine: &Machine) -> Result<String, AllocError> {
@@ -317,20 +237,4 @@ pub fn shown(alloc: Global, machine: &Machine) -> Result<String, AllocError> {
     tell_place(&mut text, machine.core())?;
     tell_rest(&mut text, machine)?;
     Ok(text)
-}
-
-/// CVR and CSR of the Secure SysTick, and then of the Non-secure one.
-pub fn timers_text(alloc: Global, machine: &Machine) -> Result<String, AllocError> {
-    let s = machine.exceptions().timer(Side::Secure);
-    let ns = machine.exceptions().timer(Side::NonSecure);
-    format!(in alloc; "{} {:x}, {} {:x}", s.cvr, s.csr, ns.cvr, ns.csr)
-}
-
-/// Whether the event flag is set, in a word.
-pub fn flag_text(machine: &Machine) -> &'static str {
-    if machine.core().event {
-        "event"
-    } else {
-        "no event"
-    }
 }

@@ -1,6 +1,7 @@
 //! Saturation, bit fields, extensions, reversals, and values that are given as they stand.
 
-use crate::{core_with, result_of, set_flags};
+use crate::core_with;
+use crate::tests::{check, set_flags};
 use tz_alu::execute;
 use tz_model::{ExtendOp, Fault, FieldOp, Insn, ReverseOp};
 
@@ -49,7 +50,10 @@ static SATURATIONS: [(bool, u8, bool, u8, u32, u8, u32, u8); 11] = [
 
 #[test]
 fn saturations(rt: HostRuntime) {
-    for (signed, bits, asr, amount, value, before, want, after) in &SATURATIONS {
+    for (row, (signed, bits, asr, amount, value, before, want, after)) in SATURATIONS
+        .iter()
+        .enumerate()
+    {
         let mut core = core_with([*value, 0, 7, 0]);
         set_flags(&mut core, *before);
         let insn = Insn::Saturate {
@@ -60,11 +64,7 @@ fn saturations(rt: HostRuntime) {
             asr: *asr,
             amount: *amount,
         };
-        assert_eq!(rt;
-            result_of(&insn, &mut core),
-            Some((*want, *after)),
-            "{value:08x} to {bits}"
-        );
+        check(&rt, &insn, &mut core, (*want, *after), row);
     }
 }
 
@@ -83,7 +83,7 @@ static FIELDS: [(FieldOp, u32, u32, u8, u8, u32); 9] = [
 
 #[test]
 fn bit_fields(rt: HostRuntime) {
-    for (op, old, source, low, width, want) in &FIELDS {
+    for (row, (op, old, source, low, width, want)) in FIELDS.iter().enumerate() {
         let mut core = core_with([*source, 0, *old, 0]);
         let insn = Insn::BitField {
             op: *op,
@@ -92,11 +92,7 @@ fn bit_fields(rt: HostRuntime) {
             low: *low,
             width: *width,
         };
-        assert_eq!(rt;
-            result_of(&insn, &mut core),
-            Some((*want, 0)),
-            "{source:08x} {low} {width}"
-        );
+        check(&rt, &insn, &mut core, (*want, 0), row);
     }
 }
 
@@ -124,8 +120,8 @@ static REVERSALS: [(ReverseOp, u32, u32); 8] = [
 ];
 
 #[test]
-fn extensions_and_reversals(rt: HostRuntime) {
-    for (op, value, rotate, want) in &EXTENSIONS {
+fn extensions(rt: HostRuntime) {
+    for (row, (op, value, rotate, want)) in EXTENSIONS.iter().enumerate() {
         let mut core = core_with([*value, 0, 7, 0]);
         let insn = Insn::Extend {
             op: *op,
@@ -133,24 +129,20 @@ fn extensions_and_reversals(rt: HostRuntime) {
             rm: 0,
             rotate: *rotate,
         };
-        assert_eq!(rt;
-            result_of(&insn, &mut core),
-            Some((*want, 0)),
-            "{value:08x} {rotate}"
-        );
+        check(&rt, &insn, &mut core, (*want, 0), row);
     }
-    for (op, value, want) in &REVERSALS {
+}
+
+#[test]
+fn reversals(rt: HostRuntime) {
+    for (row, (op, value, want)) in REVERSALS.iter().enumerate() {
         let mut core = core_with([*value, 0, 7, 0]);
         let insn = Insn::Reverse {
             op: *op,
             rd: 2,
             rm: 0,
         };
-        assert_eq!(rt;
-            result_of(&insn, &mut core),
-            Some((*want, 0)),
-            "{value:08x} {want:08x}"
-        );
+        check(&rt, &insn, &mut core, (*want, 0), row);
     }
 }
 
@@ -184,10 +176,10 @@ static GIVEN: [(Insn, u32); 4] = [
 
 #[test]
 fn given_values(rt: HostRuntime) {
-    for (insn, want) in &GIVEN {
+    for (row, (insn, want)) in GIVEN.iter().enumerate() {
         let mut core = core_with([0, 0, 0x1234_5678, 0]);
         core.registers.pc = 0x1000_0002;
-        assert_eq!(rt; result_of(insn, &mut core), Some((*want, 0)), "{want:08x}");
+        check(&rt, insn, &mut core, (*want, 0), row);
     }
 }
 

@@ -1,8 +1,10 @@
 //! Products and quotients.
 
-use crate::{core_with, result_of, set_flags};
+use crate::core_with;
+use crate::tests::{check, check_truth, check_word, set_flags};
 use tz_alu::execute;
 use tz_model::{Fault, Flags, Insn, LongOp, MultiplyOp};
+use tz_regs::Core;
 
 /// The operation, R0, R1 and R2, the flags before, and the product with the flags after.
 static PRODUCTS: [(MultiplyOp, u32, u32, u32, u8, u32, u8); 7] = [
@@ -69,7 +71,7 @@ static LONG_PRODUCTS: [(LongOp, [u32; 4], u32, u32); 7] = [
 
 #[test]
 fn products(rt: HostRuntime) {
-    for (op, x, y, a, before, want, after) in &PRODUCTS {
+    for (row, (op, x, y, a, before, want, after)) in PRODUCTS.iter().enumerate() {
         let mut core = core_with([*x, *y, *a, 0]);
         set_flags(&mut core, *before);
         let insn = Insn::Multiply {
@@ -80,13 +82,13 @@ fn products(rt: HostRuntime) {
             rm: 1,
             ra: 2,
         };
-        assert_eq!(rt;
-            result_of(&insn, &mut core),
-            Some((*want, *after)),
-            "{x:08x} {y:08x}"
-        );
+        check(&rt, &insn, &mut core, (*want, *after), row);
     }
-    for (op, values, low, high) in &LONG_PRODUCTS {
+}
+
+#[test]
+fn long_products(rt: HostRuntime) {
+    for (row, (op, values, low, high)) in LONG_PRODUCTS.iter().enumerate() {
         let mut core = core_with(*values);
         let insn = Insn::MultiplyLong {
             op: *op,
@@ -95,13 +97,14 @@ fn products(rt: HostRuntime) {
             rn: 0,
             rm: 1,
         };
-        assert_eq!(rt;
-            result_of(&insn, &mut core),
-            Some((*low, 0)),
-            "{low:08x} {high:08x}"
-        );
-        assert_eq!(rt; core.get(3), *high, "{low:08x} {high:08x}");
+        check(&rt, &insn, &mut core, (*low, 0), row);
+        check_word(&rt, core.get(3), *high, row);
     }
+}
+
+/// Runs a division: whether it is trapped.
+fn is_trapped(insn: &Insn, core: &mut Core) -> bool {
+    matches!(execute(insn, core), Err(Fault::DivZero))
 }
 
 /// Whether the division is signed, its operands, and the quotient.
@@ -118,7 +121,7 @@ static QUOTIENTS: [(bool, u32, u32, u32); 8] = [
 
 #[test]
 fn quotients(rt: HostRuntime) {
-    for (signed, x, y, want) in &QUOTIENTS {
+    for (row, (signed, x, y, want)) in QUOTIENTS.iter().enumerate() {
         let insn = Insn::Divide {
             signed: *signed,
             rd: 2,
@@ -128,15 +131,10 @@ fn quotients(rt: HostRuntime) {
         let mut core = core_with([*x, *y, 9, 0]);
         // DIV_0_TRP of the other side traps nothing.
         core.status.ns.ccr = 0x10;
-        assert_eq!(rt;
-            result_of(&insn, &mut core),
-            Some((*want, 0)),
-            "{x:08x} {y:08x}"
-        );
+        check(&rt, &insn, &mut core, (*want, 0), row);
         core.registers.general[2] = 9;
         core.status.s.ccr = 0x10;
-        let is_trapped = matches!(execute(&insn, &mut core), Err(Fault::DivZero));
-        assert_eq!(rt; is_trapped, *y == 0, "{x:08x} {y:08x}");
-        assert_eq!(rt; core.get(2) == 9, *y == 0, "{x:08x} {y:08x}");
+        check_truth(&rt, is_trapped(&insn, &mut core), *y == 0, row);
+        check_truth(&rt, core.get(2) == 9, *y == 0, row);
     }
 }

@@ -1,6 +1,7 @@
 //! Shifts of 0x80000001, with C.
 
-use crate::{core_with, result_of, set_flags};
+use crate::core_with;
+use crate::tests::{check, set_flags};
 use tz_model::{DataOp, Flags, Insn, Shift};
 
 /// The kind, the register with the places, the flags before, and the value with the flags after.
@@ -42,8 +43,8 @@ static BY_CONSTANT: [(Shift, u8, u8, u32, u8); 6] = [
 ];
 
 #[test]
-fn shifts(rt: HostRuntime) {
-    for (kind, places, before, want, after) in &BY_REGISTER {
+fn shifts_by_register(rt: HostRuntime) {
+    for (row, (kind, places, before, want, after)) in BY_REGISTER.iter().enumerate() {
         let mut core = core_with([0x8000_0001, *places, 7, 0]);
         set_flags(&mut core, *before);
         let insn = Insn::ShiftReg {
@@ -53,13 +54,13 @@ fn shifts(rt: HostRuntime) {
             rn: 0,
             rm: 1,
         };
-        assert_eq!(rt;
-            result_of(&insn, &mut core),
-            Some((*want, *after)),
-            "{kind:?} {places}"
-        );
+        check(&rt, &insn, &mut core, (*want, *after), row);
     }
-    for (kind, places, before, want, after) in &BY_CONSTANT {
+}
+
+#[test]
+fn shifts_by_constant(rt: HostRuntime) {
+    for (row, (kind, places, before, want, after)) in BY_CONSTANT.iter().enumerate() {
         let mut core = core_with([0x8000_0001, 0, 7, 0]);
         set_flags(&mut core, *before);
         let insn = Insn::DataReg {
@@ -71,10 +72,6 @@ fn shifts(rt: HostRuntime) {
             shift: *kind,
             amount: *places,
         };
-        assert_eq!(rt;
-            result_of(&insn, &mut core),
-            Some((*want, *after)),
-            "{kind:?} {places}"
-        );
+        check(&rt, &insn, &mut core, (*want, *after), row);
     }
 }

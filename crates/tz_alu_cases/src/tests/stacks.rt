@@ -1,6 +1,7 @@
 //! SP and PC as destinations. SP is at 0x30001000, its limit at 0x30000ff0.
 
-use crate::{core_with, flags_of, set_flags};
+use crate::core_with;
+use crate::tests::{check_truth, check_word, flags_of, set_flags};
 use tz_alu::execute;
 use tz_model::{DataOp, Fault, Flags, Insn, Outcome, Shift, Side};
 use tz_regs::{Core, Stacks};
@@ -24,6 +25,14 @@ fn core_of(side: Side, process: bool) -> Core {
     core
 }
 
+/// Runs an instruction: whether it goes below the limit of a side's stack.
+fn is_refused(insn: &Insn, core: &mut Core, side: Side) -> bool {
+    match execute(insn, core) {
+        Err(Fault::StackLimit(of)) => of == side,
+        _ => false,
+    }
+}
+
 /// A side, whether PSP is in use, what is taken off SP, and SP after; none where it is below the limit.
 static SUMS: [(Side, bool, u16, Option<u32>); 8] = [
     (Side::Secure, false, 16, Some(0x3000_0ff0)),
@@ -38,7 +47,7 @@ static SUMS: [(Side, bool, u16, Option<u32>); 8] = [
 
 #[test]
 fn sums_at_the_limit(rt: HostRuntime) {
-    for (side, process, imm, want) in &SUMS {
+    for (row, (side, process, imm, want)) in SUMS.iter().enumerate() {
         let mut core = core_of(*side, *process);
         let insn = Insn::AddWide {
             sub: true,
@@ -46,12 +55,13 @@ fn sums_at_the_limit(rt: HostRuntime) {
             rn: 13,
             imm: *imm,
         };
-        let refused = match execute(&insn, &mut core) {
-            Err(Fault::StackLimit(of)) => of == *side,
-            _ => false,
-        };
-        assert_eq!(rt; refused, want.is_none(), "{imm}");
-        assert_eq!(rt; core.pointer(), want.unwrap_or(0x3000_1000), "{imm}");
+        check_truth(
+            &rt,
+            is_refused(&insn, &mut core, *side),
+            want.is_none(),
+            row,
+        );
+        check_word(&rt, core.pointer(), want.unwrap_or(0x3000_1000), row);
     }
 }
 
@@ -68,7 +78,7 @@ static OPERATIONS: [(DataOp, u8, bool, u32, u8); 6] = [
 
 #[test]
 fn operations_on_sp(rt: HostRuntime) {
-    for (op, rm, refused, want, after) in &OPERATIONS {
+    for (row, (op, rm, refused, want, after)) in OPERATIONS.iter().enumerate() {
         let mut core = core_of(Side::NonSecure, false);
         set_flags(&mut core, 0b11001);
         let insn = Insn::DataReg {
@@ -80,13 +90,22 @@ fn operations_on_sp(rt: HostRuntime) {
             shift: Shift::Lsl,
             amount: 0,
         };
-        let is_refused = match execute(&insn, &mut core) {
-            Err(Fault::StackLimit(of)) => of == Side::NonSecure,
-            _ => false,
-        };
-        assert_eq!(rt; is_refused, *refused, "{want:08x}");
-        assert_eq!(rt; core.pointer(), *want, "{want:08x}");
-        assert_eq!(rt; flags_of(&core), *after, "{want:08x}");
+        check_truth(
+            &rt,
+            is_refused(&insn, &mut core, Side::NonSecure),
+            *refused,
+            row,
+        );
+        check_word(&rt, core.pointer(), *want, row);
+        check_word(&rt, u32::from(flags_of(&core)), u32::from(*after), row);
+    }
+}
+
+/// Where an instruction goes on; 1 where it doesn't jump.
+fn target_of(insn: &Insn, core: &mut Core) -> u32 {
+    match execute(insn, core) {
+        Ok(Outcome::Jump(to)) => to,
+        _ => 1,
     }
 }
 
@@ -100,7 +119,7 @@ static JUMPS: [(DataOp, u32, u32); 4] = [
 
 #[test]
 fn jumps(rt: HostRuntime) {
-    for (op, value, want) in &JUMPS {
+    for (row, (op, value, want)) in JUMPS.iter().enumerate() {
         let mut core = core_with([*value, 0, 0, 0]);
         core.registers.pc = 0x1000_0002;
         let insn = Insn::DataReg {
@@ -112,11 +131,7 @@ fn jumps(rt: HostRuntime) {
             shift: Shift::Lsl,
             amount: 0,
         };
-        let to = match execute(&insn, &mut core) {
-            Ok(Outcome::Jump(to)) => to,
-            _ => 1,
-        };
-        assert_eq!(rt; to, *want, "{value:08x}");
-        assert_eq!(rt; core.registers.pc, 0x1000_0002, "{value:08x}");
+        check_word(&rt, target_of(&insn, &mut core), *want, row);
+        check_word(&rt, core.registers.pc, 0x1000_0002, row);
     }
 }

@@ -1,6 +1,7 @@
 //! Logical operations and sums, with their flags.
 
-use crate::{core_with, result_of, set_flags};
+use crate::core_with;
+use crate::tests::{check, set_flags};
 use tz_model::{DataOp, Flags, Insn, Shift};
 
 /// The operation, its operands, the flags before, and the result in R2, which was 7, with the flags after.
@@ -42,7 +43,7 @@ static OPERATIONS: [(DataOp, u32, u32, u8, u32, u8); 26] = [
 
 #[test]
 fn operations_of_registers(rt: HostRuntime) {
-    for (op, x, y, before, want, after) in &OPERATIONS {
+    for (row, (op, x, y, before, want, after)) in OPERATIONS.iter().enumerate() {
         let mut core = core_with([*x, *y, 7, 0]);
         set_flags(&mut core, *before);
         let insn = Insn::DataReg {
@@ -54,11 +55,7 @@ fn operations_of_registers(rt: HostRuntime) {
             shift: Shift::Lsl,
             amount: 0,
         };
-        assert_eq!(rt;
-            result_of(&insn, &mut core),
-            Some((*want, *after)),
-            "{x:08x} {y:08x}"
-        );
+        check(&rt, &insn, &mut core, (*want, *after), row);
     }
 }
 
@@ -77,7 +74,7 @@ static CONSTANTS: [(u16, u8, u32, u8); 9] = [
 
 #[test]
 fn constants(rt: HostRuntime) {
-    for (imm12, before, want, after) in &CONSTANTS {
+    for (row, (imm12, before, want, after)) in CONSTANTS.iter().enumerate() {
         let mut core = core_with([0, 0, 7, 0]);
         set_flags(&mut core, *before);
         let insn = Insn::DataImm {
@@ -87,11 +84,7 @@ fn constants(rt: HostRuntime) {
             rn: 15,
             imm12: *imm12,
         };
-        assert_eq!(rt;
-            result_of(&insn, &mut core),
-            Some((*want, *after)),
-            "{imm12:03x}"
-        );
+        check(&rt, &insn, &mut core, (*want, *after), row);
     }
 }
 
@@ -110,7 +103,7 @@ static FLAGS: [(Flags, u8, u8); 8] = [
 
 #[test]
 fn flags_in_it_blocks(rt: HostRuntime) {
-    for (flags, it, after) in &FLAGS {
+    for (row, (flags, it, after)) in FLAGS.iter().enumerate() {
         let mut core = core_with([0xffff_ffff, 0, 7, 0]);
         core.registers.it = *it;
         set_flags(&mut core, 0b10011);
@@ -121,6 +114,6 @@ fn flags_in_it_blocks(rt: HostRuntime) {
             rn: 0,
             imm12: 1,
         };
-        assert_eq!(rt; result_of(&insn, &mut core), Some((0, *after)), "{it:02x}");
+        check(&rt, &insn, &mut core, (0, *after), row);
     }
 }

@@ -1,6 +1,7 @@
 //! Branches to an offset, and their conditions.
 
-use crate::{branch_text, core_of};
+use crate::core_of;
+use crate::tests::check_branch;
 use std::test::Fail;
 use tz_model::{Insn, Side, TablePort};
 
@@ -16,12 +17,11 @@ static OFFSETS: [(u32, i32, &str); 6] = [
 
 #[test]
 fn branches(rt: HostRuntime) -> Result<(), Fail> {
-    for (pc, offset, want) in &OFFSETS {
+    for (row, (pc, offset, want)) in OFFSETS.iter().enumerate() {
         let core = core_of(Side::Secure, *pc, &[]);
         let mut port = TablePort::new(&[], None);
         let insn = Insn::Branch { offset: *offset };
-        let found = branch_text(rt.alloc(), &insn, &core, &mut port)?;
-        assert_eq!(rt; found.as_str(), *want, "{pc:x} {offset}");
+        check_branch(&rt, rt.alloc(), &insn, &core, &mut port, want, row)?;
     }
     Ok(())
 }
@@ -66,7 +66,7 @@ static CONDITIONS: [(u8, [bool; 4], bool); 34] = [
 
 #[test]
 fn conditions(rt: HostRuntime) -> Result<(), Fail> {
-    for (cond, [n, z, c, v], holds) in &CONDITIONS {
+    for (row, (cond, [n, z, c, v], holds)) in CONDITIONS.iter().enumerate() {
         let mut core = core_of(Side::NonSecure, 0x1000, &[]);
         core.registers.apsr.n = *n;
         core.registers.apsr.z = *z;
@@ -77,9 +77,8 @@ fn conditions(rt: HostRuntime) -> Result<(), Fail> {
             cond: *cond,
             offset: 4,
         };
-        let found = branch_text(rt.alloc(), &insn, &core, &mut port)?;
         let want = if *holds { "jump 1008" } else { "next" };
-        assert_eq!(rt; found.as_str(), want, "condition {cond}, {n} {z} {c} {v}");
+        check_branch(&rt, rt.alloc(), &insn, &core, &mut port, want, row)?;
     }
     Ok(())
 }
@@ -96,7 +95,7 @@ static ZEROS: [(bool, u32, &str); 6] = [
 
 #[test]
 fn compares_with_zero(rt: HostRuntime) -> Result<(), Fail> {
-    for (nonzero, value, want) in &ZEROS {
+    for (row, (nonzero, value, want)) in ZEROS.iter().enumerate() {
         let core = core_of(Side::Secure, 0x1002, &[(2, *value), (3, 7)]);
         let mut port = TablePort::new(&[], None);
         let insn = Insn::BranchZero {
@@ -104,8 +103,7 @@ fn compares_with_zero(rt: HostRuntime) -> Result<(), Fail> {
             rn: 2,
             offset: 0x40,
         };
-        let found = branch_text(rt.alloc(), &insn, &core, &mut port)?;
-        assert_eq!(rt; found.as_str(), *want, "{nonzero} {value:x}");
+        check_branch(&rt, rt.alloc(), &insn, &core, &mut port, want, row)?;
     }
     Ok(())
 }

@@ -1,6 +1,7 @@
 //! Calls, branches to a register, and IT.
 
-use crate::{branch_text, core_of};
+use crate::core_of;
+use crate::tests::check_branch;
 use std::test::Fail;
 use tz_model::{Insn, Side, TablePort};
 
@@ -41,11 +42,10 @@ static CALLS: [(u32, Insn, &str); 6] = [
 
 #[test]
 fn calls(rt: HostRuntime) -> Result<(), Fail> {
-    for (pc, insn, want) in &CALLS {
+    for (row, (pc, insn, want)) in CALLS.iter().enumerate() {
         let core = core_of(Side::NonSecure, *pc, &BEFORE);
         let mut port = TablePort::new(&[], None);
-        let found = branch_text(rt.alloc(), insn, &core, &mut port)?;
-        assert_eq!(rt; found.as_str(), *want);
+        check_branch(&rt, rt.alloc(), insn, &core, &mut port, want, row)?;
     }
     Ok(())
 }
@@ -129,11 +129,10 @@ static OTHERS: [(Side, Insn, &str); 16] = [
 
 #[test]
 fn exchanges_and_blocks(rt: HostRuntime) -> Result<(), Fail> {
-    for (side, insn, want) in &OTHERS {
+    for (row, (side, insn, want)) in OTHERS.iter().enumerate() {
         let core = core_of(*side, 0x1000, &BEFORE);
         let mut port = TablePort::new(&[], None);
-        let found = branch_text(rt.alloc(), insn, &core, &mut port)?;
-        assert_eq!(rt; found.as_str(), *want);
+        check_branch(&rt, rt.alloc(), insn, &core, &mut port, want, row)?;
     }
     Ok(())
 }

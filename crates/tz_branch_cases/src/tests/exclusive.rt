@@ -1,6 +1,7 @@
 //! Exclusive loads, and exclusive stores that the monitor lets through.
 
-use crate::{core_of, load_store_text};
+use crate::core_of;
+use crate::tests::check_load_store;
 use std::test::Fail;
 use tz_model::{Insn, Side, Size, TableEntry, TablePort};
 
@@ -70,7 +71,7 @@ static CASES: [(Size, bool, i32, &str, &str); 8] = [
 
 #[test]
 fn exclusives(rt: HostRuntime) -> Result<(), Fail> {
-    for (size, ordered, offset, loaded, stored) in &CASES {
+    for (row, (size, ordered, offset, loaded, stored)) in CASES.iter().enumerate() {
         let core = core_of(Side::Secure, 0x1000, &BEFORE);
         let mut port = TablePort::new(&ENTRIES, Some(0x2000_0004));
         let load = Insn::LoadExclusive {
@@ -80,8 +81,7 @@ fn exclusives(rt: HostRuntime) -> Result<(), Fail> {
             rn: 0,
             offset: *offset,
         };
-        let found = load_store_text(rt.alloc(), &load, &core, &mut port)?;
-        assert_eq!(rt; found.as_str(), *loaded, "{offset}");
+        check_load_store(&rt, rt.alloc(), &load, &core, &mut port, loaded, row)?;
         let mut port = TablePort::new(&ENTRIES, Some(0x2000_0004));
         let store = Insn::StoreExclusive {
             size: *size,
@@ -91,8 +91,7 @@ fn exclusives(rt: HostRuntime) -> Result<(), Fail> {
             rn: 0,
             offset: *offset,
         };
-        let found = load_store_text(rt.alloc(), &store, &core, &mut port)?;
-        assert_eq!(rt; found.as_str(), *stored, "{offset}");
+        check_load_store(&rt, rt.alloc(), &store, &core, &mut port, stored, row)?;
     }
     Ok(())
 }

@@ -1,7 +1,8 @@
 //! Loads and stores of words at an offset.
 
 use super::{Way, address, load, store};
-use crate::{core_of, load_store_text};
+use crate::core_of;
+use crate::tests::check_load_store;
 use std::test::Fail;
 use tz_model::{Address, Insn, Side, TableEntry, TablePort};
 
@@ -60,12 +61,11 @@ static LOADS: [(u32, u8, u8, i32, &str); 12] = [
 
 #[test]
 fn loads(rt: HostRuntime) -> Result<(), Fail> {
-    for (pc, register, rn, offset, want) in &LOADS {
+    for (row, (pc, register, rn, offset, want)) in LOADS.iter().enumerate() {
         let core = core_of(Side::NonSecure, *pc, &BEFORE);
         let mut port = TablePort::new(&ENTRIES, Some(FAILING));
         let insn = load(*register, place(*rn, *offset));
-        let found = load_store_text(rt.alloc(), &insn, &core, &mut port)?;
-        assert_eq!(rt; found.as_str(), *want, "{pc:x} {register} {rn}");
+        check_load_store(&rt, rt.alloc(), &insn, &core, &mut port, want, row)?;
     }
     Ok(())
 }
@@ -82,12 +82,11 @@ static STORES: [(u8, u8, i32, &str); 6] = [
 
 #[test]
 fn stores(rt: HostRuntime) -> Result<(), Fail> {
-    for (register, rn, offset, want) in &STORES {
+    for (row, (register, rn, offset, want)) in STORES.iter().enumerate() {
         let core = core_of(Side::Secure, 0x1000, &BEFORE);
         let mut port = TablePort::new(&ENTRIES, Some(FAILING));
         let insn = store(*register, place(*rn, *offset));
-        let found = load_store_text(rt.alloc(), &insn, &core, &mut port)?;
-        assert_eq!(rt; found.as_str(), *want, "{register} {rn}");
+        check_load_store(&rt, rt.alloc(), &insn, &core, &mut port, want, row)?;
     }
     Ok(())
 }
@@ -97,7 +96,6 @@ fn another_family(rt: HostRuntime) -> Result<(), Fail> {
     let core = core_of(Side::Secure, 0x1000, &BEFORE);
     let mut port = TablePort::new(&ENTRIES, None);
     let insn = Insn::Branch { offset: 4 };
-    let found = load_store_text(rt.alloc(), &insn, &core, &mut port)?;
-    assert_eq!(rt; found.as_str(), "undef");
+    check_load_store(&rt, rt.alloc(), &insn, &core, &mut port, "undef", 0)?;
     Ok(())
 }

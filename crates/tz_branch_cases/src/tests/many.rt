@@ -2,7 +2,8 @@
 
 use super::Order::{Down, DownAndBack, Up, UpAndBack};
 use super::{Order, load_many, store_many};
-use crate::{core_of, load_store_text};
+use crate::core_of;
+use crate::tests::check_load_store;
 use std::test::Fail;
 use tz_model::{Side, TableEntry, TablePort};
 
@@ -195,14 +196,13 @@ static LOADS: [(Order, u8, u32, u16, u32, &str); 20] = [
 
 #[test]
 fn loads_of_many(rt: HostRuntime) -> Result<(), Fail> {
-    for (order, rn, base, list, failing, want) in &LOADS {
+    for (row, (order, rn, base, list, failing, want)) in LOADS.iter().enumerate() {
         let mut core = core_of(Side::NonSecure, 0x1000, &BEFORE);
         core.put(*rn, *base);
         core.stacks_ns.msplim = LIMIT;
         let mut port = TablePort::new(&ENTRIES, Some(*failing));
         let insn = load_many(*order, *rn, *list);
-        let found = load_store_text(rt.alloc(), &insn, &core, &mut port)?;
-        assert_eq!(rt; found.as_str(), *want, "{rn} {base:x} {list:x}");
+        check_load_store(&rt, rt.alloc(), &insn, &core, &mut port, want, row)?;
     }
     Ok(())
 }
@@ -332,14 +332,13 @@ static STORES: [(Order, u8, u32, u16, u32, &str); 16] = [
 
 #[test]
 fn stores_of_many(rt: HostRuntime) -> Result<(), Fail> {
-    for (order, rn, base, list, failing, want) in &STORES {
+    for (row, (order, rn, base, list, failing, want)) in STORES.iter().enumerate() {
         let mut core = core_of(Side::Secure, 0x1000, &BEFORE);
         core.put(*rn, *base);
         core.stacks_s.msplim = LIMIT;
         let mut port = TablePort::new(&[], Some(*failing));
         let insn = store_many(*order, *rn, *list);
-        let found = load_store_text(rt.alloc(), &insn, &core, &mut port)?;
-        assert_eq!(rt; found.as_str(), *want, "{rn} {base:x} {list:x}");
+        check_load_store(&rt, rt.alloc(), &insn, &core, &mut port, want, row)?;
     }
     Ok(())
 }

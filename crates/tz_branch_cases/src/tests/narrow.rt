@@ -1,6 +1,7 @@
 //! Loads and stores of bytes and halfwords.
 
-use crate::{core_of, load_store_text};
+use crate::core_of;
+use crate::tests::check_load_store;
 use std::test::Fail;
 use tz_model::{Address, Insn, Side, Size, TableEntry, TablePort};
 
@@ -31,7 +32,7 @@ static LOADS: [(Size, bool, i32, &str); 9] = [
 
 #[test]
 fn narrow_loads(rt: HostRuntime) -> Result<(), Fail> {
-    for (size, signed, offset, want) in &LOADS {
+    for (row, (size, signed, offset, want)) in LOADS.iter().enumerate() {
         let core = core_of(Side::Secure, 0x1000, &[(0, 0x2000_0000), (3, 0xcafe_0123)]);
         let mut port = TablePort::new(&ENTRIES, Some(0x2000_0008));
         let insn = Insn::Load {
@@ -44,8 +45,7 @@ fn narrow_loads(rt: HostRuntime) -> Result<(), Fail> {
             },
             user: false,
         };
-        let found = load_store_text(rt.alloc(), &insn, &core, &mut port)?;
-        assert_eq!(rt; found.as_str(), *want, "{signed} {offset}");
+        check_load_store(&rt, rt.alloc(), &insn, &core, &mut port, want, row)?;
     }
     Ok(())
 }
@@ -60,7 +60,7 @@ static STORES: [(Size, i32, &str); 4] = [
 
 #[test]
 fn narrow_stores(rt: HostRuntime) -> Result<(), Fail> {
-    for (size, offset, want) in &STORES {
+    for (row, (size, offset, want)) in STORES.iter().enumerate() {
         let core = core_of(Side::Secure, 0x1000, &[(0, 0x2000_0000), (3, 0xcafe_8123)]);
         let mut port = TablePort::new(&ENTRIES, Some(0x2000_0008));
         let insn = Insn::Store {
@@ -72,8 +72,7 @@ fn narrow_stores(rt: HostRuntime) -> Result<(), Fail> {
             },
             user: true,
         };
-        let found = load_store_text(rt.alloc(), &insn, &core, &mut port)?;
-        assert_eq!(rt; found.as_str(), *want, "{offset}");
+        check_load_store(&rt, rt.alloc(), &insn, &core, &mut port, want, row)?;
     }
     Ok(())
 }

@@ -1,6 +1,7 @@
 //! Loads that acquire, stores that release, and preloads.
 
-use crate::{core_of, load_store_text};
+use crate::core_of;
+use crate::tests::check_load_store;
 use std::test::Fail;
 use tz_model::{Insn, Side, Size, TableEntry, TablePort};
 
@@ -84,11 +85,10 @@ static CASES: [(Insn, &str); 9] = [
 
 #[test]
 fn ordered(rt: HostRuntime) -> Result<(), Fail> {
-    for (insn, want) in &CASES {
+    for (row, (insn, want)) in CASES.iter().enumerate() {
         let core = core_of(Side::Secure, 0x1000, &BEFORE);
         let mut port = TablePort::new(&ENTRIES, Some(0x2000_0004));
-        let found = load_store_text(rt.alloc(), insn, &core, &mut port)?;
-        assert_eq!(rt; found.as_str(), *want);
+        check_load_store(&rt, rt.alloc(), insn, &core, &mut port, want, row)?;
     }
     Ok(())
 }

@@ -2,7 +2,8 @@
 
 use super::Way::{Literal, Offset, Post, Pre};
 use super::{Way, address};
-use crate::{core_of, load_store_text};
+use crate::core_of;
+use crate::tests::check_load_store;
 use std::test::Fail;
 use tz_model::{Insn, Side, TableEntry, TablePort};
 
@@ -43,7 +44,7 @@ static LOADS: [(Way, u8, i32, u32, &str); 8] = [
 
 #[test]
 fn load_pairs(rt: HostRuntime) -> Result<(), Fail> {
-    for (way, rn, offset, failing, want) in &LOADS {
+    for (row, (way, rn, offset, failing, want)) in LOADS.iter().enumerate() {
         let mut core = core_of(Side::NonSecure, 0x1000, &BEFORE);
         core.stacks_ns.msplim = 0x2000_0100;
         let mut port = TablePort::new(&ENTRIES, Some(*failing));
@@ -52,8 +53,7 @@ fn load_pairs(rt: HostRuntime) -> Result<(), Fail> {
             rt2: 3,
             address: address(*way, *rn, *offset),
         };
-        let found = load_store_text(rt.alloc(), &insn, &core, &mut port)?;
-        assert_eq!(rt; found.as_str(), *want, "{rn} {offset} {failing:x}");
+        check_load_store(&rt, rt.alloc(), &insn, &core, &mut port, want, row)?;
     }
     Ok(())
 }
@@ -82,7 +82,7 @@ static STORES: [(Way, u8, i32, u32, &str); 6] = [
 
 #[test]
 fn store_pairs(rt: HostRuntime) -> Result<(), Fail> {
-    for (way, rn, offset, failing, want) in &STORES {
+    for (row, (way, rn, offset, failing, want)) in STORES.iter().enumerate() {
         let mut core = core_of(Side::NonSecure, 0x1000, &BEFORE);
         core.stacks_ns.msplim = 0x2000_0100;
         let mut port = TablePort::new(&ENTRIES, Some(*failing));
@@ -91,8 +91,7 @@ fn store_pairs(rt: HostRuntime) -> Result<(), Fail> {
             rt2: 3,
             address: address(*way, *rn, *offset),
         };
-        let found = load_store_text(rt.alloc(), &insn, &core, &mut port)?;
-        assert_eq!(rt; found.as_str(), *want, "{rn} {offset} {failing:x}");
+        check_load_store(&rt, rt.alloc(), &insn, &core, &mut port, want, row)?;
     }
     Ok(())
 }

@@ -1,6 +1,7 @@
 //! Table branches.
 
-use crate::{branch_text, core_of};
+use crate::core_of;
+use crate::tests::check_branch;
 use std::test::Fail;
 use tz_model::{Insn, Side, TableEntry, TablePort};
 
@@ -40,7 +41,7 @@ static BRANCHES: [(bool, u8, u8, u32, &str); 10] = [
 
 #[test]
 fn table_branches(rt: HostRuntime) -> Result<(), Fail> {
-    for (half, rn, rm, failing, want) in &BRANCHES {
+    for (row, (half, rn, rm, failing, want)) in BRANCHES.iter().enumerate() {
         let core = core_of(Side::NonSecure, 0x1000, &[(0, 0x2000_0000), (1, 3), (2, 5)]);
         let mut port = TablePort::new(&ENTRIES, Some(*failing));
         let insn = Insn::TableBranch {
@@ -48,8 +49,7 @@ fn table_branches(rt: HostRuntime) -> Result<(), Fail> {
             rn: *rn,
             rm: *rm,
         };
-        let found = branch_text(rt.alloc(), &insn, &core, &mut port)?;
-        assert_eq!(rt; found.as_str(), *want, "{half} {rn} {rm}");
+        check_branch(&rt, rt.alloc(), &insn, &core, &mut port, want, row)?;
     }
     Ok(())
 }

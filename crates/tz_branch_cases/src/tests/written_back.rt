@@ -2,7 +2,8 @@
 
 use super::Way::{Offset, Post, Pre};
 use super::{Way, address, load, store};
-use crate::{core_of, load_store_text};
+use crate::core_of;
+use crate::tests::check_load_store;
 use std::test::Fail;
 use tz_model::{Address, Side, TableEntry, TablePort};
 
@@ -64,12 +65,11 @@ static LOADS: [(u8, Way, u8, i32, &str); 10] = [
 
 #[test]
 fn loads(rt: HostRuntime) -> Result<(), Fail> {
-    for (register, way, rn, offset, want) in &LOADS {
+    for (row, (register, way, rn, offset, want)) in LOADS.iter().enumerate() {
         let core = core_of(Side::NonSecure, 0x1000, &BEFORE);
         let mut port = TablePort::new(&ENTRIES, Some(FAILING));
         let insn = load(*register, address(*way, *rn, *offset));
-        let found = load_store_text(rt.alloc(), &insn, &core, &mut port)?;
-        assert_eq!(rt; found.as_str(), *want, "{register} {rn} {offset}");
+        check_load_store(&rt, rt.alloc(), &insn, &core, &mut port, want, row)?;
     }
     Ok(())
 }
@@ -91,13 +91,12 @@ static STORES: [(u8, Way, u8, i32, &str); 10] = [
 
 #[test]
 fn stores(rt: HostRuntime) -> Result<(), Fail> {
-    for (register, way, rn, offset, want) in &STORES {
+    for (row, (register, way, rn, offset, want)) in STORES.iter().enumerate() {
         let mut core = core_of(Side::Secure, 0x1000, &BEFORE);
         core.stacks_s.msplim = 0x2000_00f8;
         let mut port = TablePort::new(&ENTRIES, Some(FAILING));
         let insn = store(*register, address(*way, *rn, *offset));
-        let found = load_store_text(rt.alloc(), &insn, &core, &mut port)?;
-        assert_eq!(rt; found.as_str(), *want, "{register} {rn} {offset}");
+        check_load_store(&rt, rt.alloc(), &insn, &core, &mut port, want, row)?;
     }
     Ok(())
 }
@@ -113,18 +112,32 @@ static INDICES: [(u8, u8, &str, &str); 4] = [
 #[test]
 fn indices(rt: HostRuntime) -> Result<(), Fail> {
     let core = core_of(Side::Secure, 0x1000, &BEFORE);
-    for (rm, amount, loaded, stored) in &INDICES {
+    for (row, (rm, amount, loaded, stored)) in INDICES.iter().enumerate() {
         let index = Address::Index {
             rn: 0,
             rm: *rm,
             amount: *amount,
         };
         let mut port = TablePort::new(&ENTRIES, Some(FAILING));
-        let found = load_store_text(rt.alloc(), &load(3, index), &core, &mut port)?;
-        assert_eq!(rt; found.as_str(), *loaded, "{rm} {amount}");
+        check_load_store(
+            &rt,
+            rt.alloc(),
+            &load(3, index),
+            &core,
+            &mut port,
+            loaded,
+            row,
+        )?;
         let mut port = TablePort::new(&ENTRIES, Some(FAILING));
-        let found = load_store_text(rt.alloc(), &store(3, index), &core, &mut port)?;
-        assert_eq!(rt; found.as_str(), *stored, "{rm} {amount}");
+        check_load_store(
+            &rt,
+            rt.alloc(),
+            &store(3, index),
+            &core,
+            &mut port,
+            stored,
+            row,
+        )?;
     }
     Ok(())
 }

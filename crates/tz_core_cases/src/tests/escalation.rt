@@ -1,7 +1,6 @@
 //! What an exception becomes: as it is, HardFault, or lockup where HardFault can't be taken.
 
-use crate::ended_as;
-use crate::tests::{ENABLED, GO, TURNED};
+use crate::tests::{ENABLED, GO, TURNED, compare_ended};
 use std::test::Fail;
 
 /// The words that are written, Secure code, Non-secure code, and what is shown. What is enabled counts beside masks.
@@ -183,8 +182,7 @@ static ROWS: [(&[(u32, u32)], &str, &str, &str); 28] = [
 #[test]
 fn escalates(rt: HostRuntime) -> Result<(), Fail> {
     for (writes, secure, nonsecure, want) in &ROWS {
-        let found = ended_as(rt.alloc(), [writes, &[]], secure, nonsecure)?;
-        assert_eq!(rt; found.as_str(), *want);
+        compare_ended(&rt, rt.alloc(), [writes, &[]], [secure, nonsecure], want)?;
     }
     Ok(())
 }

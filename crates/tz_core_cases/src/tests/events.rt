@@ -1,7 +1,10 @@
 //! Events that are due: of interrupts, of NMI, and of interrupts that the board hasn't.
 
-use crate::tests::TURNED;
-use crate::{NOWHERE, machine_of, run_to, shown, step_kind};
+use crate::run_to;
+use crate::tests::told::{NOWHERE, machine_of};
+use crate::tests::{TURNED, compare_step};
+use std::alloc::Global;
+use std::process::Abort;
 use std::test::Fail;
 use tz_model::ScriptEvent;
 
@@ -77,38 +80,48 @@ static ROWS: [(&[(u32, u32)], &[ScriptEvent], &str, &str); 11] = [
     ),
 ];
 
+/// Runs a branch to itself with these events at a step.
+fn compare_row(
+    rt: &impl Abort,
+    alloc: Global,
+    writes: &[(u32, u32)],
+    due: &[ScriptEvent],
+    kind: &str,
+    want: &str,
+) -> Result<(), Fail> {
+    let mut machine = machine_of(alloc, [writes, &[]], "here: b here", "")?;
+    run_to(&mut machine, 0x1000_0400);
+    compare_step(rt, alloc, &mut machine, due, kind, want)
+}
+
 #[test]
 fn events_pend(rt: HostRuntime) -> Result<(), Fail> {
     for (writes, due, kind, want) in &ROWS {
-        let mut machine = machine_of(rt.alloc(), [writes, &[]], "here: b here", "")?;
-        run_to(&mut machine, 0x1000_0400);
-        assert_eq!(rt; step_kind(&mut machine, due), *kind, "{want}");
-        let found = shown(rt.alloc(), &machine)?;
-        assert_eq!(rt; found.as_str(), *want);
+        compare_row(&rt, rt.alloc(), writes, due, kind, want)?;
     }
     Ok(())
 }
+
+/// The events of steps of a locked machine, and what is shown.
+static LOCKED: [(&[ScriptEvent], &str); 3] = [
+    (
+        &[ScriptEvent::Irq(2)],
+        "locked at 10000402 ufsr_s 1 hfsr 40000000 pends 18s",
+    ),
+    (&[], "locked at 10000402 ufsr_s 1 hfsr 40000000 pends 18s"),
+    (
+        &[ScriptEvent::Irq(8), ScriptEvent::Nmi],
+        "locked at 10000402 ufsr_s 1 hfsr 40000000 pends 2s pends 18s",
+    ),
+];
 
 /// Events of a locked machine pend, and it does nothing else.
 #[test]
 fn a_locked_machine_takes_events(rt: HostRuntime) -> Result<(), Fail> {
     let mut machine = machine_of(rt.alloc(), [&[], &[]], "cpsid f\nudf #0", "")?;
     run_to(&mut machine, NOWHERE);
-    let cases: [(&[ScriptEvent], &str); 3] = [
-        (
-            &[ScriptEvent::Irq(2)],
-            "locked at 10000402 ufsr_s 1 hfsr 40000000 pends 18s",
-        ),
-        (&[], "locked at 10000402 ufsr_s 1 hfsr 40000000 pends 18s"),
-        (
-            &[ScriptEvent::Irq(8), ScriptEvent::Nmi],
-            "locked at 10000402 ufsr_s 1 hfsr 40000000 pends 2s pends 18s",
-        ),
-    ];
-    for (due, want) in &cases {
-        assert_eq!(rt; step_kind(&mut machine, due), "locked");
-        let found = shown(rt.alloc(), &machine)?;
-        assert_eq!(rt; found.as_str(), *want);
+    for (due, want) in &LOCKED {
+        compare_step(&rt, rt.alloc(), &mut machine, due, "locked", want)?;
     }
     Ok(())
 }

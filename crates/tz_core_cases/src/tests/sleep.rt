@@ -1,8 +1,12 @@
 //! WFI and WFE: what a core sleeps through, and what ends its sleep.
 
-use crate::tests::GO;
-use crate::{flag_text, machine_of, run_to, shown, step_kind};
+use crate::run_to;
+use crate::tests::told::{flag_text, machine_of, step_kind};
+use crate::tests::{GO, check, compare_shown};
+use std::alloc::Global;
+use std::process::Abort;
 use std::test::Fail;
+use tz_core::Machine;
 use tz_model::ScriptEvent;
 
 /// Interrupt 0 enabled.
@@ -49,7 +53,16 @@ const NMI: &[ScriptEvent] = &[ScriptEvent::Nmi];
 
 /// The words that are written, Secure code, where it stands after its last hint, the steps after that, the event flag,
 /// and what is shown in the end.
-static ROWS: [(&[(u32, u32)], &str, u32, &[Slept], &str, &str); 21] = [
+type Row = (
+    &'static [(u32, u32)],
+    &'static str,
+    u32,
+    &'static [Slept],
+    &'static str,
+    &'static str,
+);
+
+static ROWS: [Row; 21] = [
     (
         ENABLED,
         "wfi\nnop\nnop",
@@ -235,17 +248,33 @@ static ROWS: [(&[(u32, u32)], &str, u32, &[Slept], &str, &str); 21] = [
     ),
 ];
 
+/// Makes the steps of a row, and compares what they were, the event flag and what is shown.
+fn compare_steps(
+    rt: &impl Abort,
+    alloc: Global,
+    machine: &mut Machine,
+    row: &Row,
+) -> Result<(), Fail> {
+    let (_, code, _, steps, flag, want) = row;
+    for (due, kind) in *steps {
+        check(rt, step_kind(machine, due), kind, code);
+    }
+    check(rt, flag_text(machine), flag, code);
+    compare_shown(rt, alloc, machine, want, code)
+}
+
+/// Runs a row to its last hint, and goes on with its steps.
+fn compare_row(rt: &impl Abort, alloc: Global, row: &Row) -> Result<(), Fail> {
+    let (writes, code, start, _, _, _) = row;
+    let mut machine = machine_of(alloc, [writes, &[]], code, NONSECURE_CODE)?;
+    run_to(&mut machine, *start);
+    compare_steps(rt, alloc, &mut machine, row)
+}
+
 #[test]
 fn sleeps_and_wakes(rt: HostRuntime) -> Result<(), Fail> {
-    for (writes, code, start, steps, flag, want) in &ROWS {
-        let mut machine = machine_of(rt.alloc(), [writes, &[]], code, NONSECURE_CODE)?;
-        run_to(&mut machine, *start);
-        for (due, kind) in *steps {
-            assert_eq!(rt; step_kind(&mut machine, due), *kind, "{code}");
-        }
-        assert_eq!(rt; flag_text(&machine), *flag, "{code}");
-        let found = shown(rt.alloc(), &machine)?;
-        assert_eq!(rt; found.as_str(), *want, "{code}");
+    for row in &ROWS {
+        compare_row(&rt, rt.alloc(), row)?;
     }
     Ok(())
 }

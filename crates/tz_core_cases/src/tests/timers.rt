@@ -1,7 +1,12 @@
 //! The timers: each step is a count, of a locked machine too.
 
-use crate::{machine_of, run_to, shown, step_kind, timers_text};
+use crate::run_to;
+use crate::tests::told::{machine_of, step_kind, timers_text};
+use crate::tests::{check, compare_shown};
+use std::alloc::Global;
+use std::process::Abort;
 use std::test::Fail;
+use tz_core::Machine;
 
 /// A reload value of 2 for both timers.
 const TWO: &[(u32, u32)] = &[(0xE000_E014, 2), (0xE002_E014, 2)];
@@ -11,7 +16,15 @@ type Count = (&'static str, &'static str);
 
 /// The words that are written, Secure code, where it stands after its write of CSR, the steps after that, and what is
 /// shown in the end.
-static ROWS: [(&[(u32, u32)], &str, u32, &[Count], &str); 7] = [
+type Row = (
+    &'static [(u32, u32)],
+    &'static str,
+    u32,
+    &'static [Count],
+    &'static str,
+);
+
+static ROWS: [Row; 7] = [
     // ENABLE and TICKINT: the count to 0 pends SysTick, which is taken; its handler counts on, and it pends again
     (
         TWO,
@@ -100,18 +113,45 @@ static ROWS: [(&[(u32, u32)], &str, u32, &[Count], &str); 7] = [
     ),
 ];
 
+/// Compares CVR and CSR of both timers.
+fn compare_timers(
+    rt: &impl Abort,
+    alloc: Global,
+    machine: &Machine,
+    want: &str,
+) -> Result<(), Fail> {
+    let found = timers_text(alloc, machine)?;
+    check(rt, found.as_str(), want, "");
+    Ok(())
+}
+
+/// Makes steps, and compares what they were and the timers after each.
+fn compare_counts(
+    rt: &impl Abort,
+    alloc: Global,
+    machine: &mut Machine,
+    counts: &[Count],
+) -> Result<(), Fail> {
+    for (kind, timers) in counts {
+        check(rt, step_kind(machine, &[]), kind, timers);
+        compare_timers(rt, alloc, machine, timers)?;
+    }
+    Ok(())
+}
+
+/// Runs a row to its write of CSR, and goes on with its steps.
+fn compare_row(rt: &impl Abort, alloc: Global, row: &Row) -> Result<(), Fail> {
+    let (writes, code, start, counts, want) = row;
+    let mut machine = machine_of(alloc, [writes, &[]], code, "")?;
+    run_to(&mut machine, *start);
+    compare_counts(rt, alloc, &mut machine, counts)?;
+    compare_shown(rt, alloc, &machine, want, code)
+}
+
 #[test]
 fn each_step_counts(rt: HostRuntime) -> Result<(), Fail> {
-    for (writes, code, start, counts, want) in &ROWS {
-        let mut machine = machine_of(rt.alloc(), [writes, &[]], code, "")?;
-        run_to(&mut machine, *start);
-        for (kind, timers) in *counts {
-            assert_eq!(rt; step_kind(&mut machine, &[]), *kind);
-            let found = timers_text(rt.alloc(), &machine)?;
-            assert_eq!(rt; found.as_str(), *timers);
-        }
-        let found = shown(rt.alloc(), &machine)?;
-        assert_eq!(rt; found.as_str(), *want);
+    for row in &ROWS {
+        compare_row(&rt, rt.alloc(), row)?;
     }
     Ok(())
 }
