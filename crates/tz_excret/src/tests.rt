@@ -201,3 +201,8 @@ fn compare(rt: &impl Abort, name: &str, found: &Outcome, wanted: &Outcome) {
     let taken = found.0.0 == wanted.0.0 && found.0.1 == wanted.0.1 && found.0.2 == wanted.0.2;
     assert!(rt; taken && words && lists, "{name}");
 }
+
+/// Compares an answer with what is wanted.
+fn agrees(rt: &impl Abort, name: &str, found: bool, wanted: bool) {
+    assert!(rt; found == wanted, "{name}");
+}

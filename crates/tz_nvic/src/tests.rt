@@ -2,6 +2,9 @@
 
 ghost use Rattle.std.specs.Prelude.{◌≡◌, ◌<◌};
 
+mod known;
+mod timers;
+
 use crate::{Exceptions, PLACES, SlotState, Steps, Timer};
 use std::marker::Brand;
 use std::process::Abort;
@@ -44,6 +47,38 @@ fn settle(exceptions: &mut Exceptions)
     ensures { exceptions.new ≡ exceptions.old }
 {
     settle_by::<Brand>(Blank::new(1), exceptions);
+}
+
+/// Compares the chosen exception with that of a row.
+fn chosen_is(rt: &impl Abort, exceptions: &Exceptions, wanted: Option<(u16, Side)>, row: usize) {
+    assert_eq!(rt; chosen(exceptions), wanted, "row {row}");
+}
+
+/// Compares a number with that of a row.
+fn same(rt: &impl Abort, found: u32, wanted: u32, row: usize) {
+    assert_eq!(rt; found, wanted, "row {row}");
+}
+
+/// Compares an answer with that of a row.
+fn agrees(rt: &impl Abort, found: bool, wanted: bool, row: usize) {
+    assert_eq!(rt; found, wanted, "row {row}");
+}
+
+/// Whether a slot is pending, active and enabled, and its priority.
+type Standing = (bool, bool, bool, u8);
+
+/// Compares what stands in a slot with what a row tells.
+fn stands(rt: &impl Abort, exceptions: &Exceptions, slot: Slot, wanted: Standing, row: usize) {
+    assert!(rt; exceptions.exists(slot));
+    agrees(rt, exceptions.pending(slot), wanted.0, row);
+    agrees(rt, exceptions.active(slot), wanted.1, row);
+    agrees(rt, exceptions.enabled(slot), wanted.2, row);
+    same(
+        rt,
+        u32::from(exceptions.priority(slot)),
+        u32::from(wanted.3),
+        row,
+    );
 }
 
 /// Sets a slot pending.
@@ -92,75 +127,103 @@ static NUMBERS: [(u16, bool); 19] = [
     (511, false),
 ];
 
-#[test]
-fn starts_with_nothing(rt: HostRuntime) -> Result<(), Fail> {
-    let exceptions = Exceptions::new(rt.alloc(), 8)?;
+/// A slot of a row of `NUMBERS` is there or isn't, and nothing stands in it but that some are always enabled.
+fn starts(rt: &impl Abort, exceptions: &Exceptions, side: Side, row: usize) {
+    assert!(rt; row < NUMBERS.len());
+    let (number, wanted) = NUMBERS[row];
+    let slot = Slot { number, side };
+    let exists = exceptions.exists(slot);
+    agrees(rt, exists, wanted, row);
+    if exists {
+        let always = matches!(number, 2 | 3 | 11 | 14 | 15);
+        stands(rt, exceptions, slot, (false, false, always, 0), row);
+    }
+}
+
+/// Neither the timer of a side nor its grouping is set.
+fn side_starts(rt: &impl Abort, exceptions: &Exceptions, side: Side) {
+    let timer = exceptions.timer(side);
+    assert!(rt; timer.csr == 0 && timer.rvr == 0 && timer.cvr == 0);
+    assert_eq!(rt; exceptions.grouping(side), 0);
+}
+
+/// What isn't of one slot is as after a reset, with eight interrupts.
+fn rest_starts(rt: &impl Abort, exceptions: &Exceptions) {
     assert_eq!(rt; exceptions.interrupts(), 8);
-    assert_eq!(rt; chosen(&exceptions), None);
-    for (number, wanted) in &NUMBERS {
-        for side in [S, NS] {
-            let slot = Slot {
-                number: *number,
-                side,
-            };
-            assert_eq!(rt; exceptions.exists(slot), *wanted, "{number}");
-            if exceptions.exists(slot) {
-                let always = matches!(*number, 2 | 3 | 11 | 14 | 15);
-                assert_eq!(rt; exceptions.enabled(slot), always, "{number}");
-                assert!(rt; !exceptions.pending(slot) && !exceptions.active(slot));
-                assert_eq!(rt; exceptions.priority(slot), 0, "{number}");
-            }
-        }
-    }
-    for side in [S, NS] {
-        let timer = exceptions.timer(side);
-        assert!(rt; timer.csr == 0 && timer.rvr == 0 && timer.cvr == 0);
-        assert_eq!(rt; exceptions.grouping(side), 0);
-    }
+    assert_eq!(rt; chosen(exceptions), None);
+    side_starts(rt, exceptions, S);
+    side_starts(rt, exceptions, NS);
     assert!(rt; !exceptions.pris() && !exceptions.fault_side());
+    assert!(rt; exceptions.interrupts() > 7);
     assert_eq!(rt; exceptions.target(23), S);
-    Ok(())
 }
 
 #[test]
-fn has_fifteen_slots_of_the_system(rt: HostRuntime) -> Result<(), Fail> {
-    for interrupts in [1u16, 240] {
-        let exceptions = Exceptions::new(rt.alloc(), interrupts)?;
-        let mut count: u16 = 0;
-        for index in 0..PLACES {
-            if exceptions.is_place(index) {
-                count = count.saturating_add(1);
-            }
-        }
-        assert_eq!(rt; count, interrupts.saturating_add(15));
+fn starts_with_nothing(rt: HostRuntime) -> Result<(), Fail> {
+    let exceptions = Exceptions::new(rt.alloc(), 8)?;
+    rest_starts(&rt, &exceptions);
+    for row in 0..NUMBERS.len() {
+        starts(&rt, &exceptions, S, row);
+        starts(&rt, &exceptions, NS, row);
     }
     Ok(())
+}
+
+/// How many places have a slot.
+fn places(exceptions: &Exceptions) -> u16 {
+    let mut count: u16 = 0;
+    for index in 0..PLACES {
+        if exceptions.is_place(index) {
+            count = count.saturating_add(1);
+        }
+    }
+    count
+}
+
+/// Numbers of interrupts, and how many slots there are with them.
+static SLOTS: [(u16, u16); 2] = [(1, 16), (240, 255)];
+
+#[test]
+fn has_fifteen_slots_of_the_system(rt: HostRuntime) -> Result<(), Fail> {
+    for &(interrupts, wanted) in SLOTS.iter() {
+        let exceptions = Exceptions::new(rt.alloc(), interrupts)?;
+        assert_eq!(rt; places(&exceptions), wanted);
+    }
+    Ok(())
+}
+
+/// What happens to a slot one after another, and what stands in it after each.
+static CHANGES: [(Event, Standing); 8] = [
+    (Event::Pend(6), (true, false, false, 0)),
+    (Event::Enabled(6, true), (true, false, true, 0)),
+    (Event::Priority(6, 0xa5), (true, false, true, 0xa5)),
+    (Event::Activate(6), (false, true, true, 0xa5)),
+    (Event::Pend(6), (true, true, true, 0xa5)),
+    (Event::Unpend(6), (false, true, true, 0xa5)),
+    (Event::Deactivate(6), (false, false, true, 0xa5)),
+    (Event::Enabled(6, false), (false, false, false, 0xa5)),
+];
+
+/// Changes number 6 of the Non-secure side as a row of `CHANGES` tells; that of the Secure side stays.
+fn change(rt: &impl Abort, exceptions: &mut Exceptions, row: usize) {
+    assert!(rt; row < CHANGES.len());
+    let (event, wanted) = CHANGES[row];
+    let own = Slot {
+        number: 6,
+        side: NS,
+    };
+    happen_to(rt, exceptions, own, event);
+    stands(rt, exceptions, own, wanted, row);
+    let other = Slot { number: 6, side: S };
+    stands(rt, exceptions, other, (false, false, false, 0), row);
 }
 
 #[test]
 fn a_slot_changes_alone(rt: HostRuntime) -> Result<(), Fail> {
     let mut exceptions = Exceptions::new(rt.alloc(), 8)?;
-    let own = Slot {
-        number: 6,
-        side: NS,
-    };
-    let other = Slot { number: 6, side: S };
-    exceptions.pend(own);
-    exceptions.set_enabled(own, true);
-    exceptions.set_priority(own, 0xa5);
-    assert!(rt; exceptions.pending(own) && exceptions.enabled(own));
-    assert_eq!(rt; exceptions.priority(own), 0xa5);
-    assert!(rt; !exceptions.pending(other) && !exceptions.enabled(other));
-    assert_eq!(rt; exceptions.priority(other), 0);
-    exceptions.activate(own);
-    assert!(rt; !exceptions.pending(own) && exceptions.active(own));
-    assert!(rt; !exceptions.active(other));
-    exceptions.pend(own);
-    exceptions.unpend(own);
-    exceptions.deactivate(own);
-    assert!(rt; !exceptions.pending(own) && !exceptions.active(own));
-    exceptions.set_enabled(own, false);
-    assert!(rt; !exceptions.enabled(own));
+    for row in 0..CHANGES.len() {
+        change(&rt, &mut exceptions, row);
+    }
     Ok(())
 }
 
@@ -178,51 +241,64 @@ static KINDS: [(u16, bool, bool); 10] = [
     (16, true, false),
 ];
 
+/// A Secure slot of a row of `KINDS` is enabled and disabled, and given a priority.
+fn try_kind(rt: &impl Abort, exceptions: &mut Exceptions, row: usize) {
+    assert!(rt; row < KINDS.len());
+    let (number, disabled, fixed) = KINDS[row];
+    let slot = Slot { number, side: S };
+    assert!(rt; exceptions.exists(slot));
+    exceptions.set_enabled(slot, true);
+    agrees(rt, exceptions.enabled(slot), true, row);
+    exceptions.set_enabled(slot, false);
+    exceptions.set_priority(slot, 0x7f);
+    let wanted = if fixed { 0 } else { 0x7f };
+    stands(rt, exceptions, slot, (false, false, !disabled, wanted), row);
+}
+
 #[test]
 fn some_are_always_enabled(rt: HostRuntime) -> Result<(), Fail> {
-    for (number, disabled, fixed) in &KINDS {
+    for row in 0..KINDS.len() {
         let mut exceptions = Exceptions::new(rt.alloc(), 8)?;
-        let slot = Slot {
-            number: *number,
-            side: S,
-        };
-        assert!(rt; exceptions.exists(slot));
-        exceptions.set_enabled(slot, true);
-        assert!(rt; exceptions.enabled(slot));
-        exceptions.set_enabled(slot, false);
-        assert_eq!(rt; exceptions.enabled(slot), !*disabled, "{number}");
-        exceptions.set_priority(slot, 0x7f);
-        let wanted = if *fixed { 0 } else { 0x7f };
-        assert_eq!(rt; exceptions.priority(slot), wanted, "{number}");
+        try_kind(&rt, &mut exceptions, row);
     }
     Ok(())
+}
+
+/// With PRIS, 0 of the Non-secure side is before 0x80 of the Secure one, and behind 0x7f.
+fn halve(rt: &impl Abort, exceptions: &mut Exceptions) {
+    exceptions.set_pris(true);
+    interrupt(rt, exceptions, 18, NS, 0);
+    interrupt(rt, exceptions, 21, S, 0x80);
+    chosen_is(rt, exceptions, Some((18, NS)), 0);
+    interrupt(rt, exceptions, 21, S, 0x7f);
+    chosen_is(rt, exceptions, Some((21, S)), 1);
+    exceptions.set_pris(false);
+    chosen_is(rt, exceptions, Some((18, NS)), 2);
 }
 
 #[test]
 fn pris_counts_nonsecure_in_the_upper_half(rt: HostRuntime) -> Result<(), Fail> {
     let mut exceptions = Exceptions::new(rt.alloc(), 8)?;
-    exceptions.set_pris(true);
-    interrupt(&rt, &mut exceptions, 18, NS, 0);
-    interrupt(&rt, &mut exceptions, 21, S, 0x80);
-    assert_eq!(rt; chosen(&exceptions), Some((18, NS)));
-    interrupt(&rt, &mut exceptions, 21, S, 0x7f);
-    assert_eq!(rt; chosen(&exceptions), Some((21, S)));
-    exceptions.set_pris(false);
-    assert_eq!(rt; chosen(&exceptions), Some((18, NS)));
+    halve(&rt, &mut exceptions);
     Ok(())
+}
+
+/// SysTick of both sides pends, first with one priority.
+fn pend_both(rt: &impl Abort, exceptions: &mut Exceptions) {
+    exceptions.set_pris(true);
+    enable(rt, exceptions, 15, NS, 0);
+    pend(rt, exceptions, 15, NS);
+    enable(rt, exceptions, 15, S, 0x80);
+    pend(rt, exceptions, 15, S);
+    chosen_is(rt, exceptions, Some((15, S)), 0);
+    enable(rt, exceptions, 15, S, 0x82);
+    chosen_is(rt, exceptions, Some((15, NS)), 1);
 }
 
 #[test]
 fn of_one_number_secure_comes_first(rt: HostRuntime) -> Result<(), Fail> {
     let mut exceptions = Exceptions::new(rt.alloc(), 8)?;
-    exceptions.set_pris(true);
-    for (side, priority) in [(NS, 0), (S, 0x80)] {
-        enable(&rt, &mut exceptions, 15, side, priority);
-        pend(&rt, &mut exceptions, 15, side);
-    }
-    assert_eq!(rt; chosen(&exceptions), Some((15, S)));
-    enable(&rt, &mut exceptions, 15, S, 0x82);
-    assert_eq!(rt; chosen(&exceptions), Some((15, NS)));
+    pend_both(&rt, &mut exceptions);
     Ok(())
 }
 
@@ -238,22 +314,29 @@ static GROUPS: [(u8, u8, u8, u8, u16); 8] = [
     (7, 0xff, 6, 0x80, 21),
 ];
 
+/// Two interrupts pend as a row of `GROUPS` tells.
+fn choose(rt: &impl Abort, exceptions: &mut Exceptions, row: usize) {
+    assert!(rt; row < GROUPS.len());
+    let (group_s, priority_s, group_ns, priority_ns, wanted) = GROUPS[row];
+    group(rt, exceptions, S, group_s);
+    group(rt, exceptions, NS, group_ns);
+    same(
+        rt,
+        u32::from(exceptions.grouping(S)),
+        u32::from(group_s),
+        row,
+    );
+    interrupt(rt, exceptions, 21, S, priority_s);
+    interrupt(rt, exceptions, 19, NS, priority_ns);
+    let side = if wanted == 21 { S } else { NS };
+    chosen_is(rt, exceptions, Some((wanted, side)), row);
+}
+
 #[test]
 fn chooses_by_group_and_then_by_the_rest(rt: HostRuntime) -> Result<(), Fail> {
-    for (group_s, priority_s, group_ns, priority_ns, wanted) in &GROUPS {
+    for row in 0..GROUPS.len() {
         let mut exceptions = Exceptions::new(rt.alloc(), 8)?;
-        assert!(rt; *group_s < 8 && *group_ns < 8);
-        exceptions.set_grouping(S, *group_s);
-        exceptions.set_grouping(NS, *group_ns);
-        assert_eq!(rt; exceptions.grouping(S), *group_s);
-        interrupt(&rt, &mut exceptions, 21, S, *priority_s);
-        interrupt(&rt, &mut exceptions, 19, NS, *priority_ns);
-        let side = if *wanted == 21 { S } else { NS };
-        assert_eq!(rt;
-            chosen(&exceptions),
-            Some((*wanted, side)),
-            "{priority_s} {priority_ns}"
-        );
+        choose(&rt, &mut exceptions, row);
     }
     Ok(())
 }
@@ -279,9 +362,8 @@ enum Event {
     Nothing,
 }
 
-/// What happens to the slot of a number, on the Secure side where it has two.
-fn happen_to(rt: &impl Abort, exceptions: &mut Exceptions, number: u16, event: Event) {
-    let slot = Slot { number, side: S };
+/// What happens to a slot.
+fn happen_to(rt: &impl Abort, exceptions: &mut Exceptions, slot: Slot, event: Event) {
     assert!(rt; exceptions.exists(slot));
     match event {
         Event::Pend(_) => exceptions.pend(slot),
@@ -313,6 +395,7 @@ fn group(rt: &impl Abort, exceptions: &mut Exceptions, side: Side, n: u8) {
     exceptions.set_grouping(side, n);
 }
 
+/// What happens, to a slot of the Secure side where a number has two.
 fn happen(rt: &impl Abort, exceptions: &mut Exceptions, event: Event) {
     match event {
         Event::Pend(number)
@@ -320,7 +403,7 @@ fn happen(rt: &impl Abort, exceptions: &mut Exceptions, event: Event) {
         | Event::Activate(number)
         | Event::Deactivate(number)
         | Event::Priority(number, _)
-        | Event::Enabled(number, _) => happen_to(rt, exceptions, number, event),
+        | Event::Enabled(number, _) => happen_to(rt, exceptions, Slot { number, side: S }, event),
         Event::Target(number, side) => give(rt, exceptions, number, side),
         Event::Grouping(side, n) => group(rt, exceptions, side, n),
         Event::Pris(on) => exceptions.set_pris(on),
@@ -350,140 +433,56 @@ fn happen(rt: &impl Abort, exceptions: &mut Exceptions, event: Event) {
     }
 }
 
-/// Events one after another, and what is so after each: who is chosen; the least priority of what is active, four
-/// above the manual's; whether an interrupt is pending; and a number with RETTOBASE in its handler.
-static EVENTS: [(Event, Option<(u16, Side)>, u32, bool, u16, bool); 33] = [
-    (Event::Nothing, None, 260, false, 19, true),
-    (Event::Pend(19), None, 260, true, 0, false),
-    (Event::Enabled(19, true), Some((19, S)), 260, true, 19, true),
-    (Event::Pend(21), Some((19, S)), 260, true, 19, true),
-    (Event::Enabled(21, true), Some((19, S)), 260, true, 19, true),
+/// Events of a script one after another, and the places that are pending after each, and no others.
+static SCRIPTS: [(&[ScriptEvent], &[usize]); 3] = [
+    (&[], &[]),
+    (&[ScriptEvent::Irq(8), ScriptEvent::Irq(0xffff)], &[]),
     (
-        Event::Priority(19, 0x42),
-        Some((21, S)),
-        260,
-        true,
-        19,
-        true,
+        &[ScriptEvent::Irq(7), ScriptEvent::Nmi, ScriptEvent::Irq(0)],
+        &[4, 32, 39],
     ),
-    (
-        Event::Priority(21, 0x43),
-        Some((19, S)),
-        260,
-        true,
-        19,
-        true,
-    ),
-    (
-        Event::Priority(21, 0x41),
-        Some((21, S)),
-        260,
-        true,
-        19,
-        true,
-    ),
-    (Event::Target(21, NS), Some((21, NS)), 260, true, 19, true),
-    (Event::Grouping(S, 7), Some((19, S)), 260, true, 19, true),
-    (Event::Grouping(S, 0), Some((21, NS)), 260, true, 19, true),
-    (Event::Pris(true), Some((19, S)), 260, true, 19, true),
-    (Event::Activate(19), Some((21, NS)), 70, true, 19, true),
-    (Event::Nothing, Some((21, NS)), 70, true, 21, false),
-    (
-        Event::Priority(19, 0x20),
-        Some((21, NS)),
-        36,
-        true,
-        19,
-        true,
-    ),
-    (Event::Activate(21), None, 36, false, 19, false),
-    (Event::Nothing, None, 36, false, 21, false),
-    (Event::Deactivate(19), None, 164, false, 21, true),
-    (Event::Nothing, None, 164, false, 0, false),
-    (Event::Pris(false), None, 68, false, 21, true),
-    (Event::Grouping(NS, 7), None, 4, false, 21, true),
-    (Event::Target(21, S), None, 68, false, 21, true),
-    (Event::Pend(2), Some((2, S)), 68, false, 21, true),
-    (Event::FaultSide(true), Some((2, S)), 68, false, 21, true),
-    (Event::Unpend(2), None, 68, false, 21, true),
-    (Event::FaultSide(true), None, 68, false, 21, true),
-    (
-        Event::Put(36, true, false, true, 0x10),
-        Some((20, S)),
-        68,
-        true,
-        21,
-        true,
-    ),
-    (Event::Enabled(20, false), None, 68, true, 21, true),
-    (
-        Event::Put(6, false, true, false, 0),
-        None,
-        1,
-        true,
-        21,
-        false,
-    ),
-    (Event::Timer(1), None, 1, true, 21, false),
-    (Event::Tick, None, 1, true, 21, false),
-    (Event::Timer(3), None, 1, true, 21, false),
-    (Event::Tick, Some((15, S)), 1, true, 3, false),
 ];
 
-/// Whether all is so that a row of `EVENTS` tells.
-fn check(rt: &impl Abort, exceptions: &Exceptions, row: usize) {
-    assert!(rt; row < EVENTS.len());
-    let (_, first, raw, pending, ipsr, base) = &EVENTS[row];
-    assert_eq!(rt; chosen(exceptions), *first, "{row}");
-    assert_eq!(rt; exceptions.raw_priority(), *raw, "{row}");
-    assert_eq!(rt; exceptions.is_interrupt_pending(), *pending, "{row}");
-    assert_eq!(rt; exceptions.returns_to_base(*ipsr), *base, "{row}");
-}
-
-#[test]
-fn what_is_known_follows_each_change(rt: HostRuntime) -> Result<(), Fail> {
-    let mut exceptions = Exceptions::new(rt.alloc(), 8)?;
-    for row in 0..EVENTS.len() {
-        happen(&rt, &mut exceptions, EVENTS[row].0);
-        check(&rt, &exceptions, row);
-        settle(&mut exceptions);
-        check(&rt, &exceptions, row);
-    }
-    Ok(())
-}
-
-/// Whether the slots at these places are pending, and no others.
-fn pend_alone(rt: &impl Abort, exceptions: &Exceptions, places: &[usize]) {
+/// The events of a row of `SCRIPTS` pend.
+fn follow(rt: &impl Abort, exceptions: &mut Exceptions, row: usize) {
+    assert!(rt; row < SCRIPTS.len());
+    let (events, places) = SCRIPTS[row];
+    exceptions.pend_due(events);
     for index in 0..PLACES {
-        let wanted = places.contains(&index);
-        assert_eq!(rt; exceptions.at(index).pending, wanted, "{index}");
+        agrees(
+            rt,
+            exceptions.at(index).pending,
+            places.contains(&index),
+            row,
+        );
     }
+}
+
+/// After the last of `SCRIPTS`, NMI is chosen, then an interrupt, then NMI again.
+fn follow_on(rt: &impl Abort, exceptions: &mut Exceptions) {
+    settle(exceptions);
+    exceptions.pend_due(&[]);
+    chosen_is(rt, exceptions, Some((2, S)), 3);
+    let nmi = Slot { number: 2, side: S };
+    happen_to(rt, exceptions, nmi, Event::Unpend(2));
+    let last = Slot {
+        number: 23,
+        side: S,
+    };
+    happen_to(rt, exceptions, last, Event::Enabled(23, true));
+    settle(exceptions);
+    chosen_is(rt, exceptions, Some((23, S)), 4);
+    exceptions.pend_due(&[ScriptEvent::Nmi]);
+    chosen_is(rt, exceptions, Some((2, S)), 5);
 }
 
 #[test]
 fn events_of_a_script_pend(rt: HostRuntime) -> Result<(), Fail> {
     let mut exceptions = Exceptions::new(rt.alloc(), 8)?;
-    exceptions.pend_due(&[]);
-    pend_alone(&rt, &exceptions, &[]);
-    exceptions.pend_due(&[ScriptEvent::Irq(8), ScriptEvent::Irq(0xffff)]);
-    pend_alone(&rt, &exceptions, &[]);
-    exceptions.pend_due(&[ScriptEvent::Irq(7), ScriptEvent::Nmi, ScriptEvent::Irq(0)]);
-    pend_alone(&rt, &exceptions, &[4, 32, 39]);
-    settle(&mut exceptions);
-    exceptions.pend_due(&[]);
-    assert_eq!(rt; chosen(&exceptions), Some((2, S)));
-    exceptions.unpend(Slot { number: 2, side: S });
-    exceptions.set_enabled(
-        Slot {
-            number: 23,
-            side: S,
-        },
-        true,
-    );
-    settle(&mut exceptions);
-    assert_eq!(rt; chosen(&exceptions), Some((23, S)));
-    exceptions.pend_due(&[ScriptEvent::Nmi]);
-    assert_eq!(rt; chosen(&exceptions), Some((2, S)));
+    for row in 0..SCRIPTS.len() {
+        follow(&rt, &mut exceptions, row);
+    }
+    follow_on(&rt, &mut exceptions);
     Ok(())
 }
 
@@ -499,17 +498,24 @@ static FAULTS: [(bool, u16, Side, u16, Side); 8] = [
     (true, 5, NS, 7, S),
 ];
 
+/// Both slots of a row of `FAULTS` pend.
+fn pend_faults(rt: &impl Abort, exceptions: &mut Exceptions, row: usize) {
+    assert!(rt; row < FAULTS.len());
+    let (on, number, side, other, other_side) = FAULTS[row];
+    exceptions.set_fault_side(on);
+    agrees(rt, exceptions.fault_side(), on, row);
+    enable(rt, exceptions, number, side, 0);
+    pend(rt, exceptions, number, side);
+    enable(rt, exceptions, other, other_side, 0);
+    pend(rt, exceptions, other, other_side);
+    chosen_is(rt, exceptions, Some((number, side)), row);
+}
+
 #[test]
 fn faults_follow_bfhfnmins(rt: HostRuntime) -> Result<(), Fail> {
-    for (on, number, side, other, other_side) in &FAULTS {
+    for row in 0..FAULTS.len() {
         let mut exceptions = Exceptions::new(rt.alloc(), 8)?;
-        exceptions.set_fault_side(*on);
-        assert_eq!(rt; exceptions.fault_side(), *on);
-        for (pended, of) in [(*number, *side), (*other, *other_side)] {
-            enable(&rt, &mut exceptions, pended, of, 0);
-            pend(&rt, &mut exceptions, pended, of);
-        }
-        assert_eq!(rt; chosen(&exceptions), Some((*number, *side)), "{on}");
+        pend_faults(&rt, &mut exceptions, row);
     }
     Ok(())
 }
@@ -526,68 +532,30 @@ static HOLDERS: [(u16, Side, bool); 8] = [
     (16, S, false),
 ];
 
-#[test]
-fn bfhfnmins_stays_while_faults_are_held(rt: HostRuntime) -> Result<(), Fail> {
-    for (number, side, holds) in &HOLDERS {
-        for (before, active) in [(false, false), (false, true), (true, false), (true, true)] {
-            let mut exceptions = Exceptions::new(rt.alloc(), 8)?;
-            exceptions.set_fault_side(before);
-            let slot = Slot {
-                number: *number,
-                side: *side,
-            };
-            pend(&rt, &mut exceptions, *number, *side);
-            if active {
-                assert!(rt; exceptions.exists(slot));
-                exceptions.activate(slot);
-            }
-            exceptions.set_fault_side(!before);
-            let wanted = if *holds { before } else { !before };
-            assert_eq!(rt; exceptions.fault_side(), wanted, "{number} {active}");
-        }
+/// BFHFNMINS, and whether the slot is active.
+static BEFORE: [(bool, bool); 4] = [(false, false), (false, true), (true, false), (true, true)];
+
+/// Writes the other value to BFHFNMINS while the slot of a row of `HOLDERS` is pending, or active.
+fn hold(rt: &impl Abort, exceptions: &mut Exceptions, row: usize, before: bool, active: bool) {
+    assert!(rt; row < HOLDERS.len());
+    let (number, side, holds) = HOLDERS[row];
+    exceptions.set_fault_side(before);
+    pend(rt, exceptions, number, side);
+    if active {
+        let slot = Slot { number, side };
+        happen_to(rt, exceptions, slot, Event::Activate(number));
     }
-    Ok(())
+    exceptions.set_fault_side(!before);
+    let wanted = if holds { before } else { !before };
+    agrees(rt, exceptions.fault_side(), wanted, row);
 }
 
-/// SYST_CSR, RVR and CVR of a side, and how often it counts; then CSR and CVR, and whether SysTick pends.
-static COUNTS: [(u32, u32, u32, u32, u32, u32, bool); 12] = [
-    (3, 2, 0, 1, 3, 2, false),
-    (3, 2, 0, 2, 3, 1, false),
-    (3, 2, 0, 3, 0x1_0003, 0, true),
-    (3, 2, 0, 4, 0x1_0003, 2, true),
-    (1, 2, 0, 3, 0x1_0001, 0, false),
-    (2, 2, 1, 3, 2, 1, false),
-    (7, 0xff_ffff, 0, 1, 7, 0xff_ffff, false),
-    (3, 0, 0, 3, 3, 0, false),
-    (3, 0, 1, 1, 0x1_0003, 0, true),
-    (0x1_0003, 5, 4, 2, 0x1_0003, 2, false),
-    (3, 9, 2, 1, 3, 1, false),
-    (0xffff_ffff, 0xffff_ffff, 0xff00_0001, 1, 0x1_0007, 0, true),
-];
-
 #[test]
-fn timers_count_down(rt: HostRuntime) -> Result<(), Fail> {
-    for (csr, rvr, cvr, times, csr_after, cvr_after, pends) in &COUNTS {
-        for (side, other) in [(S, NS), (NS, S)] {
+fn bfhfnmins_stays_while_faults_are_held(rt: HostRuntime) -> Result<(), Fail> {
+    for row in 0..HOLDERS.len() {
+        for &(before, active) in BEFORE.iter() {
             let mut exceptions = Exceptions::new(rt.alloc(), 8)?;
-            exceptions.set_timer(
-                side,
-                Timer {
-                    csr: *csr,
-                    rvr: *rvr,
-                    cvr: *cvr,
-                },
-            );
-            for _ in 0..*times {
-                exceptions.tick();
-            }
-            let timer = exceptions.timer(side);
-            assert_eq!(rt; timer.csr, *csr_after, "{csr} {rvr} {cvr}");
-            assert_eq!(rt; timer.rvr, *rvr % 0x0100_0000, "{csr} {rvr} {cvr}");
-            assert_eq!(rt; timer.cvr, *cvr_after, "{csr} {rvr} {cvr}");
-            let wanted = if *pends { Some((15, side)) } else { None };
-            assert_eq!(rt; chosen(&exceptions), wanted, "{csr} {rvr} {cvr}");
-            assert_eq!(rt; exceptions.timer(other).csr, 0);
+            hold(&rt, &mut exceptions, row, before, active);
         }
     }
     Ok(())

@@ -125,53 +125,59 @@ fn target(rt: &impl Abort, machine: &mut Machine, interrupt: u16, side: Side) {
     machine.exceptions.set_target(number, side);
 }
 
+/// Slots, and what stands in them.
+static STANDING: [(u16, Side, &str); 14] = [
+    (16, S, "enabled"),
+    (17, NS, "enabled"),
+    (17, NS, "pending"),
+    (18, NS, "active"),
+    (19, S, "pending"),
+    (49, NS, "enabled"),
+    (2, S, "pending"),
+    (14, S, "pending"),
+    (15, NS, "pending"),
+    (6, S, "active"),
+    (4, S, "enabled"),
+    (5, S, "enabled"),
+    (7, S, "enabled"),
+    (6, NS, "enabled"),
+];
+
 /// Slots of all kinds: interrupts 1, 2 and 33 are Non-secure, and interrupt 2 is handled, with UsageFault of the
 /// Secure side beneath.
 fn fill_slots(rt: &impl Abort, machine: &mut Machine) {
-    for interrupt in [1u16, 2, 33] {
-        target(rt, machine, interrupt, NS);
-    }
-    for (number, side, what) in [
-        (16u16, S, "enabled"),
-        (17, NS, "enabled"),
-        (17, NS, "pending"),
-        (18, NS, "active"),
-        (19, S, "pending"),
-        (49, NS, "enabled"),
-        (2, S, "pending"),
-        (14, S, "pending"),
-        (15, NS, "pending"),
-        (6, S, "active"),
-        (4, S, "enabled"),
-        (5, S, "enabled"),
-        (7, S, "enabled"),
-        (6, NS, "enabled"),
-    ] {
+    target(rt, machine, 1, NS);
+    target(rt, machine, 2, NS);
+    target(rt, machine, 33, NS);
+    for &(number, side, what) in STANDING.iter() {
         set(rt, machine, number, side, what);
     }
     machine.core.registers.ipsr = 18;
 }
 
+/// Slots and their priorities.
+static PRIORITIES: [(u16, Side, u8); 16] = [
+    (16, S, 0x80),
+    (17, NS, 0x20),
+    (18, NS, 0x60),
+    (49, NS, 0x40),
+    (4, S, 0x10),
+    (4, NS, 0x14),
+    (5, S, 0x20),
+    (6, S, 0x30),
+    (6, NS, 0x34),
+    (7, S, 0x40),
+    (11, S, 0x50),
+    (11, NS, 0x54),
+    (14, S, 0x60),
+    (14, NS, 0x64),
+    (15, S, 0x70),
+    (15, NS, 0x74),
+];
+
 /// Priorities, PRIGROUP and PRIS.
 fn fill_priorities(rt: &impl Abort, machine: &mut Machine) {
-    for (number, side, priority) in [
-        (16u16, S, 0x80u8),
-        (17, NS, 0x20),
-        (18, NS, 0x60),
-        (49, NS, 0x40),
-        (4, S, 0x10),
-        (4, NS, 0x14),
-        (5, S, 0x20),
-        (6, S, 0x30),
-        (6, NS, 0x34),
-        (7, S, 0x40),
-        (11, S, 0x50),
-        (11, NS, 0x54),
-        (14, S, 0x60),
-        (14, NS, 0x64),
-        (15, S, 0x70),
-        (15, NS, 0x74),
-    ] {
+    for &(number, side, priority) in PRIORITIES.iter() {
         prioritize(rt, machine, number, side, priority);
     }
     machine.exceptions.set_grouping(S, 3);
@@ -215,27 +221,34 @@ fn fill_status(machine: &mut Machine) {
     core.set_sfar(0x4444_4444);
 }
 
-/// Regions of both MPUs, of 4 KiB each from a base on, and one region of the SAU.
+/// Registers of the MPUs beside their regions.
+static REGISTERS: [(Side, MpuRegister, u32); 8] = [
+    (S, MpuRegister::Rnr, 2),
+    (NS, MpuRegister::Rnr, 1),
+    (S, MpuRegister::Ctrl, 5),
+    (NS, MpuRegister::Ctrl, 3),
+    (S, MpuRegister::Mair0, 0x44),
+    (NS, MpuRegister::Mair0, 0xFF),
+    (S, MpuRegister::Mair1, 0x4400),
+    (NS, MpuRegister::Mair1, 0xFF00),
+];
+
+/// Regions of an MPU, of 4 KiB each from a base on.
+fn fill_regions(bus: &mut Bus, side: Side, base: u32) {
+    for region in 0..8u32 {
+        let rbar = base.wrapping_add(region.wrapping_mul(0x1000));
+        bus.set_mpu_register(side, MpuRegister::Rnr, region);
+        bus.set_mpu_register(side, MpuRegister::Rbar(0), rbar);
+        bus.set_mpu_register(side, MpuRegister::Rlar(0), rbar.wrapping_add(0xFE1));
+    }
+}
+
+/// Regions of both MPUs, and one region of the SAU.
 fn fill_units(machine: &mut Machine) {
     let bus = &mut machine.bus;
-    for (side, base) in [(S, 0x1000_0000u32), (NS, 0x2000_0000)] {
-        for region in 0..8u32 {
-            let rbar = base.wrapping_add(region.wrapping_mul(0x1000));
-            bus.set_mpu_register(side, MpuRegister::Rnr, region);
-            bus.set_mpu_register(side, MpuRegister::Rbar(0), rbar);
-            bus.set_mpu_register(side, MpuRegister::Rlar(0), rbar.wrapping_add(0xFE1));
-        }
-    }
-    for (side, register, value) in [
-        (S, MpuRegister::Rnr, 2u32),
-        (NS, MpuRegister::Rnr, 1),
-        (S, MpuRegister::Ctrl, 5),
-        (NS, MpuRegister::Ctrl, 3),
-        (S, MpuRegister::Mair0, 0x44),
-        (NS, MpuRegister::Mair0, 0xFF),
-        (S, MpuRegister::Mair1, 0x4400),
-        (NS, MpuRegister::Mair1, 0xFF00),
-    ] {
+    fill_regions(bus, S, 0x1000_0000);
+    fill_regions(bus, NS, 0x2000_0000);
+    for &(side, register, value) in REGISTERS.iter() {
         bus.set_mpu_register(side, register, value);
     }
     bus.set_sau_register(SauRegister::Ctrl, 1);
@@ -252,4 +265,11 @@ fn filled(rt: &impl Abort, alloc: Global) -> Result<Machine, AllocError> {
     fill_status(&mut machine);
     fill_units(&mut machine);
     Ok(machine)
+}
+
+/// Makes accesses in order to such a machine.
+fn run_filled(rt: &impl Abort, alloc: Global, steps: &[Step]) -> Result<(), AllocError> {
+    let mut machine = filled(rt, alloc)?;
+    run(rt, &mut machine, steps);
+    Ok(())
 }

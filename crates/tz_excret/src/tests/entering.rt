@@ -1,6 +1,7 @@
 //! Entries.
 
-use super::{Bench, NS, Outcome, S, compare};
+use super::{Bench, NS, Outcome, S, agrees, compare};
+use std::process::Abort;
 use std::test::Fail;
 use tz_model::{Profile, Side, TableEntry};
 
@@ -32,7 +33,9 @@ type Situation = (Side, u16, bool, u32, bool, (u16, Side), Option<u32>);
 
 /// Each entry with its name, the version, what stands after it, with the stack pointer that was in use, and whether
 /// the exception that pended still does.
-static ENTRIES: [(&str, Situation, Profile, Outcome, bool); 21] = [
+type Entry = (&'static str, Situation, Profile, Outcome, bool);
+
+static ENTRIES: [Entry; 21] = [
     (
         "secure to nonsecure",
         (S, 0, false, 0, false, (16, NS), None),
@@ -350,29 +353,43 @@ static ENTRIES: [(&str, Situation, Profile, Outcome, bool); 21] = [
     ),
 ];
 
+/// Sets the bench up as a situation tells.
+fn prepare(rt: &impl Abort, bench: &mut Bench, situation: &Situation) {
+    let (side, _, spsel, limit, faultmask, (pending, of), _) = *situation;
+    bench.exceptions.set_fault_side(pending == 2 && of == NS);
+    match side {
+        Side::Secure => {
+            bench.core.stacks_s.spsel = spsel;
+            bench.core.stacks_s.msplim = limit;
+        }
+        Side::NonSecure => {
+            bench.core.stacks_ns.spsel = spsel;
+            bench.core.stacks_ns.msplim = limit;
+        }
+    }
+    bench.core.masks.s.faultmask = faultmask;
+    bench.pend(rt, pending, of);
+}
+
+/// Enters, and compares what stands then.
+fn follow(rt: &impl Abort, bench: &mut Bench, entry: &Entry) {
+    let (name, situation, profile, wanted, pends) = entry;
+    let (side, number, spsel, _, _, (pending, of), _) = *situation;
+    let taken = bench.enter(rt, *profile);
+    let found = bench.outcome(taken, side, spsel && number == 0);
+    compare(rt, name, &found, wanted);
+    agrees(rt, name, bench.stands(rt, pending, of).0, *pends);
+    agrees(rt, name, bench.core.run.locked, taken.0 == 0);
+}
+
 #[test]
 fn entries_leave_what_they_are_to(rt: HostRuntime) -> Result<(), Fail> {
-    for (name, situation, profile, wanted, pends) in &ENTRIES {
-        let (side, number, spsel, limit, faultmask, (pending, of), failing) = *situation;
+    for entry in ENTRIES.iter() {
+        let situation = &entry.1;
+        let (side, number, failing) = (situation.0, situation.1, situation.6);
         let mut bench = Bench::new(&rt, rt.alloc(), side, number, &VECTORS, failing)?;
-        bench.exceptions.set_fault_side(pending == 2 && of == NS);
-        match side {
-            Side::Secure => {
-                bench.core.stacks_s.spsel = spsel;
-                bench.core.stacks_s.msplim = limit;
-            }
-            Side::NonSecure => {
-                bench.core.stacks_ns.spsel = spsel;
-                bench.core.stacks_ns.msplim = limit;
-            }
-        }
-        bench.core.masks.s.faultmask = faultmask;
-        bench.pend(&rt, pending, of);
-        let taken = bench.enter(&rt, *profile);
-        let found = bench.outcome(taken, side, spsel && number == 0);
-        compare(&rt, name, &found, wanted);
-        assert_eq!(rt; bench.stands(&rt, pending, of).0, *pends, "{name}");
-        assert_eq!(rt; bench.core.run.locked, taken.0 == 0, "{name}");
+        prepare(&rt, &mut bench, situation);
+        follow(&rt, &mut bench, entry);
     }
     Ok(())
 }

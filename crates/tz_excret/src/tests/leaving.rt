@@ -1,6 +1,7 @@
 //! Returns.
 
-use super::{BACK, Bench, NS, Outcome, S, compare};
+use super::{BACK, Bench, NS, Outcome, S, agrees, compare};
+use std::process::Abort;
 use std::test::Fail;
 use tz_model::{Profile, Side, TableEntry};
 
@@ -52,7 +53,9 @@ type Situation = (Side, u16, (u16, Side), (u16, Side), bool, u32, Option<u32>);
 
 /// Each return with its name, its value, what stands after it, with MSP of a side, what of these is still active,
 /// and FAULTMASK.
-static RETURNS: [(&str, Situation, u32, Outcome, Side, [bool; 2], bool); 20] = [
+type Return = (&'static str, Situation, u32, Outcome, Side, [bool; 2], bool);
+
+static RETURNS: [Return; 20] = [
     (
         "to nonsecure",
         (NS, 16, (16, NS), (0, S), false, 0x0100_0000, None),
@@ -347,26 +350,38 @@ static RETURNS: [(&str, Situation, u32, Outcome, Side, [bool; 2], bool); 20] = [
     ),
 ];
 
+/// Sets the bench up as a situation tells.
+fn prepare(rt: &impl Abort, bench: &mut Bench, situation: &Situation) {
+    let (_, _, first, second, faultmask, _, _) = *situation;
+    bench.core.stacks_s.msp = 0x3000_0fe0;
+    bench.core.stacks_ns.msp = 0x2000_0fe0;
+    bench.core.masks.s.faultmask = faultmask;
+    bench.activate(rt, first.0, first.1);
+    bench.activate(rt, second.0, second.1);
+}
+
+/// Returns, and compares what stands then.
+fn follow(rt: &impl Abort, bench: &mut Bench, row: &Return) {
+    let (name, situation, value, wanted, of, active, masked) = row;
+    let (_, _, first, second, _, _, _) = *situation;
+    let taken = bench.leave(rt, *value);
+    let found = bench.outcome(taken, *of, false);
+    compare(rt, name, &found, wanted);
+    agrees(rt, name, bench.stands(rt, first.0, first.1).1, active[0]);
+    agrees(rt, name, bench.stands(rt, second.0, second.1).1, active[1]);
+    agrees(rt, name, bench.core.masks.s.faultmask, *masked);
+    agrees(rt, name, bench.core.run.locked, taken.0 == 0);
+}
+
 #[test]
 fn returns_leave_what_they_are_to(rt: HostRuntime) -> Result<(), Fail> {
-    for (name, situation, value, wanted, of, active, masked) in &RETURNS {
-        let (side, number, first, second, faultmask, retpsr, failing) = *situation;
-        let mut bench = Bench::new(&rt, rt.alloc(), side, number, &frames(retpsr), failing)?;
-        bench.core.stacks_s.msp = 0x3000_0fe0;
-        bench.core.stacks_ns.msp = 0x2000_0fe0;
-        bench.core.masks.s.faultmask = faultmask;
-        bench.activate(&rt, first.0, first.1);
-        bench.activate(&rt, second.0, second.1);
-        let taken = bench.leave(&rt, *value);
-        let found = bench.outcome(taken, *of, false);
-        compare(&rt, name, &found, wanted);
-        let still = [
-            bench.stands(&rt, first.0, first.1).1,
-            bench.stands(&rt, second.0, second.1).1,
-        ];
-        assert_eq!(rt; still, *active, "{name}");
-        assert_eq!(rt; bench.core.masks.s.faultmask, *masked, "{name}");
-        assert_eq!(rt; bench.core.run.locked, taken.0 == 0, "{name}");
+    for row in RETURNS.iter() {
+        let situation = &row.1;
+        let (side, number, failing) = (situation.0, situation.1, situation.6);
+        let table = frames(situation.5);
+        let mut bench = Bench::new(&rt, rt.alloc(), side, number, &table, failing)?;
+        prepare(&rt, &mut bench, situation);
+        follow(&rt, &mut bench, row);
     }
     Ok(())
 }
@@ -407,7 +422,9 @@ static FRAMES: [(u32, u32); 18] = [
 
 /// Which of the interrupts 16, which is Non-secure, and 17, which is Secure, is entered, and which is taken in its
 /// place at its return; what stands after the entry, after the tail-chain, and after the return from that.
-static CHAINS: [((u16, Side), (u16, Side), Outcome, Outcome, Outcome); 2] = [
+type Chain = ((u16, Side), (u16, Side), Outcome, Outcome, Outcome);
+
+static CHAINS: [Chain; 2] = [
     (
         (16, NS),
         (17, S),
@@ -456,26 +473,44 @@ static CHAINS: [((u16, Side), (u16, Side), Outcome, Outcome, Outcome); 2] = [
     ),
 ];
 
+/// Enters the first exception of a chain.
+fn enter_first(rt: &impl Abort, bench: &mut Bench, chain: &Chain) {
+    bench.pend(rt, chain.0.0, chain.0.1);
+    let taken = bench.enter(rt, Profile::V80);
+    compare(rt, "entry", &bench.outcome(taken, S, false), &chain.2);
+}
+
+/// Returns by the value in LR, and compares what stands then.
+fn leave_by_lr(rt: &impl Abort, bench: &mut Bench, name: &str, wanted: &Outcome) {
+    let value = bench.core.registers.lr;
+    let taken = bench.leave(rt, value);
+    compare(rt, name, &bench.outcome(taken, S, false), wanted);
+}
+
+/// Both frames have their words.
+fn read_frames(rt: &impl Abort, bench: &mut Bench) {
+    for &(addr, word) in FRAMES.iter() {
+        assert_eq!(rt; bench.word(addr), word, "{addr:x}");
+    }
+}
+
+/// The Secure code goes on in Thread mode with its flags.
+fn goes_on(rt: &impl Abort, bench: &Bench) {
+    let registers = &bench.core.registers;
+    let flags = registers.apsr.n && registers.t && registers.ipsr == 0;
+    assert!(rt; flags && bench.core.run.side == S);
+}
+
 #[test]
 fn a_tail_chain_leaves_both_frames_once(rt: HostRuntime) -> Result<(), Fail> {
-    for (first, second, entered, chained, left) in &CHAINS {
+    for chain in CHAINS.iter() {
         let mut bench = Bench::new(&rt, rt.alloc(), S, 0, &VECTORS, None)?;
-        bench.pend(&rt, first.0, first.1);
-        let taken = bench.enter(&rt, Profile::V80);
-        compare(&rt, "entry", &bench.outcome(taken, S, false), entered);
-        bench.pend(&rt, second.0, second.1);
-        let value = bench.core.registers.lr;
-        let taken = bench.leave(&rt, value);
-        compare(&rt, "chain", &bench.outcome(taken, S, false), chained);
-        for (addr, word) in &FRAMES {
-            assert_eq!(rt; bench.word(*addr), *word, "{addr:x}");
-        }
-        let value = bench.core.registers.lr;
-        let taken = bench.leave(&rt, value);
-        compare(&rt, "return", &bench.outcome(taken, S, false), left);
-        let registers = &bench.core.registers;
-        let flags = registers.apsr.n && registers.t && registers.ipsr == 0;
-        assert!(rt; flags && bench.core.run.side == S);
+        enter_first(&rt, &mut bench, chain);
+        bench.pend(&rt, chain.1.0, chain.1.1);
+        leave_by_lr(&rt, &mut bench, "chain", &chain.3);
+        read_frames(&rt, &mut bench);
+        leave_by_lr(&rt, &mut bench, "return", &chain.4);
+        goes_on(&rt, &bench);
     }
     Ok(())
 }

@@ -1,8 +1,9 @@
 //! What reads and writes do beside the word: COUNTFLAG, the key of AIRCR, ones that clear.
 
 use crate::tests::Does::{Show, Write};
-use crate::tests::{ALIAS, B, H, NS, S, SCS, Step, W, filled, run, set};
+use crate::tests::{ALIAS, B, H, NS, S, SCS, Step, W, filled, run, run_filled, set};
 use std::test::Fail;
+use tz_model::Side;
 use tz_state::Timer;
 
 /// A read of SYST_CSR clears COUNTFLAG, from any of its bytes, and that of the view alone.
@@ -60,12 +61,8 @@ static FLAGGED: [(Step, u32); 7] = [
 #[test]
 fn countflag_is_cleared(rt: HostRuntime) -> Result<(), Fail> {
     for (access, csr) in &FLAGGED {
-        let mut machine = filled(&rt, rt.alloc())?;
-        run(
-            &rt,
-            &mut machine,
-            &[*access, (S, W, SCS, 0x010, Show(*csr))],
-        );
+        let steps = [*access, (S, W, SCS, 0x010, Show(*csr))];
+        run_filled(&rt, rt.alloc(), &steps)?;
     }
     Ok(())
 }
@@ -93,33 +90,37 @@ static KEYED: [Step; 16] = [
 
 #[test]
 fn aircr_needs_its_key(rt: HostRuntime) -> Result<(), Fail> {
-    let mut machine = filled(&rt, rt.alloc())?;
-    run(&rt, &mut machine, &KEYED);
+    run_filled(&rt, rt.alloc(), &KEYED)?;
     Ok(())
 }
 
+/// A slot, and what it is.
+static HOLDERS: [(u16, Side, &str); 7] = [
+    (2, S, "active"),
+    (5, S, "pending"),
+    (5, S, "active"),
+    (3, S, "pending"),
+    (3, S, "active"),
+    (3, NS, "pending"),
+    (3, NS, "active"),
+];
+
+/// NMI no longer pends.
+static UNPENDED: [Step; 1] = [(S, W, SCS, 0xD04, Write(0x4000_0000))];
+
+/// BFHFNMINS stays 0.
+static STAYS: [Step; 2] = [
+    (S, W, SCS, 0xD0C, Write(0x05FA_2000)),
+    (S, W, SCS, 0xD0C, Show(0xFA05_0000)),
+];
+
 #[test]
 fn bfhfnmins_stays_while_they_are_pending_or_active(rt: HostRuntime) -> Result<(), Fail> {
-    for (number, side, what) in [
-        (2u16, S, "active"),
-        (5, S, "pending"),
-        (5, S, "active"),
-        (3, S, "pending"),
-        (3, S, "active"),
-        (3, NS, "pending"),
-        (3, NS, "active"),
-    ] {
+    for &(number, side, what) in HOLDERS.iter() {
         let mut machine = filled(&rt, rt.alloc())?;
-        run(&rt, &mut machine, &[(S, W, SCS, 0xD04, Write(0x4000_0000))]);
+        run(&rt, &mut machine, &UNPENDED);
         set(&rt, &mut machine, number, side, what);
-        run(
-            &rt,
-            &mut machine,
-            &[
-                (S, W, SCS, 0xD0C, Write(0x05FA_2000)),
-                (S, W, SCS, 0xD0C, Show(0xFA05_0000)),
-            ],
-        );
+        run(&rt, &mut machine, &STAYS);
     }
     Ok(())
 }
@@ -147,7 +148,6 @@ static FAULTS: [Step; 17] = [
 
 #[test]
 fn ones_clear_faults(rt: HostRuntime) -> Result<(), Fail> {
-    let mut machine = filled(&rt, rt.alloc())?;
-    run(&rt, &mut machine, &FAULTS);
+    run_filled(&rt, rt.alloc(), &FAULTS)?;
     Ok(())
 }

@@ -2,11 +2,12 @@
 
 use crate::tests::Does::{Show, Write};
 use crate::tests::{
-    ALIAS, B, H, Machine, NS, S, SCS, Step, W, filled, prioritize, reset, run, set, target,
+    ALIAS, B, H, Machine, NS, S, SCS, Step, W, prioritize, reset, run, run_filled, set, step,
+    target,
 };
 use std::process::Abort;
 use std::test::Fail;
-use tz_model::Profile;
+use tz_model::{Profile, Side};
 
 /// Ones set or clear, zeros do nothing; Non-secure code sees and writes its own, and the board has 40.
 static ARRAYS: [Step; 36] = [
@@ -93,10 +94,9 @@ static TRIGGERS: [Step; 22] = [
 
 #[test]
 fn interrupts_by_view(rt: HostRuntime) -> Result<(), Fail> {
-    for steps in [&ARRAYS[..], &TARGETS[..], &TRIGGERS[..]] {
-        let mut machine = filled(&rt, rt.alloc())?;
-        run(&rt, &mut machine, steps);
-    }
+    run_filled(&rt, rt.alloc(), &ARRAYS)?;
+    run_filled(&rt, rt.alloc(), &TARGETS)?;
+    run_filled(&rt, rt.alloc(), &TRIGGERS)?;
     Ok(())
 }
 
@@ -130,9 +130,8 @@ static PENDING: [Step; 22] = [
 #[test]
 fn icsr_pends_and_unpends(rt: HostRuntime) -> Result<(), Fail> {
     let mut machine = reset(rt.alloc(), Profile::V80)?;
-    for number in [14u16, 15] {
-        prioritize(&rt, &mut machine, number, NS, 0x80);
-    }
+    prioritize(&rt, &mut machine, 14, NS, 0x80);
+    prioritize(&rt, &mut machine, 15, NS, 0x80);
     run(&rt, &mut machine, &PENDING);
     run(&rt, &mut machine, &[(S, W, SCS, 0xD04, Show(0))]);
     Ok(())
@@ -151,41 +150,51 @@ fn icsr(rt: &impl Abort, machine: &mut Machine, secure: u32, nonsecure: u32) {
     );
 }
 
+/// ICSR follows an interrupt and a handler step by step.
+fn tell(rt: &impl Abort, machine: &mut Machine) {
+    icsr(rt, machine, 0, 0);
+    set(rt, machine, 16 + 39, S, "pending");
+    icsr(rt, machine, 0x0040_0000, 0x0040_0000);
+    set(rt, machine, 16 + 39, S, "enabled");
+    icsr(rt, machine, 0x0043_7000, 0x0040_1000);
+    target(rt, machine, 39, NS);
+    icsr(rt, machine, 0x0043_7000, 0x0043_7000);
+    set(rt, machine, 16 + 39, NS, "active");
+    machine.core.registers.ipsr = 55;
+    icsr(rt, machine, 0x837, 0x837);
+    set(rt, machine, 15, S, "active");
+    icsr(rt, machine, 0x37, 0x37);
+    machine.core.registers.ipsr = 15;
+    icsr(rt, machine, 0xF, 0xF);
+    machine.core.registers.ipsr = 0;
+    icsr(rt, machine, 0, 0);
+}
+
 #[test]
 fn icsr_tells_of_interrupts_and_handlers(rt: HostRuntime) -> Result<(), Fail> {
     let mut machine = reset(rt.alloc(), Profile::V80)?;
-    icsr(&rt, &mut machine, 0, 0);
-    set(&rt, &mut machine, 16 + 39, S, "pending");
-    icsr(&rt, &mut machine, 0x0040_0000, 0x0040_0000);
-    set(&rt, &mut machine, 16 + 39, S, "enabled");
-    icsr(&rt, &mut machine, 0x0043_7000, 0x0040_1000);
-    target(&rt, &mut machine, 39, NS);
-    icsr(&rt, &mut machine, 0x0043_7000, 0x0043_7000);
-    set(&rt, &mut machine, 16 + 39, NS, "active");
-    machine.core.registers.ipsr = 55;
-    icsr(&rt, &mut machine, 0x837, 0x837);
-    set(&rt, &mut machine, 15, S, "active");
-    icsr(&rt, &mut machine, 0x37, 0x37);
-    machine.core.registers.ipsr = 15;
-    icsr(&rt, &mut machine, 0xF, 0xF);
-    machine.core.registers.ipsr = 0;
-    icsr(&rt, &mut machine, 0, 0);
+    tell(&rt, &mut machine);
     Ok(())
+}
+
+/// RETTOBASE follows what is active step by step.
+fn count(rt: &impl Abort, machine: &mut Machine) {
+    machine.core.registers.ipsr = 1;
+    icsr(rt, machine, 0x801, 0x801);
+    set(rt, machine, 11, S, "active");
+    icsr(rt, machine, 1, 1);
+    machine.core.registers.ipsr = 11;
+    icsr(rt, machine, 0x80B, 0x80B);
+    set(rt, machine, 11, NS, "active");
+    icsr(rt, machine, 0x80B, 0x80B);
+    set(rt, machine, 2, NS, "active");
+    icsr(rt, machine, 0xB, 0xB);
 }
 
 #[test]
 fn rettobase_counts_numbers(rt: HostRuntime) -> Result<(), Fail> {
     let mut machine = reset(rt.alloc(), Profile::V80)?;
-    machine.core.registers.ipsr = 1;
-    icsr(&rt, &mut machine, 0x801, 0x801);
-    set(&rt, &mut machine, 11, S, "active");
-    icsr(&rt, &mut machine, 1, 1);
-    machine.core.registers.ipsr = 11;
-    icsr(&rt, &mut machine, 0x80B, 0x80B);
-    set(&rt, &mut machine, 11, NS, "active");
-    icsr(&rt, &mut machine, 0x80B, 0x80B);
-    set(&rt, &mut machine, 2, NS, "active");
-    icsr(&rt, &mut machine, 0xB, 0xB);
+    count(&rt, &mut machine);
     Ok(())
 }
 
@@ -212,25 +221,25 @@ static HANDLERS: [(u16, &str, u32); 19] = [
     (3, "pending", 21),
 ];
 
+/// Sets what a row of `HANDLERS` tells on a side, and compares SHCSR of both sides.
+fn tell_handler(rt: &impl Abort, machine: &mut Machine, row: &(u16, &str, u32), side: Side) {
+    let (number, what, bit) = *row;
+    set(rt, machine, number, side, what);
+    let word = 1u32 << (bit % 32);
+    let alone = matches!(number, 2 | 5 | 7);
+    let secure = if alone || side == S { word } else { 0 };
+    let nonsecure = if alone || side == S { 0 } else { word };
+    step(rt, machine, &(S, W, SCS, 0xD24, Show(secure)));
+    step(rt, machine, &(NS, W, SCS, 0xD24, Show(nonsecure)));
+}
+
 #[test]
 fn shcsr_tells_of_handlers(rt: HostRuntime) -> Result<(), Fail> {
-    for (number, what, bit) in &HANDLERS {
-        for side in [S, NS] {
-            let mut machine = reset(rt.alloc(), Profile::V80)?;
-            set(&rt, &mut machine, *number, side, what);
-            let word = 1u32 << (*bit % 32);
-            let alone = matches!(*number, 2 | 5 | 7);
-            let secure = if alone || side == S { word } else { 0 };
-            let nonsecure = if alone || side == S { 0 } else { word };
-            run(
-                &rt,
-                &mut machine,
-                &[
-                    (S, W, SCS, 0xD24, Show(secure)),
-                    (NS, W, SCS, 0xD24, Show(nonsecure)),
-                ],
-            );
-        }
+    for row in HANDLERS.iter() {
+        let mut machine = reset(rt.alloc(), Profile::V80)?;
+        tell_handler(&rt, &mut machine, row, S);
+        let mut machine = reset(rt.alloc(), Profile::V80)?;
+        tell_handler(&rt, &mut machine, row, NS);
     }
     Ok(())
 }
@@ -249,7 +258,6 @@ static SWITCHED: [Step; 8] = [
 
 #[test]
 fn shcsr_switches(rt: HostRuntime) -> Result<(), Fail> {
-    let mut machine = filled(&rt, rt.alloc())?;
-    run(&rt, &mut machine, &SWITCHED);
+    run_filled(&rt, rt.alloc(), &SWITCHED)?;
     Ok(())
 }

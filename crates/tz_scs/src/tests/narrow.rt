@@ -1,7 +1,8 @@
 //! Bytes and halfwords of registers.
 
 use crate::tests::Does::{Show, Write};
-use crate::tests::{ALIAS, B, H, NS, S, SCS, Step, W, filled, run, step};
+use crate::tests::{ALIAS, B, H, Machine, NS, S, SCS, Step, W, filled, run, step};
+use std::process::Abort;
 use std::test::Fail;
 
 /// Reads of any size give the bytes of the word, the lowest first.
@@ -111,23 +112,22 @@ static IGNORED: [(u32, u32); 37] = [
     (0x004, 1),
 ];
 
+/// Writes each byte and halfword of a word.
+fn write_parts(rt: &impl Abort, machine: &mut Machine, offset: u32) {
+    for lane in 0..4u32 {
+        let byte = offset.wrapping_add(lane);
+        step(rt, machine, &(S, B, SCS, byte, Write(0xFF)));
+    }
+    step(rt, machine, &(S, H, SCS, offset, Write(0xFFFF)));
+    let upper = offset.wrapping_add(2);
+    step(rt, machine, &(S, H, SCS, upper, Write(0x05FA)));
+}
+
 #[test]
 fn elsewhere_they_are_ignored(rt: HostRuntime) -> Result<(), Fail> {
     let mut machine = filled(&rt, rt.alloc())?;
     for (offset, _) in &IGNORED {
-        for lane in 0..4u32 {
-            step(
-                &rt,
-                &mut machine,
-                &(S, B, SCS, offset.wrapping_add(lane), Write(0xFF)),
-            );
-        }
-        step(&rt, &mut machine, &(S, H, SCS, *offset, Write(0xFFFF)));
-        step(
-            &rt,
-            &mut machine,
-            &(S, H, SCS, offset.wrapping_add(2), Write(0x05FA)),
-        );
+        write_parts(&rt, &mut machine, *offset);
     }
     for (offset, value) in &IGNORED {
         step(&rt, &mut machine, &(S, W, SCS, *offset, Show(*value)));

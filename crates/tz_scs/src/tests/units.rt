@@ -1,7 +1,8 @@
 //! The registers of the SAU and of the MPUs through the views.
 
 use crate::tests::Does::{Show, Write};
-use crate::tests::{ALIAS, Machine, NS, S, SCS, Step, W, filled, reset, run};
+use crate::tests::{ALIAS, Machine, NS, S, SCS, Step, W, reset, run_filled, step};
+use std::process::Abort;
 use std::test::Fail;
 use tz_model::Profile;
 
@@ -33,27 +34,25 @@ static REGIONS: [Step; 22] = [
 
 #[test]
 fn regions_of_the_mpus(rt: HostRuntime) -> Result<(), Fail> {
-    let mut machine = filled(&rt, rt.alloc())?;
-    run(&rt, &mut machine, &REGIONS);
+    run_filled(&rt, rt.alloc(), &REGIONS)?;
     Ok(())
+}
+
+/// PXN is bit 4 of RLAR of both sides, which shows a word where all ones are written.
+fn write_rlar(rt: &impl Abort, machine: &mut Machine, rlar: u32) {
+    step(rt, machine, &(NS, W, SCS, 0xDA0, Write(u32::MAX)));
+    step(rt, machine, &(S, W, ALIAS, 0xDA0, Show(rlar)));
+    step(rt, machine, &(S, W, SCS, 0xDA0, Show(0)));
+    step(rt, machine, &(S, W, SCS, 0xDB8, Write(u32::MAX)));
+    step(rt, machine, &(S, W, SCS, 0xDB8, Show(rlar)));
 }
 
 #[test]
 fn pxn_is_of_one_profile(rt: HostRuntime) -> Result<(), Fail> {
-    for (profile, rlar) in [(Profile::V80, 0xFFFF_FFEF_u32), (Profile::V81, u32::MAX)] {
-        let mut machine: Machine = reset(rt.alloc(), profile)?;
-        run(
-            &rt,
-            &mut machine,
-            &[
-                (NS, W, SCS, 0xDA0, Write(u32::MAX)),
-                (S, W, ALIAS, 0xDA0, Show(rlar)),
-                (S, W, SCS, 0xDA0, Show(0)),
-                (S, W, SCS, 0xDB8, Write(u32::MAX)),
-                (S, W, SCS, 0xDB8, Show(rlar)),
-            ],
-        );
-    }
+    let mut machine = reset(rt.alloc(), Profile::V80)?;
+    write_rlar(&rt, &mut machine, 0xFFFF_FFEF);
+    let mut machine = reset(rt.alloc(), Profile::V81)?;
+    write_rlar(&rt, &mut machine, u32::MAX);
     Ok(())
 }
 
@@ -80,7 +79,6 @@ static SAU: [Step; 17] = [
 
 #[test]
 fn the_sau_is_secure_alone(rt: HostRuntime) -> Result<(), Fail> {
-    let mut machine = filled(&rt, rt.alloc())?;
-    run(&rt, &mut machine, &SAU);
+    run_filled(&rt, rt.alloc(), &SAU)?;
     Ok(())
 }

@@ -1,8 +1,10 @@
 //! What each register shows through each of its addresses, and what writes through them change.
 
 use crate::tests::Does::{Show, Write};
-use crate::tests::{ALIAS, NS, S, SCS, Step, W, filled, run, step};
+use crate::tests::{ALIAS, Machine, NS, S, SCS, Step, W, filled, run, step};
+use std::process::Abort;
 use std::test::Fail;
+use tz_model::Side;
 
 /// An offset, and what Secure and Non-secure code see there.
 static SEEN: [(u32, u32, u32); 65] = [
@@ -73,12 +75,17 @@ static SEEN: [(u32, u32, u32); 65] = [
     (0xFFC, 0, 0),
 ];
 
+/// Both sides see these words at an offset.
+fn show_both(rt: &impl Abort, machine: &mut Machine, offset: u32, secure: u32, nonsecure: u32) {
+    step(rt, machine, &(S, W, SCS, offset, Show(secure)));
+    step(rt, machine, &(NS, W, SCS, offset, Show(nonsecure)));
+}
+
 #[test]
 fn each_register_shows_its_views(rt: HostRuntime) -> Result<(), Fail> {
     let mut machine = filled(&rt, rt.alloc())?;
     for (offset, secure, nonsecure) in &SEEN {
-        step(&rt, &mut machine, &(S, W, SCS, *offset, Show(*secure)));
-        step(&rt, &mut machine, &(NS, W, SCS, *offset, Show(*nonsecure)));
+        show_both(&rt, &mut machine, *offset, *secure, *nonsecure);
         step(&rt, &mut machine, &(S, W, ALIAS, *offset, Show(*nonsecure)));
         step(&rt, &mut machine, &(NS, W, ALIAS, *offset, Show(0)));
     }
@@ -96,14 +103,18 @@ static NOWHERE: [u32; 7] = [
     0xE00F_FFFC,
 ];
 
+/// A word takes no ones.
+fn find_nothing(rt: &impl Abort, machine: &mut Machine, side: Side, addr: u32) {
+    step(rt, machine, &(side, W, addr, 0, Write(u32::MAX)));
+    step(rt, machine, &(side, W, addr, 0, Show(0)));
+}
+
 #[test]
 fn elsewhere_is_nothing(rt: HostRuntime) -> Result<(), Fail> {
     let mut machine = filled(&rt, rt.alloc())?;
     for addr in &NOWHERE {
-        for side in [S, NS] {
-            step(&rt, &mut machine, &(side, W, *addr, 0, Write(u32::MAX)));
-            step(&rt, &mut machine, &(side, W, *addr, 0, Show(0)));
-        }
+        find_nothing(&rt, &mut machine, S, *addr);
+        find_nothing(&rt, &mut machine, NS, *addr);
     }
     Ok(())
 }
@@ -120,8 +131,7 @@ fn nonsecure_code_writes_nothing_through_the_alias(rt: HostRuntime) -> Result<()
         );
     }
     for (offset, secure, nonsecure) in &SEEN {
-        step(&rt, &mut machine, &(S, W, SCS, *offset, Show(*secure)));
-        step(&rt, &mut machine, &(NS, W, SCS, *offset, Show(*nonsecure)));
+        show_both(&rt, &mut machine, *offset, *secure, *nonsecure);
     }
     Ok(())
 }
@@ -159,8 +169,7 @@ fn secure_code_writes_its_own_view(rt: HostRuntime) -> Result<(), Fail> {
     let mut machine = filled(&rt, rt.alloc())?;
     for (offset, secure, nonsecure) in &ONES {
         step(&rt, &mut machine, &(S, W, SCS, *offset, Write(u32::MAX)));
-        step(&rt, &mut machine, &(S, W, SCS, *offset, Show(*secure)));
-        step(&rt, &mut machine, &(NS, W, SCS, *offset, Show(*nonsecure)));
+        show_both(&rt, &mut machine, *offset, *secure, *nonsecure);
     }
     Ok(())
 }
@@ -193,20 +202,20 @@ static ONES_NONSECURE: [(u32, u32, u32); 24] = [
     (0xDE8, 0x4444_4444, 0),
 ];
 
+/// Writes all of `ONES_NONSECURE` from a side by a base.
+fn write_nonsecure(rt: &impl Abort, machine: &mut Machine, writer: Side, base: u32) {
+    for (offset, secure, nonsecure) in &ONES_NONSECURE {
+        step(rt, machine, &(writer, W, base, *offset, Write(u32::MAX)));
+        show_both(rt, machine, *offset, *secure, *nonsecure);
+    }
+}
+
 #[test]
 fn the_nonsecure_view_is_written_from_both_sides(rt: HostRuntime) -> Result<(), Fail> {
-    for (writer, base) in [(NS, SCS), (S, ALIAS)] {
-        let mut machine = filled(&rt, rt.alloc())?;
-        for (offset, secure, nonsecure) in &ONES_NONSECURE {
-            step(
-                &rt,
-                &mut machine,
-                &(writer, W, base, *offset, Write(u32::MAX)),
-            );
-            step(&rt, &mut machine, &(S, W, SCS, *offset, Show(*secure)));
-            step(&rt, &mut machine, &(NS, W, SCS, *offset, Show(*nonsecure)));
-        }
-    }
+    let mut machine = filled(&rt, rt.alloc())?;
+    write_nonsecure(&rt, &mut machine, NS, SCS);
+    let mut machine = filled(&rt, rt.alloc())?;
+    write_nonsecure(&rt, &mut machine, S, ALIAS);
     Ok(())
 }
 
