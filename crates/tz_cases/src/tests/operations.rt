@@ -3,49 +3,58 @@
 use tz_bits::{add_with_carry, bit_field, expand_imm_c, shift_c, sign_extend};
 use tz_table::Shift;
 
+/// Two words and a carry, and their sum, its carry and its overflow.
+static SUMS: [(u32, u32, bool, (u32, bool, bool)); 4] = [
+    (1, 2, true, (4, false, false)),
+    (0x7fff_ffff, 1, false, (0x8000_0000, false, true)),
+    (0xffff_ffff, 0, true, (0, true, false)),
+    (0x8000_0000, 0x8000_0000, false, (0, true, true)),
+];
+
 #[test]
 fn sums(rt: HostRuntime) {
-    assert_eq!(rt; add_with_carry(1, 2, true), (4, false, false));
-    assert_eq!(rt;
-        add_with_carry(0x7fff_ffff, 1, false),
-        (0x8000_0000, false, true)
-    );
-    assert_eq!(rt; add_with_carry(0xffff_ffff, 0, true), (0, true, false));
-    assert_eq!(rt;
-        add_with_carry(0x8000_0000, 0x8000_0000, false),
-        (0, true, true)
-    );
+    for &(x, y, carry, want) in SUMS.iter() {
+        assert_eq!(rt; add_with_carry(x, y, carry), want);
+    }
 }
+
+/// Twelve bits of a modified constant, and its value.
+static CONSTANTS: [(u16, Option<u32>); 8] = [
+    (0x1ab, Some(0x00ab_00ab)),
+    (0x2ab, Some(0xab00_ab00)),
+    (0x3ab, Some(0xabab_abab)),
+    (0x47f, Some(0xff00_0000)),
+    (0xe7f, Some(0x0000_0ff0)),
+    (0x400, Some(0x8000_0000)),
+    (0x100, None),
+    (0x1000, None),
+];
 
 #[test]
 fn constants_of_binutils(rt: HostRuntime) {
-    let cases = [
-        (0x1ab, 0x00ab_00ab),
-        (0x2ab, 0xab00_ab00),
-        (0x3ab, 0xabab_abab),
-        (0x47f, 0xff00_0000),
-        (0xe7f, 0x0000_0ff0),
-        (0x400, 0x8000_0000),
-    ];
-    for (imm12, value) in cases {
-        assert!(rt; matches!(expand_imm_c(imm12, false), Some((found, _)) if found == value));
+    for &(imm12, want) in CONSTANTS.iter() {
+        let value = match expand_imm_c(imm12, false) {
+            Some((value, _)) => Some(value),
+            None => None,
+        };
+        assert_eq!(rt; value, want);
     }
-    assert!(rt; expand_imm_c(0x100, false).is_none());
-    assert!(rt; expand_imm_c(0x1000, false).is_none());
 }
+
+/// A word, how and by how much it is shifted, what it becomes, and the carry out of it.
+static SHIFTS: [(u32, Shift, u32, (u32, bool)); 4] = [
+    (0x8000_0001, Shift::Lsl, 1, (2, true)),
+    (0x8000_0001, Shift::Lsr, 32, (0, true)),
+    (0x8000_0000, Shift::Asr, 31, (0xffff_ffff, false)),
+    (0x0000_0001, Shift::Ror, 1, (0x8000_0000, true)),
+];
 
 #[test]
 fn shifts_and_fields(rt: HostRuntime) {
-    assert_eq!(rt; shift_c(0x8000_0001, Shift::Lsl, 1, false), (2, true));
-    assert_eq!(rt; shift_c(0x8000_0001, Shift::Lsr, 32, false), (0, true));
-    assert_eq!(rt;
-        shift_c(0x8000_0000, Shift::Asr, 31, false),
-        (0xffff_ffff, false)
-    );
-    assert_eq!(rt;
-        shift_c(0x0000_0001, Shift::Ror, 1, false),
-        (0x8000_0000, true)
-    );
+    for &(value, shift, amount, want) in SHIFTS.iter() {
+        assert!(rt; shift != Shift::Rrx);
+        assert_eq!(rt; shift_c(value, shift, amount, false), want);
+    }
     assert_eq!(rt;
         shift_c(0x0000_0001, Shift::Rrx, 1, true),
         (0x8000_0000, true)

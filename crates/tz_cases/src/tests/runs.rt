@@ -5,7 +5,7 @@ use std::alloc::{AllocError, Global};
 use std::test::Fail;
 use tz_board::{Script, demo_board};
 use tz_core::Machine;
-use tz_model::{FailingSink, Image, MemorySink, Segment, SinkError, View};
+use tz_model::{FailingSink, Image, MemorySink, Segment, Sink, SinkError, View};
 use tz_run::run;
 
 /// Loads the Non-secure start from a literal and goes there; at the gateway, sets R0 and returns.
@@ -57,48 +57,66 @@ fn calling(alloc: Global) -> Result<Image, AllocError> {
     })
 }
 
-fn machine(alloc: Global, nonsecure: &Image) -> Result<Machine, AllocError> {
+/// Which Non-secure image runs.
+#[derive(Clone, Copy)]
+enum Code {
+    Looping,
+    Calling,
+}
+
+fn machine(alloc: Global, code: Code) -> Result<Machine, AllocError> {
     let board = demo_board(alloc)?;
     let secure = secure_image(alloc)?;
-    Machine::new(alloc, &board, &secure, nonsecure)
+    let nonsecure = match code {
+        Code::Looping => looping(alloc)?,
+        Code::Calling => calling(alloc)?,
+    };
+    Machine::new(alloc, &board, &secure, &nonsecure)
 }
+
+/// How a run of so many steps with no events ends.
+fn ends<O: Sink>(
+    alloc: Global,
+    code: Code,
+    steps: u32,
+    view: View,
+    out: &mut O,
+) -> Result<&'static str, AllocError> {
+    let mut machine = machine(alloc, code)?;
+    let script = Script::of(alloc, &[])?;
+    Ok(match run(&mut machine, &script, steps, view, out) {
+        Ok(()) => "well",
+        Err(SinkError::Failed) => "failed",
+    })
+}
+
+/// A Non-secure image, the steps, the view, and the trace.
+static TRACES: [(Code, u32, View, &str); 3] = [
+    (
+        Code::Looping,
+        4,
+        View::Ns,
+        "0 S\n1 S\n2 N 00200040 2005 movs r0, #5 r0=00000005\n3 N 00200042 e7fe b 0x00200042\n",
+    ),
+    (
+        Code::Calling,
+        8,
+        View::Ns,
+        "0 S\n1 S\n2 N 00200040 4b01 ldr r3, [pc, #4] r3=10008001\n3 N 00200042 4798 blx r3 lr=00200045\n4 S\n5 S\n6 S\n7 N 00200044 3001 adds r0, r0, #1 r0=0000002b\n",
+    ),
+    (
+        Code::Calling,
+        8,
+        View::All,
+        "0 s N 10000040 4800 ldr r0, [pc, #0] r0=00200040\n1 s N 10000042 4704 bxns r0 sp=00000000\n2 n N 00200040 4b01 ldr r3, [pc, #4] r3=10008001\n3 n N 00200042 4798 blx r3 lr=00200045\n4 n N 10008000 e97fe97f sg sp=30001000 lr=00200044\n5 s N 10008004 202a movs r0, #42 r0=0000002a\n6 s N 10008006 4774 bxns lr sp=00000000\n7 n N 00200044 3001 adds r0, r0, #1 r0=0000002b\n",
+    ),
+];
 
 #[test]
 fn worked_examples(rt: HostRuntime) -> Result<(), Fail> {
-    let alloc = rt.alloc();
-    let looping = looping(alloc)?;
-    let calling = calling(alloc)?;
-    let cases = [
-        (
-            &looping,
-            4,
-            View::Ns,
-            "0 S\n1 S\n2 N 00200040 2005 movs r0, #5 r0=00000005\n3 N 00200042 e7fe b 0x00200042\n",
-        ),
-        (
-            &calling,
-            8,
-            View::Ns,
-            "0 S\n1 S\n2 N 00200040 4b01 ldr r3, [pc, #4] r3=10008001\n3 N 00200042 4798 blx r3 lr=00200045\n4 S\n5 S\n6 S\n7 N 00200044 3001 adds r0, r0, #1 r0=0000002b\n",
-        ),
-        (
-            &calling,
-            8,
-            View::All,
-            "0 s N 10000040 4800 ldr r0, [pc, #0] r0=00200040\n1 s N 10000042 4704 bxns r0 sp=00000000\n2 n N 00200040 4b01 ldr r3, [pc, #4] r3=10008001\n3 n N 00200042 4798 blx r3 lr=00200045\n4 n N 10008000 e97fe97f sg sp=30001000 lr=00200044\n5 s N 10008004 202a movs r0, #42 r0=0000002a\n6 s N 10008006 4774 bxns lr sp=00000000\n7 n N 00200044 3001 adds r0, r0, #1 r0=0000002b\n",
-        ),
-    ];
-    for (nonsecure, steps, view, want) in cases {
-        let mut machine = machine(alloc, nonsecure)?;
-        let mut out = MemorySink::new(alloc, 1000)?;
-        let answer = run(
-            &mut machine,
-            &Script::of(rt.alloc(), &[])?,
-            steps,
-            view,
-            &mut out,
-        );
-        assert!(rt; answer.is_ok());
+    for &(code, steps, view, want) in TRACES.iter() {
+        let mut out = MemorySink::new(rt.alloc(), 1000)?;
+        assert_eq!(rt; ends(rt.alloc(), code, steps, view, &mut out)?, "well");
         assert_eq!(rt; out.bytes(), want.as_bytes());
     }
     Ok(())
@@ -108,17 +126,11 @@ fn worked_examples(rt: HostRuntime) -> Result<(), Fail> {
 #[test]
 fn failing_put(rt: HostRuntime) -> Result<(), Fail> {
     let alloc = rt.alloc();
-    let looping = looping(alloc)?;
-    let mut machine = machine(alloc, &looping)?;
     let mut out = FailingSink::new(alloc, vec![in alloc; 2u64]?);
-    let answer = run(
-        &mut machine,
-        &Script::of(rt.alloc(), &[])?,
-        4,
-        View::Ns,
-        &mut out,
+    assert_eq!(rt;
+        ends(alloc, Code::Looping, 4, View::Ns, &mut out)?,
+        "failed"
     );
-    assert!(rt; matches!(answer, Err(SinkError::Failed)));
     assert_eq!(rt; out.bytes(), b"0 S\n1 S\n".as_slice());
     Ok(())
 }
