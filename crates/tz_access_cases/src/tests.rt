@@ -6,5 +6,7 @@ mod fetches;
 mod frames;
 mod memory;
 mod monitor;
+mod numbers;
+mod regions;
 mod registers;
 mod targets;

@@ -17,8 +17,6 @@ mod layout;
 mod places;
 mod reading;
 mod second_pass;
-#[cfg(test)]
-mod tests;
 mod values;
 mod written;
 

@@ -1,4 +1,5 @@
-//! The cases, by what is large in them.
+//! The cases: small sources, and by what is large in them.
 
 mod cuts;
 mod sizes;
+mod sources;

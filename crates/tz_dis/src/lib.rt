@@ -14,8 +14,6 @@ mod fronts;
 mod lines;
 mod order;
 mod rest;
-#[cfg(test)]
-mod tests;
 
 use crate::lines::Line;
 use crate::order::ascending;

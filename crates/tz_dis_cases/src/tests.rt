@@ -1,5 +1,7 @@
 //! Plain images on the demonstration board, with their lines.
 
+mod images;
+
 use crate::is_listed;
 use std::test::Fail;
 use tz_board::demo_board;

@@ -14,8 +14,6 @@ mod raise;
 mod release;
 mod sides;
 mod status;
-#[cfg(test)]
-mod tests;
 mod vector;
 
 pub use choice::takes;

@@ -7,8 +7,6 @@
 mod branch;
 mod call;
 mod returning;
-#[cfg(test)]
-mod tests;
 
 pub use branch::{branch_ns, secure_gateway};
 pub use call::call_ns;

@@ -10,8 +10,6 @@ mod code;
 mod error;
 mod memory;
 mod numbers;
-#[cfg(test)]
-mod tests;
 
 pub use error::{NotMapped, Refused};
 pub use memory::Memory;

@@ -8,7 +8,5 @@ mod found;
 mod mpu;
 mod permission;
 mod register;
-#[cfg(test)]
-mod tests;
 
 pub use mpu::{Mpu, MpuFault};

@@ -14,8 +14,6 @@ mod laws;
 mod place;
 mod priority;
 mod side;
-#[cfg(test)]
-mod tests;
 mod tick;
 
 pub use exceptions::Exceptions;

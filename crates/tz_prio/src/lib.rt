@@ -8,8 +8,6 @@ mod escalation;
 mod execution;
 mod masks;
 mod negative;
-#[cfg(test)]
-mod tests;
 
 pub use escalation::escalate;
 pub use execution::{can_take, execution_priority, raw_priority, takes_first, wakes};

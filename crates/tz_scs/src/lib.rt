@@ -13,8 +13,6 @@ mod parts;
 mod pieces;
 mod system;
 mod table;
-#[cfg(test)]
-mod tests;
 mod timers;
 mod views;
 

@@ -11,8 +11,6 @@ mod label;
 mod number;
 mod source_line;
 mod statement;
-#[cfg(test)]
-mod tests;
 
 pub use number::Signed;
 pub use source_line::{SourceLine, read_line};

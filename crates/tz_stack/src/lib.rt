@@ -7,8 +7,6 @@
 
 mod pop;
 mod push;
-#[cfg(test)]
-mod tests;
 mod words;
 
 pub use pop::{pop_additional, pop_basic};

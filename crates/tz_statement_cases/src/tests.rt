@@ -1,5 +1,7 @@
 //! Statements of every mnemonic with their codes, other spellings, labels, and refusals.
 
+mod lines;
+
 use crate::answers::{Answer, read_statement};
 use crate::codes::{Case, NARROW_1, NARROW_2, WIDE_1, WIDE_2, WIDE_3, WIDE_4, WIDE_5, WIDE_6};
 use crate::refused::{NO_MNEMONIC, NO_SHAPE, NO_VALUES};

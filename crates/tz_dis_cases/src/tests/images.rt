@@ -1,8 +1,8 @@
 //! An image of two segments that touch, and a put that fails.
 
-use crate::disassemble;
 use std::alloc::{AllocError, Global};
 use std::test::Fail;
+use tz_dis::disassemble;
 use tz_model::{FailingSink, Image, MemorySink, Segment, SinkError};
 
 /// `sg` with its halfwords in two segments, the second one first, and a byte behind them.

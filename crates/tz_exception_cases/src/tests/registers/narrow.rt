@@ -1,7 +1,7 @@
 //! Bytes and halfwords of registers.
 
-use crate::tests::Does::{Show, Write};
-use crate::tests::{ALIAS, B, H, Machine, NS, S, SCS, Step, W, filled, run, step};
+use crate::tests::registers::Does::{Show, Write};
+use crate::tests::registers::{ALIAS, B, H, Machine, NS, S, SCS, Step, W, filled, run, step};
 use std::process::Abort;
 use std::test::Fail;
 

@@ -5,12 +5,12 @@ ghost use Rattle.std.specs.Prelude.{◌≡◌, ◌<◌};
 mod known;
 mod timers;
 
-use crate::{Exceptions, PLACES, SlotState, Steps, Timer};
 use std::marker::Brand;
 use std::process::Abort;
 use std::sync::ledger::{Blank, Ledger};
 use std::test::Fail;
 use tz_model::{ScriptEvent, Side, Slot};
+use tz_nvic::{Exceptions, PLACES, SlotState, Steps, Timer};
 
 const S: Side = Side::Secure;
 

@@ -1,7 +1,7 @@
 //! The registers of the SAU and of the MPUs through the views.
 
-use crate::tests::Does::{Show, Write};
-use crate::tests::{ALIAS, Machine, NS, S, SCS, Step, W, reset, run_filled, step};
+use crate::tests::registers::Does::{Show, Write};
+use crate::tests::registers::{ALIAS, Machine, NS, S, SCS, Step, W, reset, run_filled, step};
 use std::process::Abort;
 use std::test::Fail;
 use tz_model::Profile;

@@ -1,9 +1,9 @@
 //! Sources whose images and refusals were told by hand, or by GNU binutils.
 
-use crate::assemble;
 use std::alloc::{AllocError, Global};
 use std::fmt::Write;
 use std::test::Fail;
+use tz_asm::assemble;
 
 /// The segments of a source's image, a line each, or the code and the line of its refusal.
 fn told(alloc: Global, source: &[u8]) -> Result<String, AllocError> {

@@ -2,9 +2,9 @@
 
 ghost use Rattle.std.specs.Prelude.{◌≡◌};
 
-use crate::{Memory, NotMapped, Refused};
 use std::alloc::{AllocError, Global};
 use std::test::Fail;
+use tz_mem::{Memory, NotMapped, Refused};
 use tz_model::{Board, Profile, Region, RegionKind, RegionSide, Segment, Size};
 
 fn region(base: u32, size: u32, kind: RegionKind) -> Region

@@ -1,8 +1,8 @@
 //! Lines that were told by hand.
 
-use crate::{Expression, LineError, SourceLine, Statement, read_line};
 use std::alloc::AllocError;
 use std::test::Fail;
+use tz_source::{Expression, LineError, SourceLine, Statement, read_line};
 use tz_tokens::{Token, read_tokens};
 
 /// What a line says, in a few words.

@@ -1,10 +1,10 @@
 //! SysTick of both sides.
 
 use super::{NS, S, chosen_is, same};
-use crate::{Exceptions, Timer};
 use std::process::Abort;
 use std::test::Fail;
 use tz_model::Side;
+use tz_nvic::{Exceptions, Timer};
 
 /// SYST_CSR, RVR and CVR of a side, and how often it counts; then CSR and CVR, and whether SysTick pends.
 static COUNTS: [(u32, u32, u32, u32, u32, u32, bool); 12] = [

@@ -1,9 +1,9 @@
 //! What an MPU permits and how its registers answer, row by row. The expected values were worked out by hand from
 //! the fields of the registers.
 
-use crate::Mpu;
 use std::test::Fail;
 use tz_model::Profile;
+use tz_mpu::Mpu;
 use tz_state::Kind;
 
 const TYPE: u32 = 0xe000_ed90;

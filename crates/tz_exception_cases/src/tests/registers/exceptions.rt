@@ -1,7 +1,7 @@
 //! The registers that stand in slots: those of the NVIC, ICSR and SHCSR.
 
-use crate::tests::Does::{Show, Write};
-use crate::tests::{
+use crate::tests::registers::Does::{Show, Write};
+use crate::tests::registers::{
     ALIAS, B, H, Machine, NS, S, SCS, Step, W, prioritize, reset, run, run_filled, set, step,
     target,
 };

@@ -1,7 +1,7 @@
 //! What each register shows through each of its addresses, and what writes through them change.
 
-use crate::tests::Does::{Show, Write};
-use crate::tests::{ALIAS, Machine, NS, S, SCS, Step, W, filled, run, step};
+use crate::tests::registers::Does::{Show, Write};
+use crate::tests::registers::{ALIAS, Machine, NS, S, SCS, Step, W, filled, run, step};
 use std::process::Abort;
 use std::test::Fail;
 use tz_model::Side;

@@ -2,15 +2,15 @@
 
 ghost use Rattle.std.specs.Prelude.{◌≡◌, ◌<◌};
 
-use crate::{
-    Taken, can_take, escalate, execution_priority, is_negative, raw_priority, takes_first, wakes,
-};
 use std::marker::Brand;
 use std::process::Abort;
 use std::sync::ledger::{Blank, Ledger};
 use std::test::Fail;
 use tz_model::{Side, Slot};
 use tz_nvic::{Exceptions, Steps};
+use tz_prio::{
+    Taken, can_take, escalate, execution_priority, is_negative, raw_priority, takes_first, wakes,
+};
 use tz_regs::Core;
 
 const S: Side = Side::Secure;

@@ -1,11 +1,11 @@
 //! Calls and returns between the sides, row by row. The expected values were worked out by hand from the
 //! architecture's rules.
 
-use crate::{branch_ns, call_ns, function_return, is_fnc_return, secure_gateway};
 use std::alloc::{AllocError, Global};
 use std::fmt::Write;
 use std::test::Fail;
 use tz_frames::TableFrames;
+use tz_gate::{branch_ns, call_ns, function_return, is_fnc_return, secure_gateway};
 use tz_model::{Fault, Side, TableEntry, TablePort};
 use tz_regs::Core;
 

@@ -4,10 +4,10 @@ mod entering;
 mod leaving;
 mod raising;
 
-use crate::{Entered, Left, enter, leave};
 use std::alloc::Global;
 use std::process::Abort;
 use std::test::Fail;
+use tz_excret::{Entered, Left, enter, leave};
 use tz_frames::{Frames, TableFrames};
 use tz_model::{Profile, Side, Slot, TableEntry};
 use tz_nvic::Exceptions;

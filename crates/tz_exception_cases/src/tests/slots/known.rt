@@ -1,10 +1,10 @@
 //! What is known of the exceptions without a look at all of them, after each change.
 
 use super::{Event, NS, S, agrees, chosen_is, happen, same, settle};
-use crate::Exceptions;
 use std::process::Abort;
 use std::test::Fail;
 use tz_model::Side;
+use tz_nvic::Exceptions;
 
 /// Events one after another, and what is so after each: who is chosen; the least priority of what is active, four
 /// above the manual's; whether an interrupt is pending; and a number with RETTOBASE in its handler.

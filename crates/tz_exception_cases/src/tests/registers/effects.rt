@@ -1,7 +1,7 @@
 //! What reads and writes do beside the word: COUNTFLAG, the key of AIRCR, ones that clear.
 
-use crate::tests::Does::{Show, Write};
-use crate::tests::{ALIAS, B, H, NS, S, SCS, Step, W, filled, run, run_filled, set};
+use crate::tests::registers::Does::{Show, Write};
+use crate::tests::registers::{ALIAS, B, H, NS, S, SCS, Step, W, filled, run, run_filled, set};
 use std::test::Fail;
 use tz_model::Side;
 use tz_state::Timer;

@@ -1,9 +1,9 @@
 //! Faults as they are raised, and the values of returns.
 
 use super::{Bench, NS, S, agrees};
-use crate::{is_exc_return, raise_fault, takes};
 use std::process::Abort;
 use std::test::Fail;
+use tz_excret::{is_exc_return, raise_fault, takes};
 use tz_model::{Fault, Side};
 
 /// A name; a fault of Non-secure code, FAULTMASK of the Secure side; what pends then, 0 where the core has to lock; UFSR of

@@ -6,13 +6,13 @@ mod narrow;
 mod units;
 mod views;
 
-use crate::System;
 use std::alloc::{AllocError, Global};
 use std::process::Abort;
 use tz_access::{Bus, is_aligned};
 use tz_model::{Board, Profile, Region, RegionKind, RegionSide, Side, Size, Slot};
 use tz_nvic::Exceptions;
 use tz_regs::Core;
+use tz_scs::System;
 use tz_state::{MpuRegister, SauRegister, Timer};
 
 const S: Side = Side::Secure;

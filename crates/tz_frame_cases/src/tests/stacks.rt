@@ -1,12 +1,12 @@
 //! Frames, row by row. The expected words were worked out by hand from the architecture's rules.
 
-use crate::{Callee, StackFault, pop_additional, pop_basic, push_additional, push_basic};
 use std::alloc::{AllocError, Global};
 use std::process::Abort;
 use std::test::Fail;
 use tz_frames::TableFrames;
 use tz_model::{Fault, Side, TableEntry};
 use tz_regs::Core;
+use tz_stack::{Callee, StackFault, pop_additional, pop_basic, push_additional, push_basic};
 
 const S: Side = Side::Secure;
 

@@ -1,0 +1,5 @@
+//! The cases, by what they are about.
+
+mod exceptions;
+mod gates;
+mod stacks;
