@@ -1,4 +1,4 @@
-use Rattle.tz_nvic.proofs.tests.chosen.Given as goal
+use Rattle.tz_exception_cases.proofs.tests.slots.chosen.Given as goal
 
 abbrev pub ghosts-chosen_by : goal.ghosts-chosen_by
 ghosts-chosen_by a = record { name = a.blank.name; parts = a.blank.parts }
