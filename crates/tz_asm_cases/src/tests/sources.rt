@@ -1,28 +1,16 @@
 //! Sources whose images and refusals were told by hand, or by GNU binutils.
 
+use crate::image_text;
 use std::alloc::{AllocError, Global};
 use std::fmt::Write;
 use std::test::Fail;
-use tz_asm::assemble;
 
-/// The segments of a source's image, a line each, or the code and the line of its refusal.
+/// The image of a source in words, or its refusal.
 fn told(alloc: Global, source: &[u8]) -> Result<String, AllocError> {
     if source.len() > 0x100_0000 {
         return String::from_str(alloc, "too long");
     }
-    let image = match assemble(alloc, source) {
-        Ok(image) => image,
-        Err(error) => return format!(in alloc; "{error}"),
-    };
-    let mut text = String::new(alloc);
-    for segment in image.segments.iter() {
-        write!(text, "{:08x} ", segment.base)?;
-        for byte in segment.bytes.iter() {
-            write!(text, "{byte:02x}")?;
-        }
-        text.push('\n')?;
-    }
-    Ok(text)
+    image_text(alloc, source)
 }
 
 #[test]
