@@ -44,15 +44,3 @@ impl<L: Ledger> Steps<L> {
         self.total.add(&mut self.counted, 1);
     }
 }
-
-#[cfg(test)]
-mod tests {
-    use super::Steps;
-    use std::marker::Brand;
-    use std::mem::size_of;
-
-    #[test]
-    fn takes_no_bytes(rt: HostRuntime) {
-        assert_eq!(rt; size_of::<Steps<Brand>>(), 0);
-    }
-}

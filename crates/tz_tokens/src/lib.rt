@@ -6,8 +6,6 @@
 
 mod number;
 mod runs;
-#[cfg(test)]
-mod tests;
 mod token;
 
 pub use runs::without_comment;

@@ -1,6 +1,6 @@
 //! The whole word on an address.
 
-use crate::{SAU_CTRL, bus_of, bus_with_sau};
+use crate::tests::{SAU_CTRL, bus_of, bus_with_sau};
 use std::test::Fail;
 use tz_access::Bus;
 use tz_model::{Profile, Side};

@@ -1,6 +1,6 @@
 //! The checks of accesses in their order.
 
-use crate::{MPU_CTRL, bus_of, bus_with_sau, fault_told, place_told, set_mpu};
+use crate::tests::{MPU_CTRL, bus_of, bus_with_sau, fault_told, place_told, set_mpu};
 use std::test::Fail;
 use tz_access::Bus;
 use tz_model::{Profile, Side, Size};

@@ -1,6 +1,6 @@
 //! Fetches: the checks of a halfword, instructions of two, and the gateway.
 
-use crate::{MPU_CTRL, bus_of, fetched_told, put, set_mpu};
+use crate::tests::{MPU_CTRL, bus_of, fetched_told, put, set_mpu};
 use std::alloc::{AllocError, Global};
 use std::test::Fail;
 use tz_access::Bus;

@@ -2,7 +2,7 @@
 
 ghost use Rattle.std.specs.Prelude.{◌≡◌};
 
-use crate::{MPU_CTRL, bus_of, put, set_mpu, word_told};
+use crate::tests::{MPU_CTRL, bus_of, put, set_mpu, word_told};
 use std::test::Fail;
 use tz_access::Bus;
 use tz_frames::{BusFrames, Frames, TableFrames};

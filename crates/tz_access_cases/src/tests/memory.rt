@@ -1,6 +1,6 @@
 //! Memory through the bus, with no check but the map's.
 
-use crate::{bus_of, put};
+use crate::tests::{bus_of, put};
 use std::test::Fail;
 use tz_access::Bus;
 use tz_mem::Refused;

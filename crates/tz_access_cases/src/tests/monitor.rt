@@ -1,6 +1,6 @@
 //! The exclusive monitor.
 
-use crate::bus_of;
+use crate::tests::bus_of;
 use std::test::Fail;
 use tz_access::Bus;
 use tz_model::{Profile, Size};

@@ -1,6 +1,8 @@
 //! The registers of the units by their addresses.
 
-use crate::{MPU_RBAR, MPU_RLAR, SAU_CTRL, SAU_RBAR, SAU_RLAR, SAU_RNR, SAU_TYPE, bus_of, set_mpu};
+use crate::tests::{
+    MPU_RBAR, MPU_RLAR, SAU_CTRL, SAU_RBAR, SAU_RLAR, SAU_RNR, SAU_TYPE, bus_of, set_mpu,
+};
 use std::test::Fail;
 use tz_access::Bus;
 use tz_model::{Profile, Side};

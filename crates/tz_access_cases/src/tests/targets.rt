@@ -1,6 +1,6 @@
 //! The words of TT.
 
-use crate::{MPU_CTRL, bus_of, bus_with_sau, set_mpu};
+use crate::tests::{MPU_CTRL, bus_of, bus_with_sau, set_mpu};
 use std::test::Fail;
 use tz_access::Bus;
 use tz_model::{Profile, Side};

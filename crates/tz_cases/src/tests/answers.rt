@@ -1,7 +1,7 @@
 //! The top call over shelves and sinks in memory: statuses, what is written, and the lines on standard
 //! error.
 
-use crate::words_of;
+use crate::tests::words_of;
 use std::alloc::{AllocError, Global};
 use std::test::Fail;
 use tz_cli::top;

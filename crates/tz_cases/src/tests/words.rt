@@ -1,6 +1,6 @@
 //! Lists of words that are accepted, with what they say, and lists that are refused.
 
-use crate::words_of;
+use crate::tests::words_of;
 use std::alloc::{AllocError, Global};
 use std::test::Fail;
 use tz_model::{Side, View};

@@ -1,7 +1,6 @@
 //! Board files: one whose lines are changed, cut off and put in other numbers, and the built-in board.
 
-use crate::from_so_many;
-use crate::tests::FEW;
+use crate::tests::{FEW, from_so_many};
 use std::alloc::Global;
 use std::fmt::Write;
 use std::process::Abort;

@@ -2,8 +2,7 @@
 
 ghost use Rattle.std.specs.Prelude.{◌≡◌, ◌<◌};
 
-use crate::from_so_many;
-use crate::tests::FEW;
+use crate::tests::{FEW, from_so_many};
 use std::alloc::Global;
 use std::fmt::Write;
 use std::marker::Brand;

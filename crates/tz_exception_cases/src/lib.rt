@@ -1,8 +1,0 @@
-//! Exceptions, priorities, timers and the system registers, row by row.
-//!
-//! The expected values were worked out by hand from the architecture's rules. A crate with tests is proved once
-//! more for them, so they stand apart from what they test. Nothing but tests stands on this crate.
-#![tactic(auto)]
-
-#[cfg(test)]
-mod tests;
