@@ -4,14 +4,12 @@
 //! kept in a buffer, which is passed on before the program ends.
 #![tactic(auto)]
 
-mod edge;
-
-use edge::{FileShelf, OutSink};
 use std::alloc::{AllocError, Global};
 use std::env::{self, Env};
 use std::io::ErrorKind;
 use std::process::ExitCode;
 use tz_cli::top;
+use tz_edge::{FileShelf, OutSink};
 use tz_model::Sink;
 
 /// How many bytes of standard output are kept before they go out.

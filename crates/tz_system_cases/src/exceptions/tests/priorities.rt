@@ -79,23 +79,40 @@ fn mask(core: &mut Core, side: Side, values: &[u32; 3]) {
     core.set_faultmask(side, values[2]);
 }
 
+/// Sets PRIS, BFHFNMINS, and PRIGROUP of both sides.
+fn group(rt: &impl Abort, exceptions: &mut Exceptions, pris: bool, bfhfnmins: bool, prigroup: u8) {
+    assert!(rt; prigroup < 8);
+    exceptions.set_pris(pris);
+    exceptions.set_fault_side(bfhfnmins);
+    exceptions.set_grouping(S, prigroup);
+    exceptions.set_grouping(NS, prigroup);
+}
+
+/// Compares the execution priority, and whether it is negative.
+fn execution_is(rt: &impl Abort, core: &Core, exceptions: &Exceptions, wanted: i32, row: usize) {
+    let found = execution_priority(core, exceptions);
+    let negative = is_negative(core, exceptions);
+    assert!(rt;
+        found == wanted && negative == (wanted < 0),
+        "row {row}: {found}"
+    );
+}
+
+/// Compares the priority that the active slots give.
+fn raw_is(rt: &impl Abort, exceptions: &Exceptions, wanted: i32, row: usize) {
+    assert_eq!(rt; raw_priority(exceptions), wanted, "row {row}");
+}
+
 #[test]
 fn masks_give_a_priority(rt: HostRuntime) -> Result<(), Fail> {
-    for (pris, bfhfnmins, group, secure, nonsecure, wanted) in &MASKS {
+    for (row, (pris, bfhfnmins, prigroup, secure, nonsecure, wanted)) in MASKS.iter().enumerate() {
         let mut exceptions = Exceptions::new(rt.alloc(), 8)?;
-        exceptions.set_pris(*pris);
-        exceptions.set_fault_side(*bfhfnmins);
-        assert!(rt; *group < 8);
-        exceptions.set_grouping(S, *group);
-        exceptions.set_grouping(NS, *group);
+        group(&rt, &mut exceptions, *pris, *bfhfnmins, *prigroup);
         let mut core = Core::new();
         mask(&mut core, S, secure);
         mask(&mut core, NS, nonsecure);
-        let found = execution_priority(&core, &exceptions);
-        assert_eq!(rt; found, *wanted, "{secure:?} {nonsecure:?}");
-        let negative = is_negative(&core, &exceptions);
-        assert_eq!(rt; negative, *wanted < 0, "{secure:?} {nonsecure:?}");
-        assert_eq!(rt; raw_priority(&exceptions), 256);
+        execution_is(&rt, &core, &exceptions, *wanted, row);
+        raw_is(&rt, &exceptions, 256, row);
     }
     Ok(())
 }
@@ -118,24 +135,23 @@ static ACTIVE: [(bool, bool, (u16, Side, u8), (u16, Side, u8), i32); 14] = [
     (false, false, (23, S, 0xff), (22, S, 0xff), 0xfe),
 ];
 
+/// Compares the priorities that active slots give without a mask, and with PRIMASK.
+fn active_is(rt: &impl Abort, exceptions: &Exceptions, wanted: i32, row: usize) {
+    let mut core = Core::new();
+    raw_is(rt, exceptions, wanted, row);
+    execution_is(rt, &core, exceptions, wanted, row);
+    core.set_primask(S, 1);
+    execution_is(rt, &core, exceptions, wanted.min(0), row);
+}
+
 #[test]
 fn active_slots_give_a_priority(rt: HostRuntime) -> Result<(), Fail> {
-    for (bfhfnmins, pris, first, second, wanted) in &ACTIVE {
+    for (row, (bfhfnmins, pris, first, second, wanted)) in ACTIVE.iter().enumerate() {
         let mut exceptions = Exceptions::new(rt.alloc(), 8)?;
-        exceptions.set_fault_side(*bfhfnmins);
-        exceptions.set_pris(*pris);
+        group(&rt, &mut exceptions, *pris, *bfhfnmins, 0);
         activate(&rt, &mut exceptions, first.0, first.1, first.2);
         activate(&rt, &mut exceptions, second.0, second.1, second.2);
-        let mut core = Core::new();
-        assert_eq!(rt; raw_priority(&exceptions), *wanted, "{}", first.0);
-        let found = execution_priority(&core, &exceptions);
-        assert_eq!(rt; found, *wanted, "{}", first.0);
-        let negative = is_negative(&core, &exceptions);
-        assert_eq!(rt; negative, *wanted < 0, "{}", first.0);
-        core.set_primask(S, 1);
-        let found = execution_priority(&core, &exceptions);
-        assert_eq!(rt; found, (*wanted).min(0), "{}", first.0);
-        assert_eq!(rt; raw_priority(&exceptions), *wanted, "{}", first.0);
+        active_is(&rt, &exceptions, *wanted, row);
     }
     Ok(())
 }
@@ -257,31 +273,42 @@ fn interrupt(rt: &impl Abort, exceptions: &mut Exceptions, number: u16, side: Si
     exceptions.pend(slot);
 }
 
+/// Sets the interrupts of a row pending, which have a priority.
+fn interrupt_both(
+    rt: &impl Abort,
+    exceptions: &mut Exceptions,
+    first: Option<u8>,
+    second: Option<u8>,
+) {
+    if let Some(priority) = first {
+        interrupt(rt, exceptions, 16, S, priority);
+    }
+    if let Some(priority) = second {
+        interrupt(rt, exceptions, 17, NS, priority);
+    }
+}
+
+/// Compares whether the first exception is taken, and whether it ends a sleep.
+fn first_is(
+    rt: &impl Abort,
+    core: &Core,
+    exceptions: &Exceptions,
+    wanted: (bool, bool),
+    row: usize,
+) {
+    assert_eq!(rt; answers(core, exceptions), wanted, "row {row}");
+}
+
 #[test]
 fn the_first_is_taken_or_wakes(rt: HostRuntime) -> Result<(), Fail> {
-    for (pris, first, second, secure, nonsecure, taken, woken) in &FIRST {
+    for (row, (pris, first, second, secure, nonsecure, taken, woken)) in FIRST.iter().enumerate() {
         let mut exceptions = Exceptions::new(rt.alloc(), 8)?;
         exceptions.set_pris(*pris);
-        if let Some(priority) = first {
-            interrupt(&rt, &mut exceptions, 16, S, *priority);
-        }
-        if let Some(priority) = second {
-            interrupt(&rt, &mut exceptions, 17, NS, *priority);
-        }
+        interrupt_both(&rt, &mut exceptions, *first, *second);
         let mut core = Core::new();
         mask(&mut core, S, secure);
         mask(&mut core, NS, nonsecure);
-        let (takes, wakes) = answers(&core, &exceptions);
-        assert_eq!(rt;
-            takes,
-            *taken,
-            "{first:?} {second:?} {secure:?} {nonsecure:?}"
-        );
-        assert_eq!(rt;
-            wakes,
-            *woken,
-            "{first:?} {second:?} {secure:?} {nonsecure:?}"
-        );
+        first_is(&rt, &core, &exceptions, (*taken, *woken), row);
     }
     Ok(())
 }
@@ -338,21 +365,25 @@ static HELD: [(bool, u16, Side, &str, &str); 6] = [
     (true, 15, S, "hard s", "hard ns"),
 ];
 
+/// Compares what a disabled UsageFault of a side becomes.
+fn fault_is(rt: &impl Abort, exceptions: &Exceptions, side: Side, wanted: &str, row: usize) {
+    let core = Core::new();
+    let slot = Slot { number: 6, side };
+    assert_eq!(rt;
+        told(escalate(&core, exceptions, slot)),
+        wanted,
+        "row {row}"
+    );
+}
+
 #[test]
 fn faults_in_handlers_may_lock(rt: HostRuntime) -> Result<(), Fail> {
-    for (bfhfnmins, number, side, secure, nonsecure) in &HELD {
+    for (row, (bfhfnmins, number, side, secure, nonsecure)) in HELD.iter().enumerate() {
         let mut exceptions = Exceptions::new(rt.alloc(), 8)?;
         exceptions.set_fault_side(*bfhfnmins);
         activate(&rt, &mut exceptions, *number, *side, 0);
-        let core = Core::new();
-        for (of, wanted) in [(S, secure), (NS, nonsecure)] {
-            let slot = Slot {
-                number: 6,
-                side: of,
-            };
-            let found = told(escalate(&core, &exceptions, slot));
-            assert_eq!(rt; found, *wanted, "{number} {bfhfnmins}");
-        }
+        fault_is(&rt, &exceptions, S, secure, row);
+        fault_is(&rt, &exceptions, NS, nonsecure, row);
     }
     Ok(())
 }

@@ -1,6 +1,6 @@
 use Rattle.std.proofs.Common.{◌-◌, ◌+◌, ◌≤◌}
-use Rattle.tz_main.proofs.Reading.{Gained}
-use Rattle.tz_main.proofs.edge.read_to_limit.Given as goal
+use Rattle.tz_edge.proofs.Reading.{Gained}
+use Rattle.tz_edge.proofs.read_to_limit.Given as goal
 
 abbrev pub invariant-pieces : goal.invariant-pieces
 invariant-pieces g l = record {

@@ -3,6 +3,7 @@
 //! Both tell no contents, since no proof knows what a file holds or a stream takes. They are thin, and
 //! count a fault where the system answers an error. No more of a file is read than its limit and one
 //! byte, and after a fault nothing more is written.
+#![tactic(auto)]
 
 ghost use Rattle.std.specs.Prelude.{◌≡◌, ◌<◌, ◌≤◌, ◌^◌, length, false, IfErr, IfOk, OnOk, OnErr};
 ghost use Rattle.tz_model.specs.Outside.{Untold, Got, Cut, HasCause, Long, Rose};
