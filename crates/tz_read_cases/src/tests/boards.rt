@@ -1,12 +1,12 @@
 //! Board files: one whose lines are changed, cut off and put in other numbers, and the built-in board.
 
 use crate::tests::{FEW, from_so_many};
-use std::alloc::Global;
+use std::alloc::{AllocError, Global};
 use std::fmt::Write;
 use std::process::Abort;
 use std::test::Fail;
 use tz_board::{demo_board, read_board};
-use tz_model::{Profile, RegionKind, RegionSide};
+use tz_model::{Board, Profile, Region, RegionKind, RegionSide, SauRegion};
 
 /// The lines of a board file.
 static LINES: [&str; 21] = [
@@ -214,30 +214,45 @@ fn answer(rt: &impl Abort, alloc: Global, bytes: &[u8]) -> Result<String, Fail> 
     }
 }
 
-/// The lines of the board file before one.
-fn lines_before(alloc: Global, end: usize) -> Result<String, Fail> {
-    let mut text = String::new(alloc);
+/// Adds the lines of the board file from one to another.
+fn push_lines(text: &mut String, from: usize, to: usize) -> Result<(), AllocError> {
     for (index, line) in LINES.iter().enumerate() {
-        if index < end {
+        if from <= index && index < to {
             write!(text, "{line}\n")?;
         }
     }
+    Ok(())
+}
+
+/// The lines of the board file before one.
+fn lines_before(alloc: Global, end: usize) -> Result<String, AllocError> {
+    let mut text = String::new(alloc);
+    push_lines(&mut text, 0, end)?;
     Ok(text)
+}
+
+/// The lines of the board file with another in the place of one.
+fn lines_with(alloc: Global, at: usize, new: &str) -> Result<String, AllocError> {
+    let mut text = lines_before(alloc, at)?;
+    write!(text, "{new}\n")?;
+    push_lines(&mut text, at + 1, LINES.len())?;
+    Ok(text)
+}
+
+/// Compares the answer for a board file; `about` says of which row it is.
+fn check(rt: &impl Abort, alloc: Global, file: &[u8], want: &str, about: &str) -> Result<(), Fail> {
+    let found = answer(rt, alloc, file)?;
+    assert_eq!(rt; found.as_str(), want, "{about}");
+    Ok(())
 }
 
 #[test]
 fn answers_by_key(rt: HostRuntime) -> Result<(), Fail> {
     let alloc = rt.alloc();
     for (at, new, want) in &EDITS {
-        let mut text = lines_before(alloc, *at)?;
-        write!(text, "{new}\n")?;
-        for (index, line) in LINES.iter().enumerate() {
-            if index > *at {
-                write!(text, "{line}\n")?;
-            }
-        }
-        let found = answer(&rt, alloc, text.as_bytes())?;
-        assert_eq!(rt; found.as_str(), *want, "line {at}: {new}");
+        assert!(rt; *at < LINES.len());
+        let text = lines_with(alloc, *at, new)?;
+        check(&rt, alloc, text.as_bytes(), want, new)?;
     }
     Ok(())
 }
@@ -247,51 +262,64 @@ fn answers_by_list(rt: HostRuntime) -> Result<(), Fail> {
     let alloc = rt.alloc();
     for (end, want) in &ENDS {
         let mut text = lines_before(alloc, 7)?;
-        write!(text, "{end}")?;
-        let found = answer(&rt, alloc, text.as_bytes())?;
-        assert_eq!(rt; found.as_str(), *want, "{end}");
+        text.push_str(end)?;
+        check(&rt, alloc, text.as_bytes(), want, end)?;
     }
-    let found = answer(&rt, alloc, b"secure_vtor = \"\xFF\"")?;
-    assert_eq!(rt; found.as_str(), "B1");
-    Ok(())
+    check(&rt, alloc, b"secure_vtor = \"\xFF\"", "B1", "")
+}
+
+/// Adds a region to a board file.
+fn push_region(text: &mut String, base: u32, size: u32) -> Result<(), AllocError> {
+    text.push_str("[[region]]\nkind = \"rom\"\nside = \"nsc\"\n")?;
+    write!(text, "base = {base}\nsize = {size}\n")
 }
 
 /// A board file with these regions, each by its base and size.
-fn with_regions(alloc: Global, regions: &[(u32, u32)]) -> Result<String, Fail> {
+fn with_regions(alloc: Global, regions: &[(u32, u32)]) -> Result<String, AllocError> {
     let mut text = lines_before(alloc, 7)?;
     for (base, size) in regions {
-        write!(
-            text,
-            "[[region]]\nbase = {base}\nsize = {size}\nkind = \"rom\"\nside = \"nsc\"\n"
-        )?;
+        push_region(&mut text, *base, *size)?;
     }
     Ok(text)
 }
 
+/// Regions, and the answer for a board file with these.
+static OVERLAPS: [(&[(u32, u32)], &str); 6] = [
+    (&[(0, 64), (128, 64), (32, 64)], "B5 0 2"),
+    (&[(0, 64), (64, 64), (128, 64), (32, 64), (0, 32)], "B5 0 3"),
+    (&[(256, 64), (0, 64), (32, 64), (256, 32)], "B5 1 2"),
+    (&[(0, 32), (64, 32), (0, 96)], "B5 0 2"),
+    (&[(0, 32), (64, 32), (32, 64)], "B5 1 2"),
+    (&[(0, 32), (32, 32), (64, 32)], "accepted"),
+];
+
+/// Compares the answer for a board file with these regions.
+fn check_regions(
+    rt: &impl Abort,
+    alloc: Global,
+    regions: &[(u32, u32)],
+    want: &str,
+) -> Result<(), Fail> {
+    let text = with_regions(alloc, regions)?;
+    check(rt, alloc, text.as_bytes(), want, "regions")
+}
+
 #[test]
 fn answers_by_overlap(rt: HostRuntime) -> Result<(), Fail> {
-    let alloc = rt.alloc();
-    let cases: [(&[(u32, u32)], &str); 6] = [
-        (&[(0, 64), (128, 64), (32, 64)], "B5 0 2"),
-        (&[(0, 64), (64, 64), (128, 64), (32, 64), (0, 32)], "B5 0 3"),
-        (&[(256, 64), (0, 64), (32, 64), (256, 32)], "B5 1 2"),
-        (&[(0, 32), (64, 32), (0, 96)], "B5 0 2"),
-        (&[(0, 32), (64, 32), (32, 64)], "B5 1 2"),
-        (&[(0, 32), (32, 32), (64, 32)], "accepted"),
-    ];
-    for (regions, want) in &cases {
-        let text = with_regions(alloc, regions)?;
-        let found = answer(&rt, alloc, text.as_bytes())?;
-        assert_eq!(rt; found.as_str(), *want, "{want}");
+    for (regions, want) in &OVERLAPS {
+        check_regions(&rt, rt.alloc(), regions, want)?;
     }
+    Ok(())
+}
+
+#[test]
+fn answers_by_number_of_regions(rt: HostRuntime) -> Result<(), Fail> {
     for (count, want) in [(32, "accepted"), (33, "B6")] {
-        let mut regions = Vec::new(alloc);
+        let mut regions = Vec::new(rt.alloc());
         for index in 0..count {
             regions.push((32 * index, 32))?;
         }
-        let text = with_regions(alloc, regions.as_slice())?;
-        let found = answer(&rt, alloc, text.as_bytes())?;
-        assert_eq!(rt; found.as_str(), want, "{count} regions");
+        check_regions(&rt, rt.alloc(), regions.as_slice(), want)?;
     }
     Ok(())
 }
@@ -309,28 +337,45 @@ fn answers_by_cut(rt: HostRuntime) -> Result<(), Fail> {
     Ok(())
 }
 
+/// The numbers of a board, and how many regions of both kinds it has.
+fn numbers_of(board: &Board) -> [usize; 8] {
+    [
+        board.secure_vtor as usize,
+        board.nonsecure_vtor as usize,
+        board.interrupts as usize,
+        board.sau_regions as usize,
+        board.mpu_secure as usize,
+        board.mpu_nonsecure as usize,
+        board.regions.len(),
+        board.sau.len(),
+    ]
+}
+
+/// Compares the last region and the first one of the SAU, which are the board file's.
+fn check_last(rt: &impl Abort, regions: &[Region], sau: &[SauRegion]) {
+    assert!(rt; regions.len() == 2 && sau.len() == 1);
+    let last = regions[1];
+    assert_eq!(rt; (last.base, last.size), (0x2000_0000, 0x8000));
+    assert!(rt; last.kind == RegionKind::Ram && last.side == RegionSide::NonSecure);
+    let first = sau[0];
+    assert_eq!(rt;
+        (first.base, first.limit, first.nsc),
+        (0x2000_0000, 0x2000_7FFF, false)
+    );
+}
+
 #[test]
 fn reads_the_values(rt: HostRuntime) -> Result<(), Fail> {
     let alloc = rt.alloc();
     let text = lines_before(alloc, LINES.len())?;
     assert!(rt; text.len() < FEW);
     let board = read_board(alloc, text.as_bytes())?;
-    assert_eq!(rt; board.secure_vtor, 0x1000_0000);
-    assert_eq!(rt; board.nonsecure_vtor, 0x0020_0000);
-    assert_eq!(rt; board.interrupts, 8);
-    assert_eq!(rt; board.sau_regions, 2);
-    assert_eq!(rt; (board.mpu_secure, board.mpu_nonsecure), (8, 8));
-    assert!(rt; board.profile == Profile::V81);
-    assert_eq!(rt; board.regions.len(), 2);
-    let last = board.regions[1];
-    assert_eq!(rt; (last.base, last.size), (0x2000_0000, 0x8000));
-    assert!(rt; last.kind == RegionKind::Ram && last.side == RegionSide::NonSecure);
-    assert_eq!(rt; board.sau.len(), 1);
-    let first = board.sau[0];
     assert_eq!(rt;
-        (first.base, first.limit, first.nsc),
-        (0x2000_0000, 0x2000_7FFF, false)
+        numbers_of(&board),
+        [0x1000_0000, 0x0020_0000, 8, 2, 8, 8, 2, 1]
     );
+    assert!(rt; board.profile == Profile::V81);
+    check_last(&rt, board.regions.as_slice(), board.sau.as_slice());
     Ok(())
 }
 
@@ -338,10 +383,8 @@ fn reads_the_values(rt: HostRuntime) -> Result<(), Fail> {
 fn has_the_built_in_board(rt: HostRuntime) -> Result<(), Fail> {
     let board = demo_board(rt.alloc())?;
     assert_eq!(rt;
-        (board.secure_vtor, board.nonsecure_vtor),
-        (0x1000_0000, 0x0020_0000)
+        numbers_of(&board),
+        [0x1000_0000, 0x0020_0000, 8, 8, 8, 8, 5, 3]
     );
-    assert_eq!(rt; (board.interrupts, board.sau_regions), (8, 8));
-    assert_eq!(rt; (board.regions.len(), board.sau.len()), (5, 3));
     Ok(())
 }
