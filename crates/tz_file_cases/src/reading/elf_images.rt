@@ -6,7 +6,7 @@
 
 ghost use Rattle.std.specs.Prelude.{◌<◌, ◌^◌, length};
 
-use crate::tests::image_text;
+use crate::reading::image_text;
 use std::alloc::Global;
 use std::test::Fail;
 use tz_board::demo_board;

@@ -1,6 +1,7 @@
 //! Board files: one whose lines are changed, cut off and put in other numbers, and the built-in board.
 
-use crate::tests::{FEW, from_so_many};
+use crate::reading::FEW;
+use crate::told::from_so_many;
 use std::alloc::{AllocError, Global};
 use std::fmt::Write;
 use std::process::Abort;

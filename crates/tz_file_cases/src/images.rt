@@ -7,37 +7,19 @@ ghost use Rattle.std.specs.Prelude.{◌<◌, ◌^◌, length};
 
 mod tests;
 
+use crate::told::segments_text;
 use std::alloc::{AllocError, Global};
 use std::fmt::Write;
 use tz_asm::assemble;
-
-/// The last of some answers that holds from so many bytes on; no text where none does.
-pub fn from_so_many(answers: &[(usize, &'static str)], length: usize) -> &'static str {
-    for (from, answer) in answers.iter().rev() {
-        if *from <= length {
-            return answer;
-        }
-    }
-    ""
-}
 
 /// The segments of a source's image, a line each, or the code and the line of its refusal.
 pub fn image_text(alloc: Global, source: &[u8]) -> Result<String, AllocError>
     requires { length source.now < 2 ^ 32 }
 {
-    let image = match assemble(alloc, source) {
-        Ok(image) => image,
-        Err(error) => return format!(in alloc; "{error}"),
-    };
-    let mut text = String::new(alloc);
-    for segment in image.segments.iter() {
-        write!(text, "{:08x} ", segment.base)?;
-        for byte in segment.bytes.iter() {
-            write!(text, "{byte:02x}")?;
-        }
-        text.push('\n')?;
+    match assemble(alloc, source) {
+        Ok(image) => segments_text(alloc, &image),
+        Err(error) => format!(in alloc; "{error}"),
     }
-    Ok(text)
 }
 
 /// The base and the number of bytes of the last segment and the number of segments, or the code and the

@@ -2,7 +2,8 @@
 
 ghost use Rattle.std.specs.Prelude.{◌≡◌, ◌<◌};
 
-use crate::tests::{FEW, from_so_many};
+use crate::reading::FEW;
+use crate::told::from_so_many;
 use std::alloc::Global;
 use std::fmt::Write;
 use std::marker::Brand;

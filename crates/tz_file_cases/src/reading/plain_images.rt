@@ -1,7 +1,7 @@
 //! Plain images on the demonstration board: accepted ones with their segments, and one of each refusal
 //! with its code and place.
 
-use crate::tests::image_text;
+use crate::reading::image_text;
 use std::fmt::Write;
 use std::test::Fail;
 use tz_board::{demo_board, read_board};

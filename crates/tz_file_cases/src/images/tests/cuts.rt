@@ -1,6 +1,7 @@
 //! A source that is cut at each length.
 
-use crate::images::{from_so_many, image_text};
+use crate::images::image_text;
+use crate::told::from_so_many;
 use std::test::Fail;
 
 /// A source that is accepted, with labels that are used before they stand.
