@@ -15,9 +15,14 @@ fn numbers_of_an_addition(rt: HostRuntime) {
         amount: 7,
     };
     assert_eq!(rt; values(&insn), [21, 2, 1, 0, 0, 4, 5, 6, 7]);
-    assert_eq!(rt; field_name(&insn, 0), Some(FieldName::Rd));
-    assert_eq!(rt; field_name(&insn, 3), Some(FieldName::Amount));
-    assert_eq!(rt; field_name(&insn, 4), None);
+    let names = [
+        (0, Some(FieldName::Rd)),
+        (3, Some(FieldName::Amount)),
+        (4, None),
+    ];
+    for (index, name) in names {
+        assert_eq!(rt; field_name(&insn, index), name);
+    }
 }
 
 #[test]
@@ -30,7 +35,12 @@ fn numbers_of_a_literal_load(rt: HostRuntime) {
         user: false,
     };
     assert_eq!(rt; values(&insn), [58, 1, 1, 4, 0, 3, -20, 0, 0]);
-    assert_eq!(rt; field_name(&insn, 0), Some(FieldName::Rt));
-    assert_eq!(rt; field_name(&insn, 1), Some(FieldName::Offset));
-    assert_eq!(rt; field_name(&insn, 2), None);
+    let names = [
+        (0, Some(FieldName::Rt)),
+        (1, Some(FieldName::Offset)),
+        (2, None),
+    ];
+    for (index, name) in names {
+        assert_eq!(rt; field_name(&insn, index), name);
+    }
 }
