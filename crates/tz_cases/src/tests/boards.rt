@@ -96,8 +96,8 @@ static DEMO: [usize; 16] = [
 #[test]
 fn values_of_boards(rt: HostRuntime) -> Result<(), Fail> {
     let board = read_board(rt.alloc(), FILE.as_bytes())?;
-    assert_eq!(rt; numbers_of(&board), Some(READ));
+    assert!(rt; numbers_of(&board) == Some(READ));
     let demo = demo_board(rt.alloc())?;
-    assert_eq!(rt; numbers_of(&demo), Some(DEMO));
+    assert!(rt; numbers_of(&demo) == Some(DEMO));
     Ok(())
 }

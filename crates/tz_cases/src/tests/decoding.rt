@@ -40,7 +40,7 @@ fn codes_of_each_row(rt: HostRuntime) {
         assert!(rt; is_read(row), "{row}");
         count = count.wrapping_add(1);
     }
-    assert_eq!(rt; count, 218);
+    assert!(rt; count == 218);
 }
 
 #[test]

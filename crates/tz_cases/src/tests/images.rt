@@ -1,4 +1,4 @@
-//! Images whose segments aren't in the order of their addresses: read, and written again in the order of the file.
+//! Images whose segments aren't in the order of their addresses: they stay in the order of the file.
 
 ghost use Rattle.std.specs.Prelude.{◌<◌, ◌^◌, length};
 
@@ -6,54 +6,58 @@ use std::alloc::Global;
 use std::test::Fail;
 use tz_board::demo_board;
 use tz_dis::disassemble;
-use tz_elf::{read_image, write_image, write_plain};
-use tz_model::{MemorySink, Side};
+use tz_elf::read_image;
+use tz_model::{Image, MemorySink, Side};
 
-/// A Secure plain image, written as one again.
-fn plain_again(alloc: Global, file: &[u8]) -> Result<Vec<u8>, Fail>
+/// The base of a segment.
+fn base(image: &Image, index: usize) -> u32 {
+    match image.segments.get(index) {
+        Some(segment) => segment.base,
+        None => 0,
+    }
+}
+
+/// The bases of the first four segments of a plain image, 0 where there is none.
+fn bases(alloc: Global, file: &[u8], side: Side) -> Result<[u32; 4], Fail>
     requires { length file.now < 2 ^ 32 }
 {
     let mut out = MemorySink::new(alloc, 1000)?;
-    let image = read_image(alloc, file, &demo_board(alloc)?, Side::Secure)?;
-    let written = write_plain(alloc, &image);
+    let image = read_image(alloc, file, &demo_board(alloc)?, side)?;
+    let bases = [
+        base(&image, 0),
+        base(&image, 1),
+        base(&image, 2),
+        base(&image, 3),
+    ];
     let listed = disassemble(image, &mut out);
     listed?;
-    Ok(written?)
+    Ok(bases)
 }
 
-/// Secure plain images.
-static FILES: [&[u8]; 2] = [
-    b"10000001 00\n10000000 11\n10000002 22\n",
-    b"10000004 0011\n10000000 2233\n10000002 4455\n",
+/// A plain image, its side, and the bases of its segments.
+static FILES: [(&[u8], Side, [u32; 4]); 3] = [
+    (
+        b"10000001 00\n10000000 11\n10000002 22",
+        Side::Secure,
+        [0x1000_0001, 0x1000_0000, 0x1000_0002, 0],
+    ),
+    (
+        b"10000004 0011\n10000000 2233\n10000002 4455",
+        Side::Secure,
+        [0x1000_0004, 0x1000_0000, 0x1000_0002, 0],
+    ),
+    (
+        b"20000002 0102\n00200040 0520fe",
+        Side::NonSecure,
+        [0x2000_0002, 0x0020_0040, 0, 0],
+    ),
 ];
 
 #[test]
-fn plain_images(rt: HostRuntime) -> Result<(), Fail> {
-    for &file in FILES.iter() {
+fn segments_in_order(rt: HostRuntime) -> Result<(), Fail> {
+    for &(file, side, want) in FILES.iter() {
         assert!(rt; file.len() < 1000);
-        let written = plain_again(rt.alloc(), file)?;
-        assert_eq!(rt; written.as_slice(), file);
+        assert!(rt; bases(rt.alloc(), file, side)? == want);
     }
-    Ok(())
-}
-
-/// A Non-secure plain image.
-const FILE: &[u8] = b"20000002 0102\n00200040 0520fe";
-
-/// Its ELF file: the header, the table and the bytes.
-const ELF_FILE: &str =
-    "7f454c460101010000000000000000000200280001000000000000003400000000000000000000003400200002000000000000000100000074000000020000200200002002000000020000000700000001000000010000007600000040002000400020000300000003000000070000000100000001020520fe";
-
-#[test]
-fn elf_image(rt: HostRuntime) -> Result<(), Fail> {
-    let alloc = rt.alloc();
-    let mut out = MemorySink::new(alloc, 1000)?;
-    let image = read_image(alloc, FILE, &demo_board(alloc)?, Side::NonSecure)?;
-    assert!(rt; image.segments.len() < 10);
-    let written = write_image(alloc, &image);
-    let listed = disassemble(image, &mut out);
-    listed?;
-    let digits = hex::encode(alloc, written?)?;
-    assert_eq!(rt; digits.as_str(), ELF_FILE);
     Ok(())
 }

@@ -190,6 +190,6 @@ static CASES: [Case; 22] = cases! {
 fn codes_of_slots(rt: HostRuntime) {
     for case in &CASES {
         let found = answer(case.tag, case.first, case.second, case.slots, &case.values);
-        assert_eq!(rt; found, case.wanted);
+        assert!(rt; found == case.wanted);
     }
 }
