@@ -1,7 +1,8 @@
-//! Tests of crates that have few: operations on words, the fields of an instruction, the doubles of the
-//! outside, lines, runs, the words of the command line, and the top call.
+//! What no command shows of the crates below, case by case: calls by themselves, values inside of boards, images and
+//! instructions, the doubles of the outside, and streams that fail. What commands show stands in `cases/`.
 //!
-//! A crate with tests is proved once more for them, so they stand here. Nothing stands on this crate.
+//! A crate with tests is proved once more for them, and each program of tests loads all that it stands on, so they stand
+//! together and apart from what they test. Nothing stands on this crate.
 #![tactic(auto)]
 
 #[cfg(test)]

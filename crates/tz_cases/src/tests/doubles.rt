@@ -1,22 +1,24 @@
-//! The doubles of the outside at work, and a board copied.
+//! The doubles of the outside at work.
 
 use std::alloc::{AllocError, Global};
 use std::process::Abort;
 use std::test::Fail;
-use tz_model::{
-    Board, FailingShelf, FailingSink, File, MemoryShelf, MemorySink, Profile, Region, RegionKind,
-    RegionSide, SauRegion, Shelf, ShelfError, Sink,
-};
+use tz_model::{FailingShelf, FailingSink, File, MemoryShelf, MemorySink, Shelf, ShelfError, Sink};
 
-/// One file, `a`, of the bytes `hello`.
-fn files(alloc: Global) -> Result<Vec<File>, AllocError> {
+/// Files, each by its name and bytes.
+pub fn files(alloc: Global, rows: &[(&str, &str)]) -> Result<Vec<File>, AllocError> {
     let mut files = Vec::new(alloc);
-    files.push(File {
-        name: String::from_str(alloc, "a")?,
-        bytes: b"hello".to_vec(alloc)?,
-    })?;
+    for &(name, bytes) in rows {
+        files.push(File {
+            name: String::from_str(alloc, name)?,
+            bytes: bytes.as_bytes().to_vec(alloc)?,
+        })?;
+    }
     Ok(files)
 }
+
+/// One file, `a`.
+static FILE: [(&str, &str); 1] = [("a", "hello")];
 
 /// What a shelf answers, and the bytes that it gives.
 fn read<S: Shelf>(alloc: Global, shelf: &mut S, name: &str, limit: u8) -> (&'static str, Vec<u8>) {
@@ -37,8 +39,10 @@ type Reading = (&'static str, u8, &'static str, &'static str);
 fn check_readings<S: Shelf>(rt: &impl Abort, alloc: Global, shelf: &mut S, readings: &[Reading]) {
     for &(name, limit, answer, bytes) in readings {
         let (said, given) = read(alloc, shelf, name, limit);
-        assert_eq!(rt; said, answer);
-        assert_eq!(rt; given.as_slice(), bytes.as_bytes());
+        assert!(rt;
+            said == answer && given.as_slice() == bytes.as_bytes(),
+            "{name}"
+        );
     }
 }
 
@@ -51,7 +55,7 @@ static READINGS: [Reading; 4] = [
 
 #[test]
 fn memory_shelf(rt: HostRuntime) -> Result<(), Fail> {
-    let mut shelf = MemoryShelf::new(files(rt.alloc())?);
+    let mut shelf = MemoryShelf::new(files(rt.alloc(), &FILE)?);
     check_readings(&rt, rt.alloc(), &mut shelf, &READINGS);
     Ok(())
 }
@@ -67,7 +71,7 @@ static SECOND_FAILS: [Reading; 4] = [
 #[test]
 fn failing_shelf(rt: HostRuntime) -> Result<(), Fail> {
     let failing = vec![in rt.alloc(); 1u64]?;
-    let mut shelf = FailingShelf::new(files(rt.alloc())?, failing);
+    let mut shelf = FailingShelf::new(files(rt.alloc(), &FILE)?, failing);
     check_readings(&rt, rt.alloc(), &mut shelf, &SECOND_FAILS);
     Ok(())
 }
@@ -84,8 +88,11 @@ static PUTS: [(&str, bool, &str); 4] = [
 fn memory_sink(rt: HostRuntime) -> Result<(), Fail> {
     let mut sink = MemorySink::new(rt.alloc(), 5)?;
     for &(text, goes, written) in PUTS.iter() {
-        assert_eq!(rt; sink.put(text.as_bytes()).is_ok(), goes);
-        assert_eq!(rt; sink.bytes(), written.as_bytes());
+        let went = sink.put(text.as_bytes()).is_ok();
+        assert!(rt;
+            went == goes && sink.bytes() == written.as_bytes(),
+            "{text}"
+        );
     }
     Ok(())
 }
@@ -102,48 +109,11 @@ static FAILING_PUTS: [(&str, bool, &str); 3] = [
 fn failing_sink(rt: HostRuntime) -> Result<(), Fail> {
     let mut sink = FailingSink::new(rt.alloc(), vec![in rt.alloc(); 1u64]?);
     for &(text, goes, written) in FAILING_PUTS.iter() {
-        assert_eq!(rt; sink.put(text.as_bytes()).is_ok(), goes);
-        assert_eq!(rt; sink.bytes(), written.as_bytes());
+        let went = sink.put(text.as_bytes()).is_ok();
+        assert!(rt;
+            went == goes && sink.bytes() == written.as_bytes(),
+            "{text}"
+        );
     }
-    Ok(())
-}
-
-/// A region of a board.
-const REGION: Region = Region {
-    base: 0x10000000,
-    size: 0x8000,
-    kind: RegionKind::Rom,
-    side: RegionSide::Secure,
-};
-
-/// A region of the SAU.
-const SAU: SauRegion = SauRegion {
-    base: 0x00200000,
-    limit: 0x0020ffff,
-    nsc: false,
-};
-
-/// A board of one region, with one of the SAU.
-fn board(alloc: Global) -> Result<Board, AllocError> {
-    let regions = vec![in alloc; REGION]?;
-    let sau = vec![in alloc; SAU]?;
-    Ok(Board {
-        secure_vtor: 0x10000000,
-        nonsecure_vtor: 0x00200000,
-        interrupts: 8,
-        sau_regions: 8,
-        mpu_secure: 8,
-        mpu_nonsecure: 8,
-        profile: Profile::V80,
-        regions,
-        sau,
-    })
-}
-
-#[test]
-fn duplicate(rt: HostRuntime) -> Result<(), Fail> {
-    let board = board(rt.alloc())?;
-    let copy = board.duplicate(rt.alloc())?;
-    assert_eq!(rt; (copy.regions.len(), copy.sau.len()), (1, 1));
     Ok(())
 }

@@ -14,10 +14,15 @@ fn numbers_of_an_addition(rt: HostRuntime) {
         shift: Shift::Lsr,
         amount: 7,
     };
-    assert_eq!(rt; values(&insn), [21, 2, 1, 0, 0, 4, 5, 6, 7]);
-    assert_eq!(rt; field_name(&insn, 0), Some(FieldName::Rd));
-    assert_eq!(rt; field_name(&insn, 3), Some(FieldName::Amount));
-    assert_eq!(rt; field_name(&insn, 4), None);
+    assert!(rt; values(&insn) == [21, 2, 1, 0, 0, 4, 5, 6, 7]);
+    let names = [
+        (0, Some(FieldName::Rd)),
+        (3, Some(FieldName::Amount)),
+        (4, None),
+    ];
+    for (index, name) in names {
+        assert!(rt; field_name(&insn, index) == name);
+    }
 }
 
 #[test]
@@ -29,8 +34,13 @@ fn numbers_of_a_literal_load(rt: HostRuntime) {
         address: Address::Literal { offset: -20 },
         user: false,
     };
-    assert_eq!(rt; values(&insn), [58, 1, 1, 4, 0, 3, -20, 0, 0]);
-    assert_eq!(rt; field_name(&insn, 0), Some(FieldName::Rt));
-    assert_eq!(rt; field_name(&insn, 1), Some(FieldName::Offset));
-    assert_eq!(rt; field_name(&insn, 2), None);
+    assert!(rt; values(&insn) == [58, 1, 1, 4, 0, 3, -20, 0, 0]);
+    let names = [
+        (0, Some(FieldName::Rt)),
+        (1, Some(FieldName::Offset)),
+        (2, None),
+    ];
+    for (index, name) in names {
+        assert!(rt; field_name(&insn, index) == name);
+    }
 }
