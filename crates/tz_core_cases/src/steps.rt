@@ -1,146 +1,20 @@
-//! Steps of the machine: what faults set and which exception is taken, events, timers, and sleep.
-//!
-//! A machine is made from two sources: Secure code that writes registers in turn and goes on at a place of its
-//! own, and Non-secure code. What it is afterwards is told as a line. The answers were worked out by hand from
-//! DDI0553.
+//! Rows of a machine: what it is when it takes an exception or locks, and step by step.
 
-ghost use Rattle.std.specs.Prelude.{◌<◌, ◌^◌, length};
-
-mod tests;
-
+use crate::report::{kind_text, tell_report};
+use crate::shown::{tell_ended, tell_machine};
+use crate::source::machine_of;
+use crate::values::core_value;
 use std::alloc::{AllocError, Global};
 use std::fmt::Write;
-use tz_asm::assemble;
 use tz_core::Machine;
-use tz_model::{Board, Image, Side, Sleep};
-use tz_nvic::{Exceptions, PLACES};
-use tz_regs::Core;
+use tz_model::{Profile, Report, ScriptEvent, Side, Size, StepKind};
+use tz_rows::{Fields, RowError, number_of};
 
-/// Where the vectors of a side begin, with its stack pointer and its start.
-const SECURE: &str = ".org 0x10000000
- .word 0x30001000
- .word 0x10000081
-";
-
-/// The same of the Non-secure side, whose first two words nothing reads.
-const NONSECURE: &str = ".org 0x00200000
- .word 0
- .word 0
-";
-
-/// The number past the last vector.
-const VECTORS: u32 = 24;
-
-/// Where the Secure code starts that writes registers. MSP_NS is set first, and R4 is where the Non-secure code stands.
-const START: &str = ".org 0x10000080
- ldr r0, stack
- msr msp_ns, r0
- ldr r0, table
- ldr r3, after
- ldr r4, nonsecure
-next: ldm r0!, {r1, r2}
- cbz r1, done
- str r2, [r1, #0]
- b next
-done: bx r3
-.align 4
-stack: .word 0x20001000
-table: .word writes
-after: .word 0x10000401
-nonsecure: .word 0x00200400
-writes: .word ";
-
-/// The most steps that a row takes.
+/// The most steps before what is told.
 const MOST: u32 = 200;
 
-/// Adds the vectors of exceptions 2 to 23: the handler of exception N stands 0x800 and 16 N bytes from `base` on.
-fn push_vectors(text: &mut String, base: u32) -> Result<(), AllocError> {
-    for number in 2..VECTORS {
-        let handler = base.wrapping_add(0x801).wrapping_add(16 * number);
-        write!(text, " .word {handler}\n")?;
-    }
-    Ok(())
-}
-
-/// Adds words to the source that writes them at addresses.
-fn push_writes(text: &mut String, writes: &[(u32, u32)]) -> Result<(), AllocError> {
-    for (address, value) in writes {
-        write!(text, "{address}\n .word {value}\n .word ")?;
-    }
-    Ok(())
-}
-
-/// Adds the Secure vectors, the code that writes words at addresses, and these words.
-fn push_start(text: &mut String, writes: [&[(u32, u32)]; 2]) -> Result<(), AllocError> {
-    push_vectors(text, 0x1000_0000)?;
-    text.push_str(START)?;
-    let [first, second] = writes;
-    push_writes(text, first)?;
-    push_writes(text, second)
-}
-
-/// The source of the Secure code: it writes words at addresses, and goes on with code at 0x10000400.
-fn secure_source(
-    alloc: Global,
-    writes: [&[(u32, u32)]; 2],
-    code: &str,
-) -> Result<String, AllocError> {
-    let mut text = String::from_str(alloc, SECURE)?;
-    push_start(&mut text, writes)?;
-    write!(text, "0\n .word 0\n.org 0x10000400\n{code}\n")?;
-    Ok(text)
-}
-
-/// The source of the Non-secure code: its vectors, and code at 0x00200400.
-fn nonsecure_source(alloc: Global, code: &str) -> Result<String, AllocError> {
-    let mut text = String::from_str(alloc, NONSECURE)?;
-    push_vectors(&mut text, 0x0020_0000)?;
-    write!(text, ".org 0x00200400\n{code}\n")?;
-    Ok(text)
-}
-
-/// The image of a source; one without bytes where it is refused.
-fn image_of(alloc: Global, source: &[u8]) -> Image
-    requires { length source.now < 2 ^ 32 }
-{
-    match assemble(alloc, source) {
-        Ok(image) => image,
-        Err(_) => Image {
-            segments: Vec::new(alloc),
-        },
-    }
-}
-
-/// The image of a text.
-fn assembled(alloc: Global, text: &str) -> Image {
-    let source = text.as_bytes();
-    if source.len() < 0x1_0000_0000 {
-        image_of(alloc, source)
-    } else {
-        Image {
-            segments: Vec::new(alloc),
-        }
-    }
-}
-
-/// A board of the built-in map with Secure code, which first writes words at addresses, and with Non-secure code.
-/// Where a source is refused the machine starts locked, or finds no code.
-pub fn machine_on(
-    alloc: Global,
-    board: &Board,
-    writes: [&[(u32, u32)]; 2],
-    secure: &str,
-    nonsecure: &str,
-) -> Result<Machine, AllocError> {
-    let source = secure_source(alloc, writes, secure)?;
-    let code = nonsecure_source(alloc, nonsecure)?;
-    let secure = assembled(alloc, source.as_str());
-    let nonsecure = assembled(alloc, code.as_str());
-    Machine::new(alloc, board, &secure, &nonsecure)
-}
-
 /// Makes steps until the machine locks or its code stands at an address, but at most `MOST`.
-pub fn run_to(machine: &mut Machine, address: u32) {
+fn run_to(machine: &mut Machine, address: u32) {
     for _ in 0..MOST {
         if machine.locked() || machine.core().registers.pc == address {
             return;
@@ -149,90 +23,137 @@ pub fn run_to(machine: &mut Machine, address: u32) {
     }
 }
 
-/// Tells a value that isn't 0.
-fn tell(text: &mut String, name: &str, value: u32) -> Result<(), AllocError> {
-    if value != 0 {
-        write!(text, " {name} {value:x}")?;
-    }
-    Ok(())
-}
-
-/// Tells the values that aren't 0.
-fn tell_each(text: &mut String, named: &[(&str, u32)]) -> Result<(), AllocError> {
-    for (name, value) in named {
-        tell(text, name, *value)?;
-    }
-    Ok(())
-}
-
-/// Tells the fault registers.
-fn tell_status(text: &mut String, core: &Core) -> Result<(), AllocError> {
-    let status = &core.status;
-    tell_each(
-        text,
-        &[
-            ("ufsr_s", status.s.ufsr),
-            ("mmfsr_s", status.s.mmfsr),
-            ("mmfar_s", status.s.mmfar),
-            ("ufsr_ns", status.ns.ufsr),
-            ("mmfsr_ns", status.ns.mmfsr),
-            ("mmfar_ns", status.ns.mmfar),
-            ("bfsr", status.bus.bfsr),
-            ("bfar", status.bus.bfar),
-            ("sfsr", status.security.sfsr),
-            ("sfar", status.security.sfar),
-            ("hfsr", status.bus.hfsr),
-        ],
-    )
-}
-
-/// Tells the slot at a place where it is pending or active.
-fn tell_slot(text: &mut String, exceptions: &Exceptions, index: usize) -> Result<(), AllocError>
-    requires { index < 272 }
-{
-    let state = exceptions.at(index);
-    let slot = exceptions.slot_at(index);
-    let side = match slot.side {
-        Side::Secure => "s",
-        Side::NonSecure => "ns",
-    };
-    if state.pending {
-        write!(text, " pends {}{side}", slot.number)?;
-    }
-    if state.active {
-        write!(text, " active {}{side}", slot.number)?;
-    }
-    Ok(())
-}
-
-/// Whether a machine is locked, sleeps or runs, and where it stands.
-fn tell_place(text: &mut String, core: &Core) -> Result<(), AllocError> {
-    let state = if core.run.locked {
-        "locked"
-    } else {
-        match core.run.sleep {
-            Sleep::Awake => "runs",
-            Sleep::Wfi | Sleep::Wfe => "sleeps",
+/// Makes steps until the machine takes an exception or locks, but at most `MOST`: what the last of them was.
+fn run_to_end(machine: &mut Machine) -> StepKind {
+    let mut kind = StepKind::Idle;
+    for _ in 0..MOST {
+        let report = machine.step(&[]);
+        kind = report.kind;
+        if matches!(kind, StepKind::Locked | StepKind::Taken { .. }) {
+            return kind;
         }
-    };
-    write!(text, "{state} at {:x}", core.registers.pc)
+    }
+    kind
 }
 
-/// Tells the fault registers that aren't 0, HFSR last, and the exceptions that are pending or active, in the order of
-/// their numbers.
-fn tell_rest(text: &mut String, machine: &Machine) -> Result<(), AllocError> {
-    tell_status(text, machine.core())?;
-    for index in 0..PLACES {
-        tell_slot(text, machine.exceptions(), index)?;
+/// The word of memory at an address.
+fn word_at(machine: &Machine, address: u32) -> Result<u32, RowError> {
+    match machine.bus().read(address, Size::Word) {
+        Ok(word) => Ok(word),
+        Err(_) => Err(RowError::Unread),
+    }
+}
+
+/// A value of a machine: of its core, of its units, or a word of memory.
+fn value_of(machine: &Machine, name: &str) -> Result<u32, RowError> {
+    match name {
+        "sau_ctrl" => Ok(machine.bus().register(0xE000_EDD0, Side::Secure)),
+        "s.mpu_ctrl" => Ok(machine.bus().register(0xE000_ED94, Side::Secure)),
+        "ns.mpu_ctrl" => Ok(machine.bus().register(0xE000_ED94, Side::NonSecure)),
+        _ => match number_of(name) {
+            Ok(address) => word_at(machine, address),
+            Err(_) => core_value(machine.core(), name),
+        },
+    }
+}
+
+/// Tells a value of a machine by its name.
+fn tell_value(text: &mut String, machine: &Machine, name: &str) -> Result<(), RowError> {
+    let value = value_of(machine, name)?;
+    Ok(write!(text, "{name} {value:x}")?)
+}
+
+/// Adds the answer to a row: what is told of a machine that ran until it took an exception or locked, and values of it.
+pub fn ended(alloc: Global, row: &Fields<'_>, text: &mut String) -> Result<(), RowError> {
+    let mut machine = machine_of(alloc, row, Profile::V80)?;
+    let kind = run_to_end(&mut machine);
+    tell_ended(text, &machine, kind)?;
+    for name in row.at(4).unwrap_or("").split_whitespace() {
+        text.push_str("; ")?;
+        tell_value(text, &machine, name)?;
     }
     Ok(())
 }
 
-/// A machine as a line: whether it is locked, sleeps or runs, and where; its fault registers that aren't 0, HFSR last;
-/// and the exceptions that are pending or active, in the order of their numbers.
-pub fn shown(alloc: Global, machine: &Machine) -> Result<String, AllocError> {
-    let mut text = String::new(alloc);
-    tell_place(&mut text, machine.core())?;
-    tell_rest(&mut text, machine)?;
-    Ok(text)
+/// The events of a list: `nmi`, and an interrupt as `irqN`.
+fn events_of(alloc: Global, names: &str) -> Result<Vec<ScriptEvent>, RowError> {
+    let mut events = Vec::new(alloc);
+    for name in names.split_whitespace() {
+        let event = match name.strip_prefix("irq") {
+            Some(number) => match number.parse::<u16>() {
+                Ok(number) => ScriptEvent::Irq(number),
+                Err(_) => return Err(RowError::Unread),
+            },
+            None if name == "nmi" => ScriptEvent::Nmi,
+            None => return Err(RowError::Unread),
+        };
+        if events.push(event).is_err() {
+            return Err(RowError::Memory);
+        }
+    }
+    Ok(events)
+}
+
+/// Tells CVR and CSR of the Secure SysTick, and then of the Non-secure one.
+fn tell_timers(text: &mut String, machine: &Machine) -> Result<(), AllocError> {
+    let s = machine.exceptions().timer(Side::Secure);
+    let ns = machine.exceptions().timer(Side::NonSecure);
+    write!(text, "{:x} {:x}, {:x} {:x}", s.cvr, s.csr, ns.cvr, ns.csr)
+}
+
+/// Tells what is asked of a step and of the machine after it: the report, its kind, the machine as a line, both timers,
+/// the event flag, or a value.
+fn tell_part(
+    text: &mut String,
+    machine: &Machine,
+    report: &Report,
+    part: &str,
+) -> Result<(), RowError> {
+    match part {
+        "report" => Ok(tell_report(text, report)?),
+        "kind" => Ok(text.push_str(kind_text(report.kind))?),
+        "shown" => Ok(tell_machine(text, machine)?),
+        "timers" => Ok(tell_timers(text, machine)?),
+        "event" if machine.core().event => Ok(text.push_str("event")?),
+        "event" => Ok(text.push_str("no event")?),
+        _ => tell_value(text, machine, part),
+    }
+}
+
+/// Makes a step, at which the events before a colon are due, and tells what is asked.
+fn tell_step(
+    alloc: Global,
+    machine: &mut Machine,
+    step: &str,
+    text: &mut String,
+) -> Result<(), RowError> {
+    let (due, parts) = step.split_once(':').unwrap_or(("", step));
+    let due = events_of(alloc, due)?;
+    let report = machine.step(due.as_slice());
+    for (index, part) in parts.split_whitespace().enumerate() {
+        if index != 0 {
+            text.push_str("; ")?;
+        }
+        tell_part(text, machine, &report, part)?;
+    }
+    Ok(())
+}
+
+/// Adds the answer to a row: what is asked of each step of a machine whose code stands at an address before them. A slash
+/// divides the steps, and their answers.
+pub fn stepped(
+    alloc: Global,
+    row: &Fields<'_>,
+    profile: Profile,
+    text: &mut String,
+) -> Result<(), RowError> {
+    let mut machine = machine_of(alloc, row, profile)?;
+    run_to(&mut machine, row.number(4)?);
+    for (index, step) in row.at(5)?.split('/').enumerate() {
+        if index != 0 {
+            text.push_str(" / ")?;
+        }
+        tell_step(alloc, &mut machine, step, text)?;
+    }
+    Ok(())
 }

@@ -1,0 +1,113 @@
+//! Values of a core by their names.
+
+use tz_model::Side;
+use tz_regs::{Apsr, Core, Stacks};
+use tz_rows::{RowError, number_of};
+
+/// A register of a side's stacks.
+fn stack_value(stacks: &Stacks, name: &str) -> Result<u32, RowError> {
+    match name {
+        "msp" => Ok(stacks.msp),
+        "psp" => Ok(stacks.psp),
+        _ => Err(RowError::Unread),
+    }
+}
+
+/// R0 to R12, SP or LR.
+fn register_value(core: &Core, number: &str) -> Result<u32, RowError> {
+    match number.parse::<u8>() {
+        Ok(number) if number < 15 => Ok(core.get(number)),
+        _ => Err(RowError::Unread),
+    }
+}
+
+/// Another value.
+fn other_value(core: &Core, name: &str) -> Result<u32, RowError> {
+    match name {
+        "nonsecure" => Ok(u32::from(core.run.side == Side::NonSecure)),
+        "locked" => Ok(u32::from(core.run.locked)),
+        "pc" => Ok(core.registers.pc),
+        "it" => Ok(u32::from(core.registers.it)),
+        "t" => Ok(u32::from(core.registers.t)),
+        "n" => Ok(u32::from(core.registers.apsr.n)),
+        "ipsr" => Ok(u32::from(core.registers.ipsr)),
+        "xpsr" => Ok(core.special(3)),
+        "faultmask" => Ok(core.faultmask(Side::Secure)),
+        _ => Err(RowError::Unread),
+    }
+}
+
+/// A value of a core: a register of a side's stacks by a dot, R0 to R14, or another.
+pub fn core_value(core: &Core, name: &str) -> Result<u32, RowError> {
+    if let Some((side, name)) = name.split_once('.') {
+        match side {
+            "s" => stack_value(&core.stacks_s, name),
+            "ns" => stack_value(&core.stacks_ns, name),
+            _ => Err(RowError::Unread),
+        }
+    } else {
+        match name.strip_prefix('r') {
+            Some(number) => register_value(core, number),
+            None => other_value(core, name),
+        }
+    }
+}
+
+/// Sets a register of a side's stacks.
+fn set_stack(stacks: &mut Stacks, name: &str, value: u32) -> Result<(), RowError> {
+    match name {
+        "msp" => stacks.msp = value,
+        "psp" => stacks.psp = value,
+        "msplim" => stacks.msplim = value,
+        "psplim" => stacks.psplim = value,
+        "spsel" => stacks.spsel = value != 0,
+        _ => return Err(RowError::Unread),
+    }
+    Ok(())
+}
+
+/// Sets R0 to R12 to numbers in turn.
+fn fill(core: &mut Core, first: u32) {
+    for (index, register) in core.registers.general.iter_mut().enumerate() {
+        *register = first.wrapping_add(index as u32);
+    }
+}
+
+/// The flags of a word.
+fn flags_of(word: u32) -> Apsr {
+    Apsr {
+        n: word & 0x8000_0000 != 0,
+        z: word & 0x4000_0000 != 0,
+        c: word & 0x2000_0000 != 0,
+        v: word & 0x1000_0000 != 0,
+        q: word & 0x0800_0000 != 0,
+    }
+}
+
+/// Sets another value.
+fn set_other(core: &mut Core, name: &str, value: u32) -> Result<(), RowError> {
+    match name {
+        "registers" => fill(core, value),
+        "nonsecure" => core.run.side = Side::NonSecure,
+        "lr" => core.registers.lr = value,
+        "pc" => core.registers.pc = value,
+        "it" => core.registers.it = (value % 256) as u8,
+        "t" => core.registers.t = value != 0,
+        "ipsr" => core.registers.ipsr = (value % 512) as u16,
+        "apsr" => core.registers.apsr = flags_of(value),
+        "faultmask" => core.masks.s.faultmask = value != 0,
+        _ => return Err(RowError::Unread),
+    }
+    Ok(())
+}
+
+/// Sets a value of a core, by the names of `core_value`; `registers` are R0 to R12.
+pub fn set_value(core: &mut Core, name: &str, value: &str) -> Result<(), RowError> {
+    let value = number_of(value)?;
+    match name.split_once('.') {
+        Some(("s", name)) => set_stack(&mut core.stacks_s, name, value),
+        Some(("ns", name)) => set_stack(&mut core.stacks_ns, name, value),
+        Some(_) => Err(RowError::Unread),
+        None => set_other(core, name, value),
+    }
+}
