@@ -60,7 +60,12 @@ fn set_slot(exceptions: &mut Exceptions, state: &str, name: &str) -> Result<(), 
 }
 
 /// Tells whether an exception is pending, or whether it is active.
-fn tell_slot(text: &mut String, exceptions: &Exceptions, state: &str, name: &str) -> Result<(), RowError> {
+fn tell_slot(
+    text: &mut String,
+    exceptions: &Exceptions,
+    state: &str,
+    name: &str,
+) -> Result<(), RowError> {
     let slot = slot_of(name)?;
     if !exceptions.exists(slot) {
         return Err(RowError::Unread);
@@ -110,7 +115,12 @@ fn put(bench: &mut Bench, name: &str, value: &str) -> Result<(), RowError> {
         return set_value(&mut bench.core, name, value);
     };
     let value = number_of(value)?;
-    match bench.frames.port.entries.try_push(TableEntry { addr, value }) {
+    match bench
+        .frames
+        .port
+        .entries
+        .try_push(TableEntry { addr, value })
+    {
         Ok(()) => Ok(()),
         Err(_) => Err(RowError::Unread),
     }
@@ -130,7 +140,7 @@ fn act(text: &mut String, bench: &mut Bench, name: &str, value: &str) -> Result<
             Ok(())
         }
         "push" | "push_additional" => pushed(text, bench, name, number_of(value)?),
-        "pop" | "pop_additional" => popped(text, bench, name, number_of(value)?),
+        "pop" | "pop_additional" => Ok(popped(text, bench, name, number_of(value)?)?),
         "sg" | "bxns" | "blxns" | "fnc_return" => gated(text, bench, name, number_of(value)?),
         "enter" => entered(text, bench, value),
         "leave" => left(text, bench, value),

@@ -10,27 +10,26 @@ use tz_model::{Fault, Profile, Side, Slot};
 use tz_rows::{RowError, number_of};
 use tz_stack::{StackFault, pop_additional, pop_basic, push_additional, push_basic};
 
-/// Tells a fault.
-fn tell_fault(text: &mut String, fault: Fault) -> Result<(), AllocError> {
-    match fault {
-        Fault::StackLimit(side) => write!(text, " limit {}", side_text(side)),
-        Fault::InvPc(side) => write!(text, " invpc {}", side_text(side)),
-        Fault::Precise(addr) => write!(text, " precise {addr:x}"),
-        _ => write!(text, " other fault"),
-    }
-}
-
 /// Tells a fault of a frame.
-fn tell_stack_fault(text: &mut String, fault: StackFault) -> Result<(), AllocError> {
+fn tell_fault(text: &mut String, fault: StackFault) -> Result<(), AllocError> {
     match fault {
-        StackFault::Limit(side) => tell_fault(text, Fault::StackLimit(side)),
-        StackFault::Access(fault) => tell_fault(text, fault),
+        StackFault::Limit(side) | StackFault::Access(Fault::StackLimit(side)) => {
+            write!(text, " limit {}", side_text(side))
+        }
+        StackFault::Access(Fault::InvPc(side)) => write!(text, " invpc {}", side_text(side)),
+        StackFault::Access(Fault::Precise(addr)) => write!(text, " precise {addr:x}"),
+        StackFault::Access(_) => write!(text, " other fault"),
         StackFault::Signature => write!(text, " signature"),
     }
 }
 
 /// Pushes a frame: a basic one with a return address, or an additional one, to the process stack where the value isn't 0.
-pub fn pushed(text: &mut String, bench: &mut Bench, name: &str, value: u32) -> Result<(), RowError> {
+pub fn pushed(
+    text: &mut String,
+    bench: &mut Bench,
+    name: &str,
+    value: u32,
+) -> Result<(), RowError> {
     if bench.frames.port.entries.len() > 22 {
         return Err(RowError::Unread);
     }
@@ -41,29 +40,34 @@ pub fn pushed(text: &mut String, bench: &mut Bench, name: &str, value: u32) -> R
     };
     match end {
         Ok(()) => text.push_str(" ok")?,
-        Err(fault) => tell_stack_fault(text, fault)?,
+        Err(fault) => tell_fault(text, fault)?,
+    }
+    Ok(())
+}
+
+/// Tells registers.
+fn tell_registers(text: &mut String, registers: &[u32; 8]) -> Result<(), AllocError> {
+    for register in registers {
+        write!(text, " {register:x}")?;
     }
     Ok(())
 }
 
 /// Reads a frame at an address: a basic one of a Non-secure stack, or an additional one.
-pub fn popped(text: &mut String, bench: &mut Bench, name: &str, sp: u32) -> Result<(), RowError> {
-    let registers = if name == "pop" {
-        pop_basic(&mut bench.frames, sp, Side::NonSecure, true)
-            .map(|b| [b.r0, b.r1, b.r2, b.r3, b.r12, b.lr, b.back, b.retpsr])
-    } else {
-        pop_additional(&mut bench.frames, sp, true)
-            .map(|c| [c.r4, c.r5, c.r6, c.r7, c.r8, c.r9, c.r10, c.r11])
-    };
-    match registers {
-        Ok(registers) => {
-            for register in registers {
-                write!(text, " {register:x}")?;
-            }
-        }
-        Err(fault) => tell_stack_fault(text, fault)?,
+pub fn popped(text: &mut String, bench: &mut Bench, name: &str, sp: u32) -> Result<(), AllocError> {
+    if name == "pop" {
+        return match pop_basic(&mut bench.frames, sp, Side::NonSecure, true) {
+            Ok(b) => tell_registers(
+                text,
+                &[b.r0, b.r1, b.r2, b.r3, b.r12, b.lr, b.back, b.retpsr],
+            ),
+            Err(fault) => tell_fault(text, fault),
+        };
     }
-    Ok(())
+    match pop_additional(&mut bench.frames, sp, true) {
+        Ok(c) => tell_registers(text, &[c.r4, c.r5, c.r6, c.r7, c.r8, c.r9, c.r10, c.r11]),
+        Err(fault) => tell_fault(text, fault),
+    }
 }
 
 /// Goes to the other side or back, by the instruction's name and its target.
@@ -85,22 +89,26 @@ pub fn gated(
     }
     match end {
         Ok(()) => text.push_str(" ok")?,
-        Err(fault) => tell_fault(text, fault)?,
+        Err(fault) => tell_fault(text, StackFault::Access(fault))?,
     }
     Ok(())
 }
 
-/// Tells what is taken, and whether the call touched Secure state.
-fn tell_taken(text: &mut String, name: &str, slot: Slot, touched: bool) -> Result<(), RowError> {
-    let side = side_text(slot.side);
-    let touched = if touched { " touched" } else { "" };
-    Ok(write!(text, " {name} {}{side}{touched}", slot.number)?)
-}
-
-/// Tells how a call ends where nothing is taken, and whether it touched Secure state.
-fn tell_end(text: &mut String, name: &str, touched: bool) -> Result<(), RowError> {
-    let touched = if touched { " touched" } else { "" };
-    Ok(write!(text, " {name}{touched}")?)
+/// Tells how a call ends, what is taken where anything is, and whether the call touched Secure state.
+fn tell_end(
+    text: &mut String,
+    name: &str,
+    slot: Option<Slot>,
+    touched: bool,
+) -> Result<(), RowError> {
+    text.push_str(name)?;
+    if let Some(slot) = slot {
+        write!(text, " {}{}", slot.number, side_text(slot.side))?;
+    }
+    if touched {
+        text.push_str(" touched")?;
+    }
+    Ok(())
 }
 
 /// Enters what pends over code at PC, by a version of the architecture.
@@ -121,8 +129,8 @@ pub fn entered(text: &mut String, bench: &mut Bench, version: &str) -> Result<()
         back,
         profile,
     ) {
-        Entered::Taken { slot, touched } => tell_taken(text, "taken", slot, touched),
-        Entered::Lockup { touched } => tell_end(text, "locks", touched),
+        Entered::Taken { slot, touched } => tell_end(text, " taken", Some(slot), touched),
+        Entered::Lockup { touched } => tell_end(text, " locks", None, touched),
     }
 }
 
@@ -142,9 +150,9 @@ pub fn left(text: &mut String, bench: &mut Bench, value: &str) -> Result<(), Row
         value,
         Profile::V80,
     ) {
-        Left::Resumed { touched } => tell_end(text, "resumed", touched),
-        Left::Chained { slot, touched } => tell_taken(text, "chained", slot, touched),
-        Left::Lockup { touched } => tell_end(text, "locks", touched),
+        Left::Resumed { touched } => tell_end(text, " resumed", None, touched),
+        Left::Chained { slot, touched } => tell_end(text, " chained", Some(slot), touched),
+        Left::Lockup { touched } => tell_end(text, " locks", None, touched),
     }
 }
 

@@ -30,7 +30,8 @@ const GATE: &str = "pc=0x1000 lr=0x1e it=0x48 s.msp=0x200 s.psp=0x300";
 
 /// Code at 0x10000200 with its stacks, N set, and the faults of both sides enabled with priority 0, as the rows of entries
 /// and returns have them.
-const ENTRY: &str = "registers=0x100 lr=0x0eeeeee1 pc=0x10000200 apsr=0x80000000 t=1 s.msp=0x30001000 s.psp=0x30002000 \
+const ENTRY: &str =
+    "registers=0x100 lr=0x0eeeeee1 pc=0x10000200 apsr=0x80000000 t=1 s.msp=0x30001000 s.psp=0x30002000 \
 ns.msp=0x20001000 ns.psp=0x20002000 enable=5s enable=6s enable=6ns enable=7s";
 
 /// The cases.

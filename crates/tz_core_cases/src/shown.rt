@@ -3,7 +3,7 @@
 use std::alloc::AllocError;
 use std::fmt::Write;
 use tz_core::Machine;
-use tz_model::{Side, Size, Sleep, StepKind};
+use tz_model::{Side, Size, Sleep};
 use tz_nvic::{Exceptions, PLACES};
 use tz_regs::Core;
 
@@ -53,20 +53,16 @@ fn tell_slots(text: &mut String, exceptions: &Exceptions) -> Result<(), AllocErr
     Ok(())
 }
 
-/// Whether a core is locked, sleeps or runs, in a word.
-fn state_text(core: &Core) -> &'static str {
-    match (core.run.locked, core.run.sleep) {
-        (true, _) => "locked",
-        (false, Sleep::Awake) => "runs",
-        (false, _) => "sleeps",
-    }
-}
-
 /// Tells whether a machine is locked, sleeps or runs, and where; its fault registers that aren't 0, HFSR last; and the
 /// exceptions that are pending or active.
 pub fn tell_machine(text: &mut String, machine: &Machine) -> Result<(), AllocError> {
     let core = machine.core();
-    write!(text, "{} at {:x}", state_text(core), core.registers.pc)?;
+    let state = match (core.run.locked, core.run.sleep) {
+        (true, _) => "locked",
+        (false, Sleep::Awake) => "runs",
+        (false, _) => "sleeps",
+    };
+    write!(text, "{state} at {:x}", core.registers.pc)?;
     tell_status(text, core)?;
     tell_slots(text, machine.exceptions())
 }
@@ -74,16 +70,18 @@ pub fn tell_machine(text: &mut String, machine: &Machine) -> Result<(), AllocErr
 /// Where the return address lies of an exception whose LR this is, and which was taken over code on a main stack: above the
 /// additional frame where a Non-secure exception was taken over Secure code.
 fn return_place(core: &Core, lr: u32) -> u32 {
-    match lr & 0x41 {
-        0x41 => core.stacks_s.msp.wrapping_add(0x18),
-        0x40 => core.stacks_s.msp.wrapping_add(0x40),
-        _ => core.stacks_ns.msp.wrapping_add(0x18),
+    if lr / 0x40 % 2 == 0 {
+        core.stacks_ns.msp.wrapping_add(0x18)
+    } else if lr % 2 == 1 {
+        core.stacks_s.msp.wrapping_add(0x18)
+    } else {
+        core.stacks_s.msp.wrapping_add(0x40)
     }
 }
 
 /// Tells an exception that was taken: the stacked return address, the fault registers, the exceptions, and the number and
 /// LR of the exception.
-fn tell_taken(
+pub fn tell_taken(
     text: &mut String,
     machine: &Machine,
     number: u16,
@@ -97,16 +95,4 @@ fn tell_taken(
     tell_status(text, machine.core())?;
     tell_slots(text, machine.exceptions())?;
     write!(text, " X {number} {lr:x}")
-}
-
-/// Tells a machine after a step: the exception where one was taken, and otherwise the machine.
-pub fn tell_ended(
-    text: &mut String,
-    machine: &Machine,
-    kind: StepKind,
-) -> Result<(), AllocError> {
-    match kind {
-        StepKind::Taken { number, lr } => tell_taken(text, machine, number, lr),
-        StepKind::Locked | StepKind::Idle | StepKind::Ran { .. } => tell_machine(text, machine),
-    }
 }

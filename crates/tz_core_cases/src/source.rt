@@ -13,20 +13,34 @@ use tz_core::Machine;
 use tz_model::{Image, Profile};
 use tz_rows::{Fields, RowError};
 
-/// Where the vectors of a side begin, with its stack pointer and its start.
+/// The Secure vectors, with a stack pointer and a start, and the code that writes words. MSP_NS is set first, and R4 is
+/// where the Non-secure code stands.
 const SECURE: &str = ".org 0x10000000
  .word 0x30001000
  .word 0x10000081
-";
-
-/// The same of the Non-secure side, whose first two words nothing reads.
-const NONSECURE: &str = ".org 0x00200000
- .word 0
- .word 0
-";
-
-/// Where the Secure code starts that writes words. MSP_NS is set first, and R4 is where the Non-secure code stands.
-const START: &str = ".org 0x10000080
+ .word 0x10000821
+ .word 0x10000831
+ .word 0x10000841
+ .word 0x10000851
+ .word 0x10000861
+ .word 0x10000871
+ .word 0x10000881
+ .word 0x10000891
+ .word 0x100008A1
+ .word 0x100008B1
+ .word 0x100008C1
+ .word 0x100008D1
+ .word 0x100008E1
+ .word 0x100008F1
+ .word 0x10000901
+ .word 0x10000911
+ .word 0x10000921
+ .word 0x10000931
+ .word 0x10000941
+ .word 0x10000951
+ .word 0x10000961
+ .word 0x10000971
+.org 0x10000080
  ldr r0, stack
  msr msp_ns, r0
  ldr r0, table
@@ -45,24 +59,43 @@ nonsecure: .word 0x00200400
 writes:
 ";
 
-/// Where the Secure code goes on.
+/// Where the Secure code goes on, behind the words that it writes.
 const SECURE_CODE: &str = " .word 0
  .word 0
 .org 0x10000400
 ";
 
+/// The Non-secure vectors, of which nothing reads the first two words.
+const NONSECURE: &str = ".org 0x00200000
+ .word 0
+ .word 0
+ .word 0x00200821
+ .word 0x00200831
+ .word 0x00200841
+ .word 0x00200851
+ .word 0x00200861
+ .word 0x00200871
+ .word 0x00200881
+ .word 0x00200891
+ .word 0x002008A1
+ .word 0x002008B1
+ .word 0x002008C1
+ .word 0x002008D1
+ .word 0x002008E1
+ .word 0x002008F1
+ .word 0x00200901
+ .word 0x00200911
+ .word 0x00200921
+ .word 0x00200931
+ .word 0x00200941
+ .word 0x00200951
+ .word 0x00200961
+ .word 0x00200971
+";
+
 /// Where the Non-secure code stands.
 const NONSECURE_CODE: &str = ".org 0x00200400
 ";
-
-/// Adds the vectors of exceptions 2 to 23 of a side.
-fn push_vectors(text: &mut String, base: u32) -> Result<(), AllocError> {
-    for number in 2..24u32 {
-        let handler = base.wrapping_add(0x801).wrapping_add(16 * number);
-        write!(text, " .word {handler}\n")?;
-    }
-    Ok(())
-}
 
 /// Adds addresses with their words.
 fn push_writes(text: &mut String, writes: &str) -> Result<(), RowError> {
@@ -83,26 +116,6 @@ fn push_code(text: &mut String, code: &str) -> Result<(), AllocError> {
     Ok(())
 }
 
-/// The source of the Secure code.
-fn secure_source(alloc: Global, writes: &str, code: &str) -> Result<String, RowError> {
-    let mut text = String::from_str(alloc, SECURE)?;
-    push_vectors(&mut text, 0x1000_0000)?;
-    text.push_str(START)?;
-    push_writes(&mut text, writes)?;
-    text.push_str(SECURE_CODE)?;
-    push_code(&mut text, code)?;
-    Ok(text)
-}
-
-/// The source of the Non-secure code.
-fn nonsecure_source(alloc: Global, code: &str) -> Result<String, AllocError> {
-    let mut text = String::from_str(alloc, NONSECURE)?;
-    push_vectors(&mut text, 0x0020_0000)?;
-    text.push_str(NONSECURE_CODE)?;
-    push_code(&mut text, code)?;
-    Ok(text)
-}
-
 /// The image of a source.
 fn image_of(alloc: Global, source: &[u8]) -> Result<Image, RowError>
     requires { length source.now < 2 ^ 32 }
@@ -113,8 +126,18 @@ fn image_of(alloc: Global, source: &[u8]) -> Result<Image, RowError>
     }
 }
 
-/// The image of a text.
-fn assembled(alloc: Global, text: &str) -> Result<Image, RowError> {
+/// The image of vectors and of the words and the code behind them, the code at a place of its own.
+fn assembled(
+    alloc: Global,
+    vectors: &str,
+    writes: &str,
+    place: &str,
+    code: &str,
+) -> Result<Image, RowError> {
+    let mut text = String::from_str(alloc, vectors)?;
+    push_writes(&mut text, writes)?;
+    text.push_str(place)?;
+    push_code(&mut text, code)?;
     let source = text.as_bytes();
     if source.len() < 0x1_0000_0000 {
         image_of(alloc, source)
@@ -125,10 +148,8 @@ fn assembled(alloc: Global, text: &str) -> Result<Image, RowError> {
 
 /// The machine of a row, from its fields 1 to 3.
 pub fn machine_of(alloc: Global, row: &Fields<'_>, profile: Profile) -> Result<Machine, RowError> {
-    let source = secure_source(alloc, row.at(1)?, row.at(2)?)?;
-    let secure = assembled(alloc, source.as_str())?;
-    let source = nonsecure_source(alloc, row.at(3)?)?;
-    let nonsecure = assembled(alloc, source.as_str())?;
+    let secure = assembled(alloc, SECURE, row.at(1)?, SECURE_CODE, row.at(2)?)?;
+    let nonsecure = assembled(alloc, NONSECURE, "", NONSECURE_CODE, row.at(3)?)?;
     let mut board = demo_board(alloc)?;
     board.profile = profile;
     Ok(Machine::new(alloc, &board, &secure, &nonsecure)?)

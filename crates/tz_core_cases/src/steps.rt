@@ -1,7 +1,7 @@
 //! Rows of a machine: what it is when it takes an exception or locks, and step by step.
 
 use crate::report::{kind_text, tell_report};
-use crate::shown::{tell_ended, tell_machine};
+use crate::shown::{tell_machine, tell_taken};
 use crate::source::machine_of;
 use crate::values::core_value;
 use std::alloc::{AllocError, Global};
@@ -13,35 +13,21 @@ use tz_rows::{Fields, RowError, number_of};
 /// The most steps before what is told.
 const MOST: u32 = 200;
 
-/// Makes steps until the machine locks or its code stands at an address, but at most `MOST`.
-fn run_to(machine: &mut Machine, address: u32) {
-    for _ in 0..MOST {
-        if machine.locked() || machine.core().registers.pc == address {
-            return;
-        }
-        let _report = machine.step(&[]);
-    }
-}
-
-/// Makes steps until the machine takes an exception or locks, but at most `MOST`: what the last of them was.
-fn run_to_end(machine: &mut Machine) -> StepKind {
+/// Makes steps until the machine locks, until its code stands at an address, and without an address until it takes an
+/// exception, but at most `MOST`: what the last of them was.
+fn run(machine: &mut Machine, address: Option<u32>) -> StepKind {
     let mut kind = StepKind::Idle;
     for _ in 0..MOST {
+        if machine.locked() || address == Some(machine.core().registers.pc) {
+            return kind;
+        }
         let report = machine.step(&[]);
         kind = report.kind;
-        if matches!(kind, StepKind::Locked | StepKind::Taken { .. }) {
+        if address.is_none() && matches!(kind, StepKind::Taken { .. }) {
             return kind;
         }
     }
     kind
-}
-
-/// The word of memory at an address.
-fn word_at(machine: &Machine, address: u32) -> Result<u32, RowError> {
-    match machine.bus().read(address, Size::Word) {
-        Ok(word) => Ok(word),
-        Err(_) => Err(RowError::Unread),
-    }
 }
 
 /// A value of a machine: of its core, of its units, or a word of memory.
@@ -51,7 +37,10 @@ fn value_of(machine: &Machine, name: &str) -> Result<u32, RowError> {
         "s.mpu_ctrl" => Ok(machine.bus().register(0xE000_ED94, Side::Secure)),
         "ns.mpu_ctrl" => Ok(machine.bus().register(0xE000_ED94, Side::NonSecure)),
         _ => match number_of(name) {
-            Ok(address) => word_at(machine, address),
+            Ok(address) => match machine.bus().read(address, Size::Word) {
+                Ok(word) => Ok(word),
+                Err(_) => Err(RowError::Unread),
+            },
             Err(_) => core_value(machine.core(), name),
         },
     }
@@ -66,8 +55,10 @@ fn tell_value(text: &mut String, machine: &Machine, name: &str) -> Result<(), Ro
 /// Adds the answer to a row: what is told of a machine that ran until it took an exception or locked, and values of it.
 pub fn ended(alloc: Global, row: &Fields<'_>, text: &mut String) -> Result<(), RowError> {
     let mut machine = machine_of(alloc, row, Profile::V80)?;
-    let kind = run_to_end(&mut machine);
-    tell_ended(text, &machine, kind)?;
+    match run(&mut machine, None) {
+        StepKind::Taken { number, lr } => tell_taken(text, &machine, number, lr)?,
+        _ => tell_machine(text, &machine)?,
+    }
     for name in row.at(4).unwrap_or("").split_whitespace() {
         text.push_str("; ")?;
         tell_value(text, &machine, name)?;
@@ -148,7 +139,8 @@ pub fn stepped(
     text: &mut String,
 ) -> Result<(), RowError> {
     let mut machine = machine_of(alloc, row, profile)?;
-    run_to(&mut machine, row.number(4)?);
+    let address = row.number(4)?;
+    let _kind = run(&mut machine, Some(address));
     for (index, step) in row.at(5)?.split('/').enumerate() {
         if index != 0 {
             text.push_str(" / ")?;

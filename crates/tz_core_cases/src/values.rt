@@ -4,15 +4,6 @@ use tz_model::Side;
 use tz_regs::{Apsr, Core, Stacks};
 use tz_rows::{RowError, number_of};
 
-/// A register of a side's stacks.
-fn stack_value(stacks: &Stacks, name: &str) -> Result<u32, RowError> {
-    match name {
-        "msp" => Ok(stacks.msp),
-        "psp" => Ok(stacks.psp),
-        _ => Err(RowError::Unread),
-    }
-}
-
 /// R0 to R12, SP or LR.
 fn register_value(core: &Core, number: &str) -> Result<u32, RowError> {
     match number.parse::<u8>() {
@@ -21,9 +12,13 @@ fn register_value(core: &Core, number: &str) -> Result<u32, RowError> {
     }
 }
 
-/// Another value.
-fn other_value(core: &Core, name: &str) -> Result<u32, RowError> {
+/// A value of a core: a register of a side's stacks by the side and a dot, R0 to R14, or another.
+pub fn core_value(core: &Core, name: &str) -> Result<u32, RowError> {
     match name {
+        "s.msp" => Ok(core.stacks_s.msp),
+        "s.psp" => Ok(core.stacks_s.psp),
+        "ns.msp" => Ok(core.stacks_ns.msp),
+        "ns.psp" => Ok(core.stacks_ns.psp),
         "nonsecure" => Ok(u32::from(core.run.side == Side::NonSecure)),
         "locked" => Ok(u32::from(core.run.locked)),
         "pc" => Ok(core.registers.pc),
@@ -33,23 +28,10 @@ fn other_value(core: &Core, name: &str) -> Result<u32, RowError> {
         "ipsr" => Ok(u32::from(core.registers.ipsr)),
         "xpsr" => Ok(core.special(3)),
         "faultmask" => Ok(core.faultmask(Side::Secure)),
-        _ => Err(RowError::Unread),
-    }
-}
-
-/// A value of a core: a register of a side's stacks by a dot, R0 to R14, or another.
-pub fn core_value(core: &Core, name: &str) -> Result<u32, RowError> {
-    if let Some((side, name)) = name.split_once('.') {
-        match side {
-            "s" => stack_value(&core.stacks_s, name),
-            "ns" => stack_value(&core.stacks_ns, name),
-            _ => Err(RowError::Unread),
-        }
-    } else {
-        match name.strip_prefix('r') {
+        _ => match name.strip_prefix('r') {
             Some(number) => register_value(core, number),
-            None => other_value(core, name),
-        }
+            None => Err(RowError::Unread),
+        },
     }
 }
 
@@ -76,11 +58,11 @@ fn fill(core: &mut Core, first: u32) {
 /// The flags of a word.
 fn flags_of(word: u32) -> Apsr {
     Apsr {
-        n: word & 0x8000_0000 != 0,
-        z: word & 0x4000_0000 != 0,
-        c: word & 0x2000_0000 != 0,
-        v: word & 0x1000_0000 != 0,
-        q: word & 0x0800_0000 != 0,
+        n: word / 0x8000_0000 % 2 == 1,
+        z: word / 0x4000_0000 % 2 == 1,
+        c: word / 0x2000_0000 % 2 == 1,
+        v: word / 0x1000_0000 % 2 == 1,
+        q: word / 0x0800_0000 % 2 == 1,
     }
 }
 
