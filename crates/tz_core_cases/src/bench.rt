@@ -89,7 +89,10 @@ fn tell_table(text: &mut String, frames: &TableFrames) -> Result<(), AllocError>
 /// Tells the word at an address, or a value of the core.
 fn tell_value(text: &mut String, bench: &mut Bench, name: &str) -> Result<(), RowError> {
     let value = match number_of(name) {
-        Ok(address) => bench.frames.secure_load(address).unwrap_or(0),
+        Ok(address) => match bench.frames.secure_load(address) {
+            Ok(word) => word,
+            Err(_) => return Err(RowError::Unread),
+        },
         Err(_) => core_value(&bench.core, name)?,
     };
     Ok(write!(text, " {name} {value:x}")?)
@@ -131,8 +134,8 @@ fn act(text: &mut String, bench: &mut Bench, name: &str, value: &str) -> Result<
     match name {
         "pend" | "activate" | "enable" => set_slot(&mut bench.exceptions, name, value),
         "pending" | "active" => tell_slot(text, &bench.exceptions, name, value),
-        "bfhfnmins" => {
-            bench.exceptions.set_fault_side(value == "1");
+        "bfhfnmins" if value == "1" => {
+            bench.exceptions.set_fault_side(true);
             Ok(())
         }
         "fails" => {

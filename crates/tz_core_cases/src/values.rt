@@ -70,12 +70,12 @@ fn flags_of(word: u32) -> Apsr {
 fn set_other(core: &mut Core, name: &str, value: u32) -> Result<(), RowError> {
     match name {
         "registers" => fill(core, value),
-        "nonsecure" => core.run.side = Side::NonSecure,
+        "nonsecure" if value == 1 => core.run.side = Side::NonSecure,
         "lr" => core.registers.lr = value,
         "pc" => core.registers.pc = value,
-        "it" => core.registers.it = (value % 256) as u8,
+        "it" if value < 256 => core.registers.it = value as u8,
         "t" => core.registers.t = value != 0,
-        "ipsr" => core.registers.ipsr = (value % 512) as u16,
+        "ipsr" if value < 512 => core.registers.ipsr = value as u16,
         "apsr" => core.registers.apsr = flags_of(value),
         "faultmask" => core.masks.s.faultmask = value != 0,
         _ => return Err(RowError::Unread),
