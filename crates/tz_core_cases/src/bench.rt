@@ -27,9 +27,12 @@ fn slot_of(name: &str) -> Result<Slot, RowError> {
         Some(number) => (number, Side::NonSecure),
         None => (name.strip_suffix("s").unwrap_or(""), Side::Secure),
     };
-    match number.parse::<u16>() {
-        Ok(number) => Ok(Slot { number, side }),
-        Err(_) => Err(RowError::Unread),
+    let number = number_of(number)?;
+    if number < 256 {
+        let number = number as u16;
+        Ok(Slot { number, side })
+    } else {
+        Err(RowError::Unread)
     }
 }
 

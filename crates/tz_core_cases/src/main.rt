@@ -3,10 +3,10 @@
 //! The cases are rows of text, and the program tells those whose answers aren't the wanted ones. Nothing stands on it.
 //! The answers were worked out by hand from DDI0553.
 //!
-//! Rows of a machine have four fields behind their kind: the words that Secure code writes first, as `ADDRESS=WORD`;
-//! Secure code at 0x10000400, and Non-secure code at 0x00200400, whose lines are divided by `;`; and in rows of steps the
-//! address at which the code stands before them. Then come the steps, or what is seen in the end. Rows of a bench have one
-//! field, the words that set it up, call and look.
+//! Rows of a machine, `ended` and `steps`, have the words that Secure code writes first, as `ADDRESS=WORD`, then Secure
+//! code at 0x10000400 and Non-secure code at 0x00200400, whose lines are divided by `;`, and then what is seen in the end,
+//! or where the code stands before the steps, and the steps. Rows of a bench, `frame`, `gate` and `entry`, have words that
+//! set it up, call and look.
 #![tactic(auto)]
 
 mod bench;

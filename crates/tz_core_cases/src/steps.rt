@@ -66,23 +66,34 @@ pub fn ended(alloc: Global, row: &Fields<'_>, text: &mut String) -> Result<(), R
     Ok(())
 }
 
-/// The events of a list: `nmi`, and an interrupt as `irqN`.
-fn events_of(alloc: Global, names: &str) -> Result<Vec<ScriptEvent>, RowError> {
-    let mut events = Vec::new(alloc);
-    for name in names.split_whitespace() {
-        let event = match name.strip_prefix("irq") {
-            Some(number) => match number.parse::<u16>() {
-                Ok(number) => ScriptEvent::Irq(number),
-                Err(_) => return Err(RowError::Unread),
-            },
-            None if name == "nmi" => ScriptEvent::Nmi,
-            None => return Err(RowError::Unread),
-        };
-        if events.push(event).is_err() {
-            return Err(RowError::Memory);
-        }
+/// The event of a name: `nmi`, or an interrupt as `irqN`.
+fn event_of(name: &str) -> Result<ScriptEvent, RowError> {
+    if name == "nmi" {
+        return Ok(ScriptEvent::Nmi);
     }
-    Ok(events)
+    let number = number_of(name.strip_prefix("irq").unwrap_or(""))?;
+    if number < 0x1_0000 {
+        Ok(ScriptEvent::Irq(number as u16))
+    } else {
+        Err(RowError::Unread)
+    }
+}
+
+/// Makes a step at which the events of a list are due, at most three.
+fn step(machine: &mut Machine, due: &str) -> Result<Report, RowError> {
+    let mut events = [ScriptEvent::Nmi; 3];
+    let mut count = 0usize;
+    for name in due.split_whitespace() {
+        if count >= 3 {
+            return Err(RowError::Unread);
+        }
+        events[count] = event_of(name)?;
+        count += 1;
+    }
+    match events.get(..count) {
+        Some(due) => Ok(machine.step(due)),
+        None => Err(RowError::Unread),
+    }
 }
 
 /// Tells CVR and CSR of the Secure SysTick, and then of the Non-secure one.
@@ -112,15 +123,9 @@ fn tell_part(
 }
 
 /// Makes a step, at which the events before a colon are due, and tells what is asked.
-fn tell_step(
-    alloc: Global,
-    machine: &mut Machine,
-    step: &str,
-    text: &mut String,
-) -> Result<(), RowError> {
-    let (due, parts) = step.split_once(':').unwrap_or(("", step));
-    let due = events_of(alloc, due)?;
-    let report = machine.step(due.as_slice());
+fn tell_step(machine: &mut Machine, asked: &str, text: &mut String) -> Result<(), RowError> {
+    let (due, parts) = asked.split_once(':').unwrap_or(("", asked));
+    let report = step(machine, due)?;
     for (index, part) in parts.split_whitespace().enumerate() {
         if index != 0 {
             text.push_str("; ")?;
@@ -141,11 +146,11 @@ pub fn stepped(
     let mut machine = machine_of(alloc, row, profile)?;
     let address = row.number(4)?;
     let _kind = run(&mut machine, Some(address));
-    for (index, step) in row.at(5)?.split('/').enumerate() {
+    for (index, asked) in row.at(5)?.split('/').enumerate() {
         if index != 0 {
             text.push_str(" / ")?;
         }
-        tell_step(alloc, &mut machine, step, text)?;
+        tell_step(&mut machine, asked, text)?;
     }
     Ok(())
 }

@@ -6,9 +6,11 @@ use tz_rows::{RowError, number_of};
 
 /// R0 to R12, SP or LR.
 fn register_value(core: &Core, number: &str) -> Result<u32, RowError> {
-    match number.parse::<u8>() {
-        Ok(number) if number < 15 => Ok(core.get(number)),
-        _ => Err(RowError::Unread),
+    let number = number_of(number)?;
+    if number < 15 {
+        Ok(core.get(number as u8))
+    } else {
+        Err(RowError::Unread)
     }
 }
 
