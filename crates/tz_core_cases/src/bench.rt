@@ -115,12 +115,8 @@ fn look(text: &mut String, bench: &mut Bench, name: &str) -> Result<(), RowError
     }
 }
 
-/// Adds a word to the table, or sets a value of the core.
-fn put(bench: &mut Bench, name: &str, value: &str) -> Result<(), RowError> {
-    let Ok(addr) = number_of(name) else {
-        return set_value(&mut bench.core, name, value);
-    };
-    let value = number_of(value)?;
+/// Adds a word to the table.
+fn push_word(bench: &mut Bench, addr: u32, value: u32) -> Result<(), RowError> {
     match bench
         .frames
         .port
@@ -132,27 +128,49 @@ fn put(bench: &mut Bench, name: &str, value: &str) -> Result<(), RowError> {
     }
 }
 
+/// Sets BFHFNMINS, the address that fails, a word of the table, or a value of the core.
+fn put(bench: &mut Bench, name: &str, value: &str) -> Result<(), RowError> {
+    let number = number_of(value)?;
+    match name {
+        "bfhfnmins" if number == 1 => bench.exceptions.set_fault_side(true),
+        "fails" => bench.frames.port.failing = Some(number),
+        _ => match number_of(name) {
+            Ok(addr) => return push_word(bench, addr, number),
+            Err(_) => return set_value(&mut bench.core, name, number),
+        },
+    }
+    Ok(())
+}
+
+/// Calls with a number, or tells whether the number is one by which code returns.
+fn call(text: &mut String, bench: &mut Bench, name: &str, value: u32) -> Result<(), RowError> {
+    match name {
+        "push" | "push_additional" => pushed(text, bench, name, value),
+        "pop" | "pop_additional" => Ok(popped(text, bench, name, value)?),
+        "is_fnc_return" => Ok(write!(text, " {}", is_fnc_return(value))?),
+        "is_exc_return" => Ok(write!(text, " {}", is_exc_return(value))?),
+        _ => gated(text, bench, name, value),
+    }
+}
+
 /// Does what a word with a value asks.
 fn act(text: &mut String, bench: &mut Bench, name: &str, value: &str) -> Result<(), RowError> {
     match name {
         "pend" | "activate" | "enable" => set_slot(&mut bench.exceptions, name, value),
         "pending" | "active" => tell_slot(text, &bench.exceptions, name, value),
-        "bfhfnmins" if value == "1" => {
-            bench.exceptions.set_fault_side(true);
-            Ok(())
-        }
-        "fails" => {
-            bench.frames.port.failing = Some(number_of(value)?);
-            Ok(())
-        }
-        "push" | "push_additional" => pushed(text, bench, name, number_of(value)?),
-        "pop" | "pop_additional" => Ok(popped(text, bench, name, number_of(value)?)?),
-        "sg" | "bxns" | "blxns" | "fnc_return" => gated(text, bench, name, number_of(value)?),
         "enter" => entered(text, bench, value),
         "leave" => left(text, bench, value),
         "raise" => raised(text, bench, value),
-        "is_fnc_return" => Ok(write!(text, " {}", is_fnc_return(number_of(value)?))?),
-        "is_exc_return" => Ok(write!(text, " {}", is_exc_return(number_of(value)?))?),
+        "push"
+        | "push_additional"
+        | "pop"
+        | "pop_additional"
+        | "sg"
+        | "bxns"
+        | "blxns"
+        | "fnc_return"
+        | "is_fnc_return"
+        | "is_exc_return" => { call(text, bench, name, number_of(value)?) }
         _ => put(bench, name, value),
     }
 }

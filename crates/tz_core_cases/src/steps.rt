@@ -52,18 +52,24 @@ fn tell_value(text: &mut String, machine: &Machine, name: &str) -> Result<(), Ro
     Ok(write!(text, "{name} {value:x}")?)
 }
 
-/// Adds the answer to a row: what is told of a machine that ran until it took an exception or locked, and values of it.
-pub fn ended(alloc: Global, row: &Fields<'_>, text: &mut String) -> Result<(), RowError> {
-    let mut machine = machine_of(alloc, row, Profile::V80)?;
-    match run(&mut machine, None) {
-        StepKind::Taken { number, lr } => tell_taken(text, &machine, number, lr)?,
-        _ => tell_machine(text, &machine)?,
+/// Tells a machine that runs until it takes an exception or locks, and values of it.
+fn tell_end(text: &mut String, machine: &mut Machine, names: &str) -> Result<(), RowError> {
+    match run(machine, None) {
+        StepKind::Taken { number, lr } => tell_taken(text, machine, number, lr)?,
+        _ => tell_machine(text, machine)?,
     }
-    for name in row.at(4).unwrap_or("").split_whitespace() {
+    for name in names.split_whitespace() {
         text.push_str("; ")?;
-        tell_value(text, &machine, name)?;
+        tell_value(text, machine, name)?;
     }
     Ok(())
+}
+
+/// Adds the answer to a row: what is told of a machine in the end.
+pub fn ended(alloc: Global, row: &Fields<'_>, text: &mut String) -> Result<(), RowError> {
+    let names = row.at(4).unwrap_or("");
+    let mut machine = machine_of(alloc, row, Profile::V80)?;
+    tell_end(text, &mut machine, names)
 }
 
 /// The event of a name: `nmi`, or an interrupt as `irqN`.
@@ -135,22 +141,33 @@ fn tell_step(machine: &mut Machine, asked: &str, text: &mut String) -> Result<()
     Ok(())
 }
 
-/// Adds the answer to a row: what is asked of each step of a machine whose code stands at an address before them. A slash
-/// divides the steps, and their answers.
+/// Tells what is asked of each step of a machine whose code stands at an address before them. A slash divides the steps,
+/// and their answers.
+fn tell_steps(
+    text: &mut String,
+    machine: &mut Machine,
+    address: u32,
+    steps: &str,
+) -> Result<(), RowError> {
+    let _kind = run(machine, Some(address));
+    for (index, asked) in steps.split('/').enumerate() {
+        if index != 0 {
+            text.push_str(" / ")?;
+        }
+        tell_step(machine, asked, text)?;
+    }
+    Ok(())
+}
+
+/// Adds the answer to a row: what is asked of each step.
 pub fn stepped(
     alloc: Global,
     row: &Fields<'_>,
     profile: Profile,
     text: &mut String,
 ) -> Result<(), RowError> {
-    let mut machine = machine_of(alloc, row, profile)?;
     let address = row.number(4)?;
-    let _kind = run(&mut machine, Some(address));
-    for (index, asked) in row.at(5)?.split('/').enumerate() {
-        if index != 0 {
-            text.push_str(" / ")?;
-        }
-        tell_step(&mut machine, asked, text)?;
-    }
-    Ok(())
+    let steps = row.at(5)?;
+    let mut machine = machine_of(alloc, row, profile)?;
+    tell_steps(text, &mut machine, address, steps)
 }

@@ -86,8 +86,7 @@ fn set_other(core: &mut Core, name: &str, value: u32) -> Result<(), RowError> {
 }
 
 /// Sets a value of a core, by the names of `core_value`; `registers` are R0 to R12.
-pub fn set_value(core: &mut Core, name: &str, value: &str) -> Result<(), RowError> {
-    let value = number_of(value)?;
+pub fn set_value(core: &mut Core, name: &str, value: u32) -> Result<(), RowError> {
     match name.split_once('.') {
         Some(("s", name)) => set_stack(&mut core.stacks_s, name, value),
         Some(("ns", name)) => set_stack(&mut core.stacks_ns, name, value),
