@@ -1,238 +1,173 @@
-//! Steps of the machine: what faults set and which exception is taken, events, timers, and sleep.
-//!
-//! A machine is made from two sources: Secure code that writes registers in turn and goes on at a place of its
-//! own, and Non-secure code. What it is afterwards is told as a line. The answers were worked out by hand from
-//! DDI0553.
+//! Rows of a machine: what it is when it takes an exception or locks, and step by step.
 
-ghost use Rattle.std.specs.Prelude.{◌<◌, ◌^◌, length};
-
-mod tests;
-
+use crate::report::{kind_text, tell_report};
+use crate::shown::{tell_machine, tell_taken};
+use crate::source::machine_of;
+use crate::values::core_value;
 use std::alloc::{AllocError, Global};
 use std::fmt::Write;
-use tz_asm::assemble;
 use tz_core::Machine;
-use tz_model::{Board, Image, Side, Sleep};
-use tz_nvic::{Exceptions, PLACES};
-use tz_regs::Core;
+use tz_model::{Profile, Report, ScriptEvent, Side, Size, StepKind};
+use tz_rows::{Fields, RowError, number_of};
 
-/// Where the vectors of a side begin, with its stack pointer and its start.
-const SECURE: &str = ".org 0x10000000
- .word 0x30001000
- .word 0x10000081
-";
-
-/// The same of the Non-secure side, whose first two words nothing reads.
-const NONSECURE: &str = ".org 0x00200000
- .word 0
- .word 0
-";
-
-/// The number past the last vector.
-const VECTORS: u32 = 24;
-
-/// Where the Secure code starts that writes registers. MSP_NS is set first, and R4 is where the Non-secure code stands.
-const START: &str = ".org 0x10000080
- ldr r0, stack
- msr msp_ns, r0
- ldr r0, table
- ldr r3, after
- ldr r4, nonsecure
-next: ldm r0!, {r1, r2}
- cbz r1, done
- str r2, [r1, #0]
- b next
-done: bx r3
-.align 4
-stack: .word 0x20001000
-table: .word writes
-after: .word 0x10000401
-nonsecure: .word 0x00200400
-writes: .word ";
-
-/// The most steps that a row takes.
+/// The most steps before what is told.
 const MOST: u32 = 200;
 
-/// Adds the vectors of exceptions 2 to 23: the handler of exception N stands 0x800 and 16 N bytes from `base` on.
-fn push_vectors(text: &mut String, base: u32) -> Result<(), AllocError> {
-    for number in 2..VECTORS {
-        let handler = base.wrapping_add(0x801).wrapping_add(16 * number);
-        write!(text, " .word {handler}\n")?;
+/// Makes steps until the machine locks, until its code stands at an address, and without an address until it takes an
+/// exception, but at most `MOST`: what the last of them was.
+fn run(machine: &mut Machine, address: Option<u32>) -> StepKind {
+    let mut kind = StepKind::Idle;
+    for _ in 0..MOST {
+        if machine.locked() || address == Some(machine.core().registers.pc) {
+            return kind;
+        }
+        let report = machine.step(&[]);
+        kind = report.kind;
+        if address.is_none() && matches!(kind, StepKind::Taken { .. }) {
+            return kind;
+        }
     }
-    Ok(())
+    kind
 }
 
-/// Adds words to the source that writes them at addresses.
-fn push_writes(text: &mut String, writes: &[(u32, u32)]) -> Result<(), AllocError> {
-    for (address, value) in writes {
-        write!(text, "{address}\n .word {value}\n .word ")?;
-    }
-    Ok(())
-}
-
-/// Adds the Secure vectors, the code that writes words at addresses, and these words.
-fn push_start(text: &mut String, writes: [&[(u32, u32)]; 2]) -> Result<(), AllocError> {
-    push_vectors(text, 0x1000_0000)?;
-    text.push_str(START)?;
-    let [first, second] = writes;
-    push_writes(text, first)?;
-    push_writes(text, second)
-}
-
-/// The source of the Secure code: it writes words at addresses, and goes on with code at 0x10000400.
-fn secure_source(
-    alloc: Global,
-    writes: [&[(u32, u32)]; 2],
-    code: &str,
-) -> Result<String, AllocError> {
-    let mut text = String::from_str(alloc, SECURE)?;
-    push_start(&mut text, writes)?;
-    write!(text, "0\n .word 0\n.org 0x10000400\n{code}\n")?;
-    Ok(text)
-}
-
-/// The source of the Non-secure code: its vectors, and code at 0x00200400.
-fn nonsecure_source(alloc: Global, code: &str) -> Result<String, AllocError> {
-    let mut text = String::from_str(alloc, NONSECURE)?;
-    push_vectors(&mut text, 0x0020_0000)?;
-    write!(text, ".org 0x00200400\n{code}\n")?;
-    Ok(text)
-}
-
-/// The image of a source; one without bytes where it is refused.
-fn image_of(alloc: Global, source: &[u8]) -> Image
-    requires { length source.now < 2 ^ 32 }
-{
-    match assemble(alloc, source) {
-        Ok(image) => image,
-        Err(_) => Image {
-            segments: Vec::new(alloc),
+/// A value of a machine: of its core, of its units, or a word of memory.
+fn value_of(machine: &Machine, name: &str) -> Result<u32, RowError> {
+    match name {
+        "sau_ctrl" => Ok(machine.bus().register(0xE000_EDD0, Side::Secure)),
+        "s.mpu_ctrl" => Ok(machine.bus().register(0xE000_ED94, Side::Secure)),
+        "ns.mpu_ctrl" => Ok(machine.bus().register(0xE000_ED94, Side::NonSecure)),
+        _ => match number_of(name) {
+            Ok(address) => match machine.bus().read(address, Size::Word) {
+                Ok(word) => Ok(word),
+                Err(_) => Err(RowError::Unread),
+            },
+            Err(_) => core_value(machine.core(), name),
         },
     }
 }
 
-/// The image of a text.
-fn assembled(alloc: Global, text: &str) -> Image {
-    let source = text.as_bytes();
-    if source.len() < 0x1_0000_0000 {
-        image_of(alloc, source)
+/// Tells a value of a machine by its name.
+fn tell_value(text: &mut String, machine: &Machine, name: &str) -> Result<(), RowError> {
+    let value = value_of(machine, name)?;
+    Ok(write!(text, "{name} {value:x}")?)
+}
+
+/// Tells a machine that runs until it takes an exception or locks, and values of it.
+fn tell_end(text: &mut String, machine: &mut Machine, names: &str) -> Result<(), RowError> {
+    match run(machine, None) {
+        StepKind::Taken { number, lr } => tell_taken(text, machine, number, lr)?,
+        _ => tell_machine(text, machine)?,
+    }
+    for name in names.split_whitespace() {
+        text.push_str("; ")?;
+        tell_value(text, machine, name)?;
+    }
+    Ok(())
+}
+
+/// Adds the answer to a row: what is told of a machine in the end.
+pub fn ended(alloc: Global, row: &Fields<'_>, text: &mut String) -> Result<(), RowError> {
+    let names = row.at(4).unwrap_or("");
+    let mut machine = machine_of(alloc, row, Profile::V80)?;
+    tell_end(text, &mut machine, names)
+}
+
+/// The event of a name: `nmi`, or an interrupt as `irqN`.
+fn event_of(name: &str) -> Result<ScriptEvent, RowError> {
+    if name == "nmi" {
+        return Ok(ScriptEvent::Nmi);
+    }
+    let number = number_of(name.strip_prefix("irq").unwrap_or(""))?;
+    if number < 0x1_0000 {
+        Ok(ScriptEvent::Irq(number as u16))
     } else {
-        Image {
-            segments: Vec::new(alloc),
-        }
+        Err(RowError::Unread)
     }
 }
 
-/// A board of the built-in map with Secure code, which first writes words at addresses, and with Non-secure code.
-/// Where a source is refused the machine starts locked, or finds no code.
-pub fn machine_on(
+/// Makes a step at which the events of a list are due, at most three.
+fn step(machine: &mut Machine, due: &str) -> Result<Report, RowError> {
+    let mut events = [ScriptEvent::Nmi; 3];
+    let mut count = 0usize;
+    for name in due.split_whitespace() {
+        if count >= 3 {
+            return Err(RowError::Unread);
+        }
+        events[count] = event_of(name)?;
+        count += 1;
+    }
+    match events.get(..count) {
+        Some(due) => Ok(machine.step(due)),
+        None => Err(RowError::Unread),
+    }
+}
+
+/// Tells CVR and CSR of the Secure SysTick, and then of the Non-secure one.
+fn tell_timers(text: &mut String, machine: &Machine) -> Result<(), AllocError> {
+    let s = machine.exceptions().timer(Side::Secure);
+    let ns = machine.exceptions().timer(Side::NonSecure);
+    write!(text, "{:x} {:x}, {:x} {:x}", s.cvr, s.csr, ns.cvr, ns.csr)
+}
+
+/// Tells what is asked of a step and of the machine after it: the report, its kind, the machine as a line, both timers,
+/// the event flag, or a value.
+fn tell_part(
+    text: &mut String,
+    machine: &Machine,
+    report: &Report,
+    part: &str,
+) -> Result<(), RowError> {
+    match part {
+        "report" => Ok(tell_report(text, report)?),
+        "kind" => Ok(text.push_str(kind_text(report.kind))?),
+        "shown" => Ok(tell_machine(text, machine)?),
+        "timers" => Ok(tell_timers(text, machine)?),
+        "event" if machine.core().event => Ok(text.push_str("event")?),
+        "event" => Ok(text.push_str("no event")?),
+        _ => tell_value(text, machine, part),
+    }
+}
+
+/// Makes a step, at which the events before a colon are due, and tells what is asked.
+fn tell_step(machine: &mut Machine, asked: &str, text: &mut String) -> Result<(), RowError> {
+    let (due, parts) = asked.split_once(':').unwrap_or(("", asked));
+    let report = step(machine, due)?;
+    for (index, part) in parts.split_whitespace().enumerate() {
+        if index != 0 {
+            text.push_str("; ")?;
+        }
+        tell_part(text, machine, &report, part)?;
+    }
+    Ok(())
+}
+
+/// Tells what is asked of each step of a machine whose code stands at an address before them. A slash divides the steps,
+/// and their answers.
+fn tell_steps(
+    text: &mut String,
+    machine: &mut Machine,
+    address: u32,
+    steps: &str,
+) -> Result<(), RowError> {
+    let _kind = run(machine, Some(address));
+    for (index, asked) in steps.split('/').enumerate() {
+        if index != 0 {
+            text.push_str(" / ")?;
+        }
+        tell_step(machine, asked, text)?;
+    }
+    Ok(())
+}
+
+/// Adds the answer to a row: what is asked of each step.
+pub fn stepped(
     alloc: Global,
-    board: &Board,
-    writes: [&[(u32, u32)]; 2],
-    secure: &str,
-    nonsecure: &str,
-) -> Result<Machine, AllocError> {
-    let source = secure_source(alloc, writes, secure)?;
-    let code = nonsecure_source(alloc, nonsecure)?;
-    let secure = assembled(alloc, source.as_str());
-    let nonsecure = assembled(alloc, code.as_str());
-    Machine::new(alloc, board, &secure, &nonsecure)
-}
-
-/// Makes steps until the machine locks or its code stands at an address, but at most `MOST`.
-pub fn run_to(machine: &mut Machine, address: u32) {
-    for _ in 0..MOST {
-        if machine.locked() || machine.core().registers.pc == address {
-            return;
-        }
-        let _report = machine.step(&[]);
-    }
-}
-
-/// Tells a value that isn't 0.
-fn tell(text: &mut String, name: &str, value: u32) -> Result<(), AllocError> {
-    if value != 0 {
-        write!(text, " {name} {value:x}")?;
-    }
-    Ok(())
-}
-
-/// Tells the values that aren't 0.
-fn tell_each(text: &mut String, named: &[(&str, u32)]) -> Result<(), AllocError> {
-    for (name, value) in named {
-        tell(text, name, *value)?;
-    }
-    Ok(())
-}
-
-/// Tells the fault registers.
-fn tell_status(text: &mut String, core: &Core) -> Result<(), AllocError> {
-    let status = &core.status;
-    tell_each(
-        text,
-        &[
-            ("ufsr_s", status.s.ufsr),
-            ("mmfsr_s", status.s.mmfsr),
-            ("mmfar_s", status.s.mmfar),
-            ("ufsr_ns", status.ns.ufsr),
-            ("mmfsr_ns", status.ns.mmfsr),
-            ("mmfar_ns", status.ns.mmfar),
-            ("bfsr", status.bus.bfsr),
-            ("bfar", status.bus.bfar),
-            ("sfsr", status.security.sfsr),
-            ("sfar", status.security.sfar),
-            ("hfsr", status.bus.hfsr),
-        ],
-    )
-}
-
-/// Tells the slot at a place where it is pending or active.
-fn tell_slot(text: &mut String, exceptions: &Exceptions, index: usize) -> Result<(), AllocError>
-    requires { index < 272 }
-{
-    let state = exceptions.at(index);
-    let slot = exceptions.slot_at(index);
-    let side = match slot.side {
-        Side::Secure => "s",
-        Side::NonSecure => "ns",
-    };
-    if state.pending {
-        write!(text, " pends {}{side}", slot.number)?;
-    }
-    if state.active {
-        write!(text, " active {}{side}", slot.number)?;
-    }
-    Ok(())
-}
-
-/// Whether a machine is locked, sleeps or runs, and where it stands.
-fn tell_place(text: &mut String, core: &Core) -> Result<(), AllocError> {
-    let state = if core.run.locked {
-        "locked"
-    } else {
-        match core.run.sleep {
-            Sleep::Awake => "runs",
-            Sleep::Wfi | Sleep::Wfe => "sleeps",
-        }
-    };
-    write!(text, "{state} at {:x}", core.registers.pc)
-}
-
-/// Tells the fault registers that aren't 0, HFSR last, and the exceptions that are pending or active, in the order of
-/// their numbers.
-fn tell_rest(text: &mut String, machine: &Machine) -> Result<(), AllocError> {
-    tell_status(text, machine.core())?;
-    for index in 0..PLACES {
-        tell_slot(text, machine.exceptions(), index)?;
-    }
-    Ok(())
-}
-
-/// A machine as a line: whether it is locked, sleeps or runs, and where; its fault registers that aren't 0, HFSR last;
-/// and the exceptions that are pending or active, in the order of their numbers.
-pub fn shown(alloc: Global, machine: &Machine) -> Result<String, AllocError> {
-    let mut text = String::new(alloc);
-    tell_place(&mut text, machine.core())?;
-    tell_rest(&mut text, machine)?;
-    Ok(text)
+    row: &Fields<'_>,
+    profile: Profile,
+    text: &mut String,
+) -> Result<(), RowError> {
+    let address = row.number(4)?;
+    let steps = row.at(5)?;
+    let mut machine = machine_of(alloc, row, profile)?;
+    tell_steps(text, &mut machine, address, steps)
 }
