@@ -1,7 +1,7 @@
 //! IT blocks and conditions.
 
 use crate::words::{Words, tell_flag, tell_number};
-use tz_regs::Core;
+use tz_regs::{Apsr, Core};
 use tz_rows::RowError;
 
 /// Steps of an IT block: `it begin COND MASK`, `it advance`, and `it show`, which shows IT, whether it is in a block, and
@@ -25,12 +25,14 @@ pub fn step(core: &mut Core, words: &Words<'_>, text: &mut String) -> Result<(),
 fn flags_met(cond: u8) -> u32 {
     let mut met = 0u32;
     for flags in 0..16u32 {
-        let mut core = Core::new();
-        core.set_n(flags / 8 % 2 == 1);
-        core.set_z(flags / 4 % 2 == 1);
-        core.set_c(flags / 2 % 2 == 1);
-        core.set_v(flags % 2 == 1);
-        if core.registers.apsr.condition_holds(cond) {
+        let apsr = Apsr {
+            n: flags / 8 % 2 == 1,
+            z: flags / 4 % 2 == 1,
+            c: flags / 2 % 2 == 1,
+            v: flags % 2 == 1,
+            q: false,
+        };
+        if apsr.condition_holds(cond) {
             met |= 1 << flags;
         }
     }

@@ -4,7 +4,7 @@ use crate::machine::{Machine, machine_of};
 use crate::words::Words;
 use crate::{blocks, instructions, looks, priorities, registers, slots, system, timers};
 use std::alloc::Global;
-use tz_regs::Core;
+use tz_nvic::Exceptions;
 use tz_rows::{Answers, Fields, RowError};
 
 /// The rows, in which the machines are defined.
@@ -13,140 +13,103 @@ pub struct Cases<'a> {
     pub rows: &'a str,
 }
 
-/// What is said of a machine: its parts, and its steps.
-struct MachineText<'a> {
-    parts: &'a str,
-    steps: &'a str,
+/// What a line says of a machine, where it defines the one of this name.
+fn defined<'a>(line: &'a str, name: &str) -> Option<&'a str> {
+    line.strip_prefix("define | ")?
+        .strip_prefix(name)?
+        .strip_prefix(" | ")
 }
 
-/// The field at a place of a definition.
-fn part(line: &str, index: usize) -> Result<&str, RowError> {
-    match line.split('|').nth(index) {
-        Some(field) => Ok(field.trim()),
-        None => Err(RowError::Unread),
-    }
-}
-
-/// The definition of a name.
-fn find_machine<'a>(rows: &'a str, name: &str) -> Result<MachineText<'a>, RowError> {
+/// What is said of the machine of a name.
+fn find_machine<'a>(rows: &'a str, name: &str) -> Result<&'a str, RowError> {
     for line in rows.lines() {
-        if let Some((defined, _)) = line.split_once("=>") {
-            if part(defined, 0)? == "define" && part(defined, 1)? == name {
-                return Ok(MachineText {
-                    parts: part(defined, 2)?,
-                    steps: part(defined, 3)?,
-                });
-            }
+        if let Some(text) = defined(line, name) {
+            return Ok(text);
         }
     }
     Err(RowError::Unread)
 }
 
-/// The steps that change or show the core alone. Tells whether the step is one.
-fn core_step(
-    machine: &mut Machine,
-    words: &Words<'_>,
-    text: &mut String,
-) -> Result<bool, RowError> {
+/// Does a step of the core, or one of the other kinds.
+fn step(machine: &mut Machine, words: &Words<'_>, text: &mut String) -> Result<(), RowError> {
     match words.at(0)? {
-        "code" => registers::code(&machine.start, &mut machine.core, words)?,
-        "set" => registers::set_banked(&mut machine.core, words)?,
-        "put" => registers::put(&mut machine.core, words)?,
-        "load" => registers::load(&mut machine.core, words)?,
-        "limited" => registers::limited(&mut machine.core, words, text)?,
-        "boot" => registers::boot(&mut machine.core, words)?,
-        "banked" => registers::show_banked(&machine.core, words, text)?,
-        "common" => registers::show_common(&machine.core, words, text)?,
-        "general" => registers::show_general(&machine.core, words, text)?,
-        "special" => registers::show_special(&machine.core, words, text)?,
-        "changed" => registers::changed(&machine.before, &machine.core, text)?,
-        "it" => blocks::step(&mut machine.core, words, text)?,
-        "met" => blocks::met(words, text)?,
-        _ => return Ok(false),
+        "code" => registers::code(&machine.start, &mut machine.core, words),
+        "set" => registers::set_banked(&mut machine.core, words),
+        "put" => registers::put(&mut machine.core, words),
+        "side" => registers::set_side(&mut machine.core, words),
+        "load" => registers::load(&mut machine.core, words),
+        "limited" => registers::limited(&mut machine.core, words, text),
+        "boot" => registers::boot(&mut machine.core, words),
+        "banked" => registers::show_banked(&machine.core, words, text),
+        "common" => registers::show_common(&machine.core, words, text),
+        "general" => registers::show_general(&machine.core, words, text),
+        "special" => registers::show_special(&machine.core, words, text),
+        "changed" => registers::changed(&machine.before, &machine.core, text),
+        "it" => blocks::step(&mut machine.core, words, text),
+        "met" => blocks::met(words, text),
+        other => machine_step(machine, other, words, text),
     }
-    Ok(true)
 }
 
-/// The steps that change or show the exceptions. Tells whether the step is one.
-fn exceptions_step(
-    machine: &mut Machine,
-    words: &Words<'_>,
-    text: &mut String,
-) -> Result<bool, RowError> {
-    match words.at(0)? {
-        "slot" => slots::change(&mut machine.exceptions, words)?,
-        "target" => slots::target(&mut machine.exceptions, words)?,
-        "place" => slots::place(&mut machine.exceptions, words)?,
-        "given" => slots::show_given(&machine.exceptions, words, text)?,
-        "stands" => slots::show(&machine.exceptions, words, text)?,
-        "places" => slots::show_places(&machine.exceptions, text)?,
-        "due" => slots::due(&mut machine.exceptions, words)?,
-        "pending" => slots::show_pending(&machine.exceptions, text)?,
-        "pris" => machine.exceptions.set_pris(words.flag(1)?),
-        "bfhfnmins" => machine.exceptions.set_fault_side(words.flag(1)?),
-        "group" => timers::group(&mut machine.exceptions, words)?,
-        "timer" => timers::set(&mut machine.exceptions, words)?,
-        "tick" => timers::tick(&mut machine.exceptions, words)?,
-        "timers" => timers::show(&machine.exceptions, words, text)?,
-        "switches" => timers::show_switches(&machine.exceptions, text)?,
-        _ => return Ok(false),
-    }
-    Ok(true)
-}
-
-/// The steps that show what follows from the exceptions and the core. Tells whether the step is one.
-fn priority_step(
-    machine: &mut Machine,
-    words: &Words<'_>,
-    text: &mut String,
-) -> Result<bool, RowError> {
-    match words.at(0)? {
-        "chosen" => looks::show_chosen(&machine.exceptions, text)?,
-        "settle" => looks::settle(&mut machine.exceptions),
-        "known" => looks::show_known(&machine.exceptions, words, text)?,
-        "first" => looks::show_first(&machine.core, &machine.exceptions, text)?,
-        "size" => looks::show_size(text)?,
-        "execution" => priorities::show_execution(&machine.core, &machine.exceptions, text)?,
-        "takes" => priorities::show_taken(&machine.core, &machine.exceptions, words, text)?,
-        "becomes" => priorities::show_escalated(&machine.core, &machine.exceptions, words, text)?,
-        _ => return Ok(false),
-    }
-    Ok(true)
-}
-
-/// The steps that reach the bus, and those of the machine itself. Tells whether the step is one.
+/// Does a step that reaches the bus or is of the machine itself, or one of the other kinds.
 fn machine_step(
     machine: &mut Machine,
+    verb: &str,
     words: &Words<'_>,
     text: &mut String,
-) -> Result<bool, RowError> {
-    match words.at(0)? {
-        "keep" => machine.before = machine.core,
-        "at" => machine.priority = priorities::priority_of(words)?,
-        "read" | "write" => system::access(machine, words, text)?,
-        "unit" => {
-            let side = words.side(1)?;
-            machine
-                .bus
-                .set_register(words.number(2)?, side, words.number(3)?);
+) -> Result<(), RowError> {
+    match verb {
+        "keep" => {
+            machine.before = machine.core;
+            Ok(())
         }
+        "at" => priorities::set_priority(&mut machine.priority, words),
+        "read" | "write" => system::access(machine, words, text),
+        "unit" => system::set_unit(&mut machine.bus, words),
         "do" => {
             let priority = machine.priority;
-            instructions::run(&mut machine.core, &mut machine.bus, priority, words, text)?;
+            instructions::run(&mut machine.core, &mut machine.bus, priority, words, text)
         }
-        "monitor" => instructions::monitor(&mut machine.bus, words, text)?,
-        _ => return Ok(false),
+        "monitor" => instructions::monitor(&mut machine.bus, words, text),
+        "first" => looks::show_first(&machine.core, &machine.exceptions, text),
+        "execution" => priorities::show_execution(&machine.core, &machine.exceptions, text),
+        "takes" => priorities::show_taken(&machine.core, &machine.exceptions, words, text),
+        "becomes" => priorities::show_escalated(&machine.core, &machine.exceptions, words, text),
+        _ => exceptions_step(&mut machine.exceptions, verb, words, text),
     }
-    Ok(true)
 }
 
-/// Does a step.
-fn step(machine: &mut Machine, words: &Words<'_>, text: &mut String) -> Result<(), RowError> {
-    let known = core_step(machine, words, text)?
-        || exceptions_step(machine, words, text)?
-        || priority_step(machine, words, text)?
-        || machine_step(machine, words, text)?;
-    if known { Ok(()) } else { Err(RowError::Unread) }
+/// Does a step of the exceptions.
+fn exceptions_step(
+    exceptions: &mut Exceptions,
+    verb: &str,
+    words: &Words<'_>,
+    text: &mut String,
+) -> Result<(), RowError> {
+    match verb {
+        "slot" => slots::change(exceptions, words),
+        "target" => slots::target(exceptions, words),
+        "place" => slots::place(exceptions, words),
+        "given" => slots::show_given(exceptions, words, text),
+        "stands" => slots::show(exceptions, words, text),
+        "places" => slots::show_places(exceptions, text),
+        "due" => slots::due(exceptions, words),
+        "pending" => slots::show_pending(exceptions, text),
+        "pris" | "bfhfnmins" => timers::switch(exceptions, verb, words),
+        "group" => timers::group(exceptions, words),
+        "timer" => timers::set(exceptions, words),
+        "tick" => timers::tick(exceptions, words),
+        "timers" => timers::show(exceptions, words, text),
+        "switches" => timers::show_switches(exceptions, text),
+        "chosen" => looks::show_chosen(exceptions, text),
+        "settle" => {
+            looks::settle(exceptions);
+            Ok(())
+        }
+        "known" => looks::show_known(exceptions, words, text),
+        "size" => looks::show_size(text),
+        _ => Err(RowError::Unread),
+    }
 }
 
 /// Does steps in order.
@@ -161,10 +124,15 @@ fn run(machine: &mut Machine, steps: &str, text: &mut String) -> Result<(), RowE
 
 /// The machine of a name.
 fn start(alloc: Global, rows: &str, name: &str, text: &mut String) -> Result<Machine, RowError> {
-    let MachineText { parts, steps } = find_machine(rows, name)?;
+    let Some((said, _)) = find_machine(rows, name)?.split_once("=>") else {
+        return Err(RowError::Unread);
+    };
+    let Some((parts, steps)) = said.split_once('|') else {
+        return Err(RowError::Unread);
+    };
     let mut machine = machine_of(alloc, &Words { text: parts })?;
     run(&mut machine, steps, text)?;
-    let core: Core = machine.core;
+    let core = machine.core;
     machine.start = core;
     machine.before = core;
     Ok(machine)

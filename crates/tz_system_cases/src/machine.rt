@@ -62,10 +62,11 @@ pub fn machine_of(alloc: Global, parts: &Words<'_>) -> Result<Machine, RowError>
     if interrupts < 1 || interrupts > 240 {
         return Err(RowError::Unread);
     }
+    let core = Core::new();
     Ok(Machine {
-        core: Core::new(),
-        start: Core::new(),
-        before: Core::new(),
+        core,
+        start: core,
+        before: core,
         priority: 256,
         exceptions: Exceptions::new(alloc, interrupts)?,
         bus: Bus::new(alloc, &board)?,

@@ -6,17 +6,15 @@ use tz_model::Side;
 use tz_nvic::Exceptions;
 use tz_prio::{Taken, can_take, escalate, execution_priority, is_negative, raw_priority};
 use tz_regs::Core;
-use tz_rows::{RowError, number_of};
+use tz_rows::RowError;
 
-/// The execution priority of a step, which may be below 0: `at PRIORITY`.
-pub fn priority_of(words: &Words<'_>) -> Result<i32, RowError> {
-    let word = words.at(1)?;
-    let (digits, is_below) = match word.strip_prefix('-') {
-        Some(digits) => (digits, true),
-        None => (word, false),
-    };
-    match i32::try_from(number_of(digits)?) {
-        Ok(number) => Ok(if is_below { -number } else { number }),
+/// Sets the execution priority that instructions are told, which may be below 0: `at PRIORITY`.
+pub fn set_priority(priority: &mut i32, words: &Words<'_>) -> Result<(), RowError> {
+    match words.at(1)?.parse::<i32>() {
+        Ok(number) => {
+            *priority = number;
+            Ok(())
+        }
         Err(_) => Err(RowError::Unread),
     }
 }

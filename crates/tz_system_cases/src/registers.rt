@@ -87,22 +87,30 @@ fn named(names: &[&str], values: &[u32], name: &str) -> Result<u32, RowError> {
     Err(RowError::Unread)
 }
 
+/// Shows the values of the names that a step has from a place on.
+fn show_named(
+    names: &[&str],
+    values: &[u32],
+    words: &Words<'_>,
+    from: usize,
+    text: &mut String,
+) -> Result<(), RowError> {
+    for name in words.text.split_whitespace().skip(from) {
+        tell_number(text, named(names, values, name)?)?;
+    }
+    Ok(())
+}
+
 /// Shows registers of a side: `banked SIDE NAME ..`.
 pub fn show_banked(core: &Core, words: &Words<'_>, text: &mut String) -> Result<(), RowError> {
     let values = banked(core, words.side(1)?);
-    for name in words.text.split_whitespace().skip(2) {
-        tell_number(text, named(&BANKED, &values, name)?)?;
-    }
-    Ok(())
+    show_named(&BANKED, &values, words, 2, text)
 }
 
 /// Shows registers that stand once: `common NAME ..`.
 pub fn show_common(core: &Core, words: &Words<'_>, text: &mut String) -> Result<(), RowError> {
     let values = common(core);
-    for name in words.text.split_whitespace().skip(1) {
-        tell_number(text, named(&COMMON, &values, name)?)?;
-    }
-    Ok(())
+    show_named(&COMMON, &values, words, 1, text)
 }
 
 /// Shows R0 to R14: `general NUMBER ..`.
@@ -162,24 +170,47 @@ pub fn set_banked(core: &mut Core, words: &Words<'_>) -> Result<(), RowError> {
 
 /// Writes a register or a state that stands once: `put NAME VALUE`.
 pub fn put(core: &mut Core, words: &Words<'_>) -> Result<(), RowError> {
-    match words.at(1)? {
-        "sfsr" => core.set_sfsr(words.number(2)?),
-        "sfar" => core.set_sfar(words.number(2)?),
-        "bfsr" => core.set_bfsr(words.number(2)?),
-        "bfar" => core.set_bfar(words.number(2)?),
-        "hfsr" => core.set_hfsr(words.number(2)?),
-        "pc" => core.set_pc(words.number(2)?),
-        "lr" => core.set_lr(words.number(2)?),
+    let name = words.at(1)?;
+    let value = words.number(2)?;
+    match name {
+        "sfsr" => core.set_sfsr(value),
+        "sfar" => core.set_sfar(value),
+        "bfsr" => core.set_bfsr(value),
+        "bfar" => core.set_bfar(value),
+        "hfsr" => core.set_hfsr(value),
+        "pc" => core.set_pc(value),
+        "lr" => core.set_lr(value),
+        _ => return put_state(core, name, words),
+    }
+    Ok(())
+}
+
+/// Writes a state of less than a word: `put NAME VALUE`.
+fn put_state(core: &mut Core, name: &str, words: &Words<'_>) -> Result<(), RowError> {
+    match name {
         "ipsr" => core.set_ipsr(words.half(2)?),
         "it" => core.set_it(words.byte(2)?),
-        "side" => core.set_side(words.side(2)?),
-        "event" => core.event = words.flag(2)?,
-        "t" => core.set_t(words.flag(2)?),
-        "n" => core.set_n(words.flag(2)?),
-        "c" => core.set_c(words.flag(2)?),
-        "q" => core.set_q(words.flag(2)?),
+        _ => return put_flag(core, name, words.flag(2)?),
+    }
+    Ok(())
+}
+
+/// Writes a state of a bit: `put NAME FLAG`.
+fn put_flag(core: &mut Core, name: &str, on: bool) -> Result<(), RowError> {
+    match name {
+        "event" => core.event = on,
+        "t" => core.set_t(on),
+        "n" => core.set_n(on),
+        "c" => core.set_c(on),
+        "q" => core.set_q(on),
         _ => return Err(RowError::Unread),
     }
+    Ok(())
+}
+
+/// Sets the side that runs: `side SIDE`.
+pub fn set_side(core: &mut Core, words: &Words<'_>) -> Result<(), RowError> {
+    core.set_side(words.side(1)?);
     Ok(())
 }
 

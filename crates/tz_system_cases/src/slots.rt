@@ -116,26 +116,28 @@ pub fn show_places(exceptions: &Exceptions, text: &mut String) -> Result<(), Row
 }
 
 /// The event of a word: `nmi`, or the number of an interrupt.
-fn event_of(words: &Words<'_>, index: usize) -> Result<ScriptEvent, RowError> {
-    match words.at(index)? {
-        "nmi" => Ok(ScriptEvent::Nmi),
-        _ => Ok(ScriptEvent::Irq(words.half(index)?)),
+fn event_of(word: &str) -> Result<ScriptEvent, RowError> {
+    if word == "nmi" {
+        return Ok(ScriptEvent::Nmi);
+    }
+    match u16::try_from(number_of(word)?) {
+        Ok(number) => Ok(ScriptEvent::Irq(number)),
+        Err(_) => Err(RowError::Unread),
     }
 }
 
 /// Pends at most three events of a script: `due EVENT ..`.
 pub fn due(exceptions: &mut Exceptions, words: &Words<'_>) -> Result<(), RowError> {
-    match words.text.split_whitespace().count() {
-        1 => exceptions.pend_due(&[]),
-        2 => exceptions.pend_due(&[event_of(words, 1)?]),
-        3 => exceptions.pend_due(&[event_of(words, 1)?, event_of(words, 2)?]),
-        4 => exceptions.pend_due(&[
-            event_of(words, 1)?,
-            event_of(words, 2)?,
-            event_of(words, 3)?,
-        ]),
-        _ => return Err(RowError::Unread),
+    let mut events = [ScriptEvent::Nmi; 3];
+    let mut count = 0usize;
+    for word in words.text.split_whitespace().skip(1) {
+        let Some(place) = events.get_mut(count) else {
+            return Err(RowError::Unread);
+        };
+        *place = event_of(word)?;
+        count = count.saturating_add(1);
     }
+    exceptions.pend_due(&events[..count.min(3)]);
     Ok(())
 }
 

@@ -2,7 +2,7 @@
 
 use crate::machine::Machine;
 use crate::words::{Words, tell_number};
-use tz_access::is_aligned;
+use tz_access::{Bus, is_aligned};
 use tz_rows::{RowError, number_of};
 use tz_scs::System;
 
@@ -47,4 +47,12 @@ pub fn access(machine: &mut Machine, words: &Words<'_>, text: &mut String) -> Re
         "read" => read(&mut system, words, text),
         _ => write(&mut system, words),
     }
+}
+
+/// Sets a register of the SAU, or of the MPU of a side: `unit SIDE ADDRESS VALUE`.
+pub fn set_unit(bus: &mut Bus, words: &Words<'_>) -> Result<(), RowError> {
+    let side = words.side(1)?;
+    let addr = words.number(2)?;
+    bus.set_register(addr, side, words.number(3)?);
+    Ok(())
 }

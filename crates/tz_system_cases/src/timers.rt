@@ -17,6 +17,17 @@ pub fn group(exceptions: &mut Exceptions, words: &Words<'_>) -> Result<(), RowEr
     Ok(())
 }
 
+/// Sets PRIS or BFHFNMINS: `pris FLAG`, `bfhfnmins FLAG`.
+pub fn switch(exceptions: &mut Exceptions, name: &str, words: &Words<'_>) -> Result<(), RowError> {
+    let on = words.flag(1)?;
+    if name == "pris" {
+        exceptions.set_pris(on);
+    } else {
+        exceptions.set_fault_side(on);
+    }
+    Ok(())
+}
+
 /// Sets a timer to the bits that it has, or puts one there as it is: `timer set SIDE CSR RVR CVR`, `timer put ..`.
 pub fn set(exceptions: &mut Exceptions, words: &Words<'_>) -> Result<(), RowError> {
     let side = words.side(2)?;
