@@ -12,3 +12,4 @@ mod operations;
 mod rows;
 mod slots;
 mod tokens;
+mod told_rows;

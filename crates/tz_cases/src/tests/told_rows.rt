@@ -1,0 +1,28 @@
+//! Rows of text: those whose answers differ, and those that cannot be read, are told by their lines.
+
+use std::alloc::Global;
+use std::fmt::Write;
+use std::test::Fail;
+use tz_rows::{Answers, Fields, RowError, told};
+
+/// The sum of two numbers.
+struct Sums;
+
+impl Answers for Sums {
+    fn answer(&self, _: Global, row: &Fields<'_>, text: &mut String) -> Result<(), RowError> {
+        let sum = row.number(0)?.wrapping_add(row.number(1)?);
+        write!(text, "{sum}")?;
+        Ok(())
+    }
+}
+
+#[test]
+fn rows_that_differ_are_told(rt: HostRuntime) -> Result<(), Fail> {
+    let rows = "# sums\n1 | 0x10 => 17\n\n 2|2 => 5\n3 => 3\n4 | x => 4\n5 | 6";
+    let text = told(rt.alloc(), &Sums, rows)?;
+    assert_eq!(rt;
+        text.as_str(),
+        "line 4: found 4, not 5\nline 5: unread\nline 6: unread\nline 7: unread\n5 rows, 4 differ\n"
+    );
+    Ok(())
+}
