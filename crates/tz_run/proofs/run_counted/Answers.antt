@@ -5,6 +5,8 @@ use Rattle.tz_text.specs.Line.{line}
 use Rattle.tz_sem.specs.Step.{step}
 use Rattle.tz_run.proofs.Lines.{so_far_start, so_far_step, so_far_end, so_far_failed, state_at_end}
 use Rattle.tz_run.proofs.run_counted.Goals as goal
+use Rattle.std.proofs.Common.{rules, tests}
+use Rattle.std.proofs.lemmas.Grind.{common_steps, elements}
 
 pub loop-step-init : goal.loop-step-init
 loop-step-init g c = record { lines = so_far_start _ _ _ _ _ _; later = omega arith }
@@ -37,3 +39,13 @@ returns-clause-put g c = so_far_end _ _ _ _ _ _ _ _ _ _ c.loop-step-test.false c
 
 pub returns-clause-state : goal.returns-clause-state
 returns-clause-state g c = state_at_end _ _ _ _ _ _ _ _ _ _ c.loop-step-test.false c.loop-step.invariant.lines
+
+-- What the tactics try, by name: a body that is refused is then told without a search for what to offer.
+pub returns-in-Err-clause-cause : goal.returns-in-Err-clause-cause
+returns-in-Err-clause-cause g c = first_of (assumption, search (tests, rules), grind (arith, common_steps), grind (arith, elements))
+
+pub returns-in-Err-clause-state : goal.returns-in-Err-clause-state
+returns-in-Err-clause-state g c = first_of (assumption, search (tests, rules), grind (arith, common_steps), grind (arith, elements))
+
+pub returns-clause-cause : goal.returns-clause-cause
+returns-clause-cause g c = first_of (assumption, search (tests, rules), grind (arith, common_steps), grind (arith, elements))

@@ -1,6 +1,8 @@
 use Rattle.std.proofs.Common.{◌<◌, ◌+◌, ◌-◌, ◌/◌, ◌^◌, arith, length}
 use Rattle.tz_board.proofs.Halving.{all_above, all_below, halved, steps_of-at}
 use Rattle.tz_board.proofs.script.find.Goals as goal
+use Rattle.std.proofs.Common.{rules, tests}
+use Rattle.std.proofs.lemmas.Grind.{common_steps, elements}
 
 pub loop-low-preserved-then-here-step-2 : goal.loop-low-preserved-then-here-step-2
 loop-low-preserved-then-here-step-2 g c =
@@ -35,3 +37,16 @@ loop-low-preserved g c =
       counted = omega arith;
       not_many = omega (arith, half.0);
     }
+
+-- What the tactics try, by name: a body that is refused is then told without a search for what to offer.
+pub returns-then-here-step-clause-at : goal.returns-then-here-step-clause-at
+returns-then-here-step-clause-at g c = first_of (assumption, search (tests, rules), grind (arith, common_steps), grind (arith, elements))
+
+pub returns-then-here-step-clause-looks : goal.returns-then-here-step-clause-looks
+returns-then-here-step-clause-looks g c = first_of (assumption, search (tests, rules), grind (arith, common_steps), grind (arith, elements))
+
+pub returns-clause-at : goal.returns-clause-at
+returns-clause-at g c = first_of (assumption, search (tests, rules), grind (arith, common_steps), grind (arith, elements))
+
+pub returns-clause-looks : goal.returns-clause-looks
+returns-clause-looks g c = first_of (assumption, search (tests, rules), grind (arith, common_steps), grind (arith, elements))

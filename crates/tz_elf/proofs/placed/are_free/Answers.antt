@@ -6,6 +6,8 @@ use Rattle.std.proofs.lemmas.Map.Keys.{ge_from_not_lt}
 use Rattle.std.specs.declared.cmp.Ordering.TheVariants.{Less}
 use Rattle.tz_elf.proofs.Taken.{AreFree-last, Last, last-AreFree}
 use Rattle.tz_elf.proofs.placed.are_free.Goals as goal
+use Rattle.std.proofs.Common.{arith, rules, tests}
+use Rattle.std.proofs.lemmas.Grind.{common_steps, elements}
 
 pub returns-in-Some : goal.returns-in-Some
 returns-in-Some c =
@@ -21,3 +23,7 @@ returns-in-Some c =
       λ ends. AreFree-last r c.args.first c.args.past c.in-Some.field-0-0.now c.in-Some.end.now c.requires last (leb-true c.in-Some.end.now c.args.first ends),
       λ free. le-leb c.in-Some.end.now c.args.first (last-AreFree r c.args.first c.args.past c.in-Some.field-0-0.now c.in-Some.end.now last free),
     )
+
+-- What the tactics try, by name: a body that is refused is then told without a search for what to offer.
+pub returns-in-None : goal.returns-in-None
+returns-in-None c = first_of (assumption, search (tests, rules), grind (arith, common_steps), grind (arith, elements))

@@ -4,6 +4,8 @@ use Rattle.tz_encode.proofs.search.find.Goals as goal
 use Rattle.tz_encode.specs.Search.{Found}
 use Rattle.tz_table.proofs.Data.{count_of_rows}
 use Rattle.tz_table.specs.Table.{rows}
+use Rattle.std.proofs.Common.{rules, tests}
+use Rattle.std.proofs.lemmas.Grind.{common_steps, elements}
 
 pub loop-index-init : goal.loop-index-init
 loop-index-init c = λ i e. none_yet c.args.width i
@@ -18,3 +20,7 @@ pub returns : goal.returns
 returns c = λ i e.
     let all : c.loop-index.index ≡ length rows = omega arith in
     subst (λ k. Found rows c.args.width i k (Err c.loop-index.blamed)) all (c.loop-index.invariant i e)
+
+-- What the tactics try, by name: a body that is refused is then told without a search for what to offer.
+pub loop-index-preserved : goal.loop-index-preserved
+loop-index-preserved c = first_of (assumption, search (tests, rules), grind (arith, common_steps), grind (arith, elements))

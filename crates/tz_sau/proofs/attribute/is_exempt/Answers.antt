@@ -1,1 +1,13 @@
--- The tactics close each goal. Where this file stands, a body that is refused is told without a search for answers to offer.
+use Rattle.std.proofs.Common.{arith, rules, tests}
+use Rattle.std.proofs.lemmas.Grind.{common_steps, elements}
+use Rattle.tz_sau.proofs.attribute.is_exempt.Goals as goal
+
+-- What the tactics try, by name: a body that is refused is then told without a search for what to offer.
+pub returns-then-within-4 : goal.returns-then-within-4
+returns-then-within-4 c = first_of (assumption, search (tests, rules), grind (arith, common_steps), grind (arith, elements))
+
+pub returns-else-within-4 : goal.returns-else-within-4
+returns-else-within-4 c = first_of (assumption, search (tests, rules), grind (arith, common_steps), grind (arith, elements))
+
+pub returns-else-addr-ge3758096384 : goal.returns-else-addr-ge3758096384
+returns-else-addr-ge3758096384 c = first_of (assumption, search (tests, rules), grind (arith, common_steps), grind (arith, elements))

@@ -4,6 +4,8 @@ use Rattle.tz_shapes.proofs.All.{all_described}
 use Rattle.tz_shapes.proofs.Rows.{no_row, other_variant, past_rows, row_tried, row_without_slots, sound_at}
 use Rattle.tz_table.specs.Table.{rows}
 use Rattle.tz_shapes.proofs.trying.try_row.Goals as goal
+use Rattle.std.proofs.Common.{rules, tests}
+use Rattle.std.proofs.lemmas.Grind.{common_steps, elements}
 
 pub returns-in_default-clause-row : goal.returns-in_default-clause-row
 returns-in_default-clause-row c = λ i v r g. absurd (no_row rows c.args.index r (sym c.in_default.is ∙ c.row_at.ensures) g)
@@ -28,3 +30,13 @@ returns-clause-row c = λ i v r g.
 
 pub returns-clause-past : goal.returns-clause-past
 returns-clause-past c = λ h. absurd (past_rows c.args.index c.in-Some.row (sym c.in-Some.is ∙ c.row_at.ensures) h)
+
+-- What the tactics try, by name: a body that is refused is then told without a search for what to offer.
+pub returns-in_default-clause-past : goal.returns-in_default-clause-past
+returns-in_default-clause-past c = first_of (assumption, search (tests, rules), grind (arith, common_steps), grind (arith, elements))
+
+pub returns-then-values-from-clause-past : goal.returns-then-values-from-clause-past
+returns-then-values-from-clause-past c = first_of (assumption, search (tests, rules), grind (arith, common_steps), grind (arith, elements))
+
+pub returns-in_default-slots_at-clause-past : goal.returns-in_default-slots_at-clause-past
+returns-in_default-slots_at-clause-past c = first_of (assumption, search (tests, rules), grind (arith, common_steps), grind (arith, elements))

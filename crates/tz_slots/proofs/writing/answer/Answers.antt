@@ -2,6 +2,8 @@ use Rattle.std.proofs.Common.{◌≡◌, ◌+◌, true, rules, arith, sym, ◌�
 use Rattle.std.proofs.lemmas.Int.{to_z-of_z}
 use Rattle.tz_slots.proofs.Going.{going_from, going_stop, going_on, sound_on}
 use Rattle.tz_slots.proofs.writing.answer.Goals as goal
+use Rattle.std.proofs.Common.{tests}
+use Rattle.std.proofs.lemmas.Grind.{common_steps, elements}
 
 pub loop-index-init : goal.loop-index-init
 loop-index-init c =
@@ -24,3 +26,10 @@ loop-index-preserved c =
       same = c.loop-index.invariant.same ∙ going_on c.loop-index.index _ _ _ _ _ c.args.slots.now c.args.values.now _ (omega arith) (omega arith) e c.put-first_half.ensures c.put-second_half.ensures;
       sound_rest = sound_on c.loop-index.index c.args.slots.now c.loop-index.invariant.sound_rest;
     }
+
+-- What the tactics try, by name: a body that is refused is then told without a search for what to offer.
+pub returns-then-not-is_number : goal.returns-then-not-is_number
+returns-then-not-is_number c = first_of (assumption, search (tests, rules), grind (arith, common_steps), grind (arith, elements))
+
+pub returns : goal.returns
+returns c = first_of (assumption, search (tests, rules), grind (arith, common_steps), grind (arith, elements))

@@ -1,1 +1,22 @@
--- The tactics close each goal. Where this file stands, a body that is refused is told without a search for answers to offer.
+use Rattle.std.proofs.Common.{arith, rules, tests}
+use Rattle.std.proofs.lemmas.Grind.{common_steps, elements}
+use Rattle.tz_text.proofs.lines.push_body.Goals as goal
+
+-- What the tactics try, by name: a body that is refused is then told without a search for what to offer.
+pub returns-then-is_hidden-clause-bytes : goal.returns-then-is_hidden-clause-bytes
+returns-then-is_hidden-clause-bytes c = first_of (assumption, search (tests, rules), grind (arith, common_steps), grind (arith, elements))
+
+pub returns-then-is_hidden-clause-len : goal.returns-then-is_hidden-clause-len
+returns-then-is_hidden-clause-len c = first_of (assumption, search (tests, rules), grind (arith, common_steps), grind (arith, elements))
+
+pub returns-else-is_hidden-clause-bytes : goal.returns-else-is_hidden-clause-bytes
+returns-else-is_hidden-clause-bytes c = first_of (assumption, search (tests, rules), grind (arith, common_steps), grind (arith, elements))
+
+pub returns-else-is_hidden-clause-len : goal.returns-else-is_hidden-clause-len
+returns-else-is_hidden-clause-len c = first_of (assumption, search (tests, rules), grind (arith, common_steps), grind (arith, elements))
+
+pub returns-after-report-clause-bytes : goal.returns-after-report-clause-bytes
+returns-after-report-clause-bytes c = first_of (assumption, search (tests, rules), grind (arith, common_steps), grind (arith, elements))
+
+pub returns-after-report-clause-len : goal.returns-after-report-clause-len
+returns-after-report-clause-len c = first_of (assumption, search (tests, rules), grind (arith, common_steps), grind (arith, elements))

@@ -1,1 +1,13 @@
--- The tactics close each goal. Where this file stands, a body that is refused is told without a search for answers to offer.
+use Rattle.std.proofs.Common.{arith, rules, tests}
+use Rattle.std.proofs.lemmas.Grind.{common_steps, elements}
+use Rattle.tz_state.specs.Fetch.{fetch}
+use Rattle.tz_access.proofs.bus.Bus.nonsecure_fetch.Goals as goal
+
+-- What the tactics try, by name: a body that is refused is then told without a search for what to offer.
+pub returns-then-is_own_rest : goal.returns-then-is_own_rest
+unfolding fetch
+returns-then-is_own_rest c = first_of (assumption, search (tests, rules), grind (arith, common_steps), grind (arith, elements))
+
+pub returns : goal.returns
+unfolding fetch
+returns c = first_of (assumption, search (tests, rules), grind (arith, common_steps), grind (arith, elements))
