@@ -1,8 +1,8 @@
 use Rattle.std.proofs.Common.{◌∙◌, ◌+◌, ◌∷◌, ap, sym, List, ℕ, take, arith}
 use Rattle.std.proofs.lemmas.List.{take_rest}
-use Rattle.tz_lines.specs.Lines.{lines_of}
-use Rattle.tz_lines.proofs.Turns.{lines_of-feed, lines_of-last}
-use Rattle.tz_lines.proofs.first_line.Goals as goal
+use Rattle.tz_tokens.specs.Lines.{lines_of}
+use Rattle.tz_tokens.proofs.LineTurns.{lines_of-feed, lines_of-last}
+use Rattle.tz_tokens.proofs.lines.first_line.Goals as goal
 
 pub returns-then-end-text-clause-lines : goal.returns-then-end-text-clause-lines
 returns-then-end-text-clause-lines c =

@@ -1,10 +1,9 @@
 //! The lines of a text, one at a time.
 //!
 //! A line ends with a line feed, or with the text. What a line says isn't known here.
-#![tactic(auto)]
 
 ghost use Rattle.std.specs.Prelude.{◌≡◌, ◌≢◌, ◌<◌, ◌≤◌, ℕ, ◌∷◌, length, slice_index};
-ghost use Rattle.tz_lines.specs.Lines.{lines_of};
+ghost use Rattle.tz_tokens.specs.Lines.{lines_of};
 
 /// The place of the first line feed, or the length.
 fn feed_at(text: &[u8]) -> usize

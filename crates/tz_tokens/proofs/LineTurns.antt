@@ -1,7 +1,7 @@
 -- The first line of a text, with or without its line feed.
 use Rattle.std.proofs.Common.{◌≡◌, ◌≢◌, ◌<◌, ◌+◌, ◌==◌, ℕ, true, false, zero, suc, refl, ap, arith, List, [], ◌∷◌, length, take, drop, get_or, eq-eqb}
 use Rattle.std.proofs.lemmas.Bool.{ne_eqb}
-use Rattle.tz_lines.specs.Lines.{onto_first_line, lines_of}
+use Rattle.tz_tokens.specs.Lines.{onto_first_line, lines_of}
 
 -- the first line, and the lines behind its line feed
 pub lines_of-feed : (text : List ℕ) (k : ℕ) → k < length text → ((j : ℕ) → j < k → get_or text j 0 ≢ 10) → get_or text k 0 ≡ 10
