@@ -13,7 +13,7 @@ use Rattle.tz_asm.specs.Written.{Writes, InstructionWrites, as_address, coded_by
 use Rattle.tz_asm.specs.declared.layout.Layout.{Layout}
 use Rattle.tz_tokens.specs.Lines.{lines_of}
 use Rattle.tz_model.specs.Image.{SegmentValue}
-use Rattle.tz_source.specs.Statements.{StatementValue, Nothing, Org, Align, Data, Instruction}
+use Rattle.tz_asm.specs.Statements.{StatementValue, Nothing, Org, Align, Data, Instruction}
 use Rattle.tz_statement.proofs.Told as codes
 
 -- what follows an answer is told where each answer that may follow is

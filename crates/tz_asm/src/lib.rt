@@ -1,9 +1,9 @@
 //! The assembler: source in, an image out.
 //!
 //! It goes over the source twice. The first pass tells the place of each label, and the second puts the
-//! bytes. Both keep track of the place by the same function, so they can't disagree. What a source gives,
-//! and which refusal comes first, is said by this crate's definitions. What a statement's code is comes from
-//! `tz_statement`.
+//! bytes. Both keep track of the place by the same function, so they can't disagree. What a line says is read
+//! by the module `source`. What a source gives, and which refusal comes first, is said by this crate's
+//! definitions. What a statement's code is comes from `tz_statement`.
 #![tactic(auto)]
 
 ghost use Rattle.std.specs.Prelude.{◌≡◌, ◌<◌, ◌^◌, IfErr, IfOk, Ok, length};
@@ -17,6 +17,7 @@ mod layout;
 mod places;
 mod reading;
 mod second_pass;
+mod source;
 mod values;
 mod written;
 

@@ -20,7 +20,7 @@ use Rattle.tz_tokens.specs.Lines.{lines_of}
 use Rattle.tz_elf.proofs.Written.{HoldBytes}
 use Rattle.tz_model.specs.Board.{most_bytes}
 use Rattle.tz_model.specs.Image.{SegmentValue, are_addressed, bytes_in, end_of}
-use Rattle.tz_source.specs.Statements.{StatementValue, Nothing, Org, Align, Data, Instruction}
+use Rattle.tz_asm.specs.Statements.{StatementValue, Nothing, Org, Align, Data, Instruction}
 use Rattle.tz_statement.specs.Told.{code_told}
 use Rattle.tz_statement.specs.declared.error.Uncoded.{Uncoded}
 use Rattle.tz_table.specs.declared.units.Code.{Code}

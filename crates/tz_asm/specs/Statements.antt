@@ -1,12 +1,12 @@
 -- The statements of source.
 use Rattle.std.specs.Prelude.{ℕ, if◌then◌else◌, List, [], ◌∷◌, codes, Option, Some, None, option_map, ok_or, Result, Ok, Err}
 use Rattle.std.specs.Str.{bytes_eq}
-use Rattle.tz_source.specs.Operands.{ExpressionValue, alignment, expression_of, number_of}
-use Rattle.tz_source.specs.declared.directive.Directive.{Directive}
-use Rattle.tz_source.specs.declared.directive.Directive.TheVariants as directives
-use Rattle.tz_source.specs.declared.number.Signed.{Signed}
-use Rattle.tz_source.specs.declared.statement.LineError.{LineError}
-use Rattle.tz_source.specs.declared.statement.LineError.TheVariants.{Mnemonic, Operands}
+use Rattle.tz_asm.specs.Operands.{ExpressionValue, alignment, expression_of, number_of}
+use Rattle.tz_asm.specs.declared.source.directive.Directive.{Directive}
+use Rattle.tz_asm.specs.declared.source.directive.Directive.TheVariants as directives
+use Rattle.tz_asm.specs.declared.source.number.Signed.{Signed}
+use Rattle.tz_asm.specs.declared.source.statement.LineError.{LineError}
+use Rattle.tz_asm.specs.declared.source.statement.LineError.TheVariants.{Mnemonic, Operands}
 use Rattle.tz_statement.specs.Coded.{shaped}
 use Rattle.tz_statement.specs.Mnemonics.{width_of_word}
 use Rattle.tz_table.specs.declared.units.Size.{Size}

@@ -1,10 +1,10 @@
 //! Numbers among the operands of directives.
 
 ghost use Rattle.std.specs.Prelude.{◌≡◌};
-ghost use Rattle.tz_source.specs.Operands.{number_of, offset_of, only_number, with_sign};
-ghost use Rattle.tz_source.specs.Views.{views};
+ghost use Rattle.tz_asm.specs.Operands.{number_of, offset_of, only_number, with_sign};
+ghost use Rattle.tz_asm.specs.Views.{views};
 
-use crate::first::split;
+use crate::source::first::split;
 use tz_tokens::Token;
 
 /// A number with its sign.

@@ -1,12 +1,12 @@
 //! Statements.
 
 ghost use Rattle.std.specs.Prelude.{◌≡◌, Err, IfErr, IfOk, Ok};
-ghost use Rattle.tz_source.specs.Statements.{instructed, statement_of, worded};
-ghost use Rattle.tz_source.specs.Views.{statement_view, views};
+ghost use Rattle.tz_asm.specs.Statements.{instructed, statement_of, worded};
+ghost use Rattle.tz_asm.specs.Views.{statement_view, views};
 
-use crate::directive::{directed, directive_of};
-use crate::first::split;
-use crate::number::Signed;
+use crate::source::directive::{directed, directive_of};
+use crate::source::first::split;
+use crate::source::number::Signed;
 use tz_statement::{has_shape, width_of};
 use tz_table::{Size, Width};
 use tz_tokens::Token;

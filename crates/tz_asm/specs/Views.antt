@@ -1,15 +1,15 @@
 -- Lines as they are read.
 use Rattle.std.specs.Prelude.{List, map, option_map}
-use Rattle.tz_source.specs.Operands.{ExpressionValue, Constant}
-use Rattle.tz_source.specs.Operands as values
-use Rattle.tz_source.specs.SourceLines.{LineValue}
-use Rattle.tz_source.specs.Statements.{StatementValue}
-use Rattle.tz_source.specs.Statements as statements
-use Rattle.tz_source.specs.declared.source_line.SourceLine.{SourceLine}
-use Rattle.tz_source.specs.declared.statement.Expression.{Expression}
-use Rattle.tz_source.specs.declared.statement.Expression.TheVariants.{Number, Label}
-use Rattle.tz_source.specs.declared.statement.Statement.{Statement}
-use Rattle.tz_source.specs.declared.statement.Statement.TheVariants.{Nothing, Org, Align, Data, Instruction}
+use Rattle.tz_asm.specs.Operands.{ExpressionValue, Constant}
+use Rattle.tz_asm.specs.Operands as values
+use Rattle.tz_asm.specs.SourceLines.{LineValue}
+use Rattle.tz_asm.specs.Statements.{StatementValue}
+use Rattle.tz_asm.specs.Statements as statements
+use Rattle.tz_asm.specs.declared.source.source_line.SourceLine.{SourceLine}
+use Rattle.tz_asm.specs.declared.source.statement.Expression.{Expression}
+use Rattle.tz_asm.specs.declared.source.statement.Expression.TheVariants.{Number, Label}
+use Rattle.tz_asm.specs.declared.source.statement.Statement.{Statement}
+use Rattle.tz_asm.specs.declared.source.statement.Statement.TheVariants.{Nothing, Org, Align, Data, Instruction}
 use Rattle.tz_tokens.specs.Tokens.{TokenValue}
 use Rattle.tz_tokens.specs.Views.{token_view}
 use Rattle.tz_tokens.specs.declared.token.Token.{Token}

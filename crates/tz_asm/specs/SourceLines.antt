@@ -1,9 +1,9 @@
 -- The lines of source.
 use Rattle.std.specs.Prelude.{ℕ, if◌then◌else◌, List, Option, Some, None, Result, Ok, Err}
-use Rattle.tz_source.specs.Labels.{is_register, label_at}
-use Rattle.tz_source.specs.Statements.{StatementValue, statement_of}
-use Rattle.tz_source.specs.declared.statement.LineError.{LineError}
-use Rattle.tz_source.specs.declared.statement.LineError.TheVariants.{Token, Operands}
+use Rattle.tz_asm.specs.Labels.{is_register, label_at}
+use Rattle.tz_asm.specs.Statements.{StatementValue, statement_of}
+use Rattle.tz_asm.specs.declared.source.statement.LineError.{LineError}
+use Rattle.tz_asm.specs.declared.source.statement.LineError.TheVariants.{Token, Operands}
 use Rattle.tz_tokens.specs.Tokens.{TokenValue, tokens_of, without_comment}
 
 -- the label that a line defines, and its statement

@@ -1,10 +1,10 @@
 //! Labels.
 
 ghost use Rattle.std.specs.Prelude.{◌≡◌, option_map};
-ghost use Rattle.tz_source.specs.Labels.{behind_colon, has_dot, is_register, label_at};
-ghost use Rattle.tz_source.specs.Views.{views};
+ghost use Rattle.tz_asm.specs.Labels.{behind_colon, has_dot, is_register, label_at};
+ghost use Rattle.tz_asm.specs.Views.{views};
 
-use crate::first::split;
+use crate::source::first::split;
 use tz_syntax::register_of;
 use tz_tokens::Token;
 

@@ -1,9 +1,8 @@
 //! What a line of source says: a label, and a directive or an instruction, or neither.
 //!
-//! A line is read from its tokens, exactly as this crate's definitions say, or refused for the first cause.
-//! An instruction is only told by its mnemonic and its operands; where its operands have the shape of a text,
+//! A line is read from its tokens, exactly as the definitions say, or refused for the first cause. An
+//! instruction is only told by its mnemonic and its operands; where its operands have the shape of a text,
 //! `tz_statement` tells its code. What stands in other lines isn't known here.
-#![tactic(auto)]
 
 mod directive;
 mod first;

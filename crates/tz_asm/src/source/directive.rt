@@ -1,13 +1,13 @@
 //! Directives.
 
 ghost use Rattle.std.specs.Prelude.{◌≡◌, option_map};
-ghost use Rattle.tz_source.specs.Operands.{alignment, expression_of, labelled_value};
-ghost use Rattle.tz_source.specs.Statements.{directed, directive_of};
-ghost use Rattle.tz_source.specs.Views.{expression_view, statement_view, views};
+ghost use Rattle.tz_asm.specs.Operands.{alignment, expression_of, labelled_value};
+ghost use Rattle.tz_asm.specs.Statements.{directed, directive_of};
+ghost use Rattle.tz_asm.specs.Views.{expression_view, statement_view, views};
 
-use crate::first::split;
-use crate::number::{Signed, number_of, offset_of};
-use crate::statement::{Expression, Statement};
+use crate::source::first::split;
+use crate::source::number::{Signed, number_of, offset_of};
+use crate::source::statement::{Expression, Statement};
 use tz_statement::is_label;
 use tz_table::Size;
 use tz_tokens::Token;

@@ -1,12 +1,12 @@
 //! Lines.
 
 ghost use Rattle.std.specs.Prelude.{◌≡◌, Err, IfErr, IfOk, Ok};
-ghost use Rattle.tz_source.specs.SourceLines.{labelled, line_of};
-ghost use Rattle.tz_source.specs.Statements.{statement_of};
-ghost use Rattle.tz_source.specs.Views.{line_view, views};
+ghost use Rattle.tz_asm.specs.SourceLines.{labelled, line_of};
+ghost use Rattle.tz_asm.specs.Statements.{statement_of};
+ghost use Rattle.tz_asm.specs.Views.{line_view, views};
 
-use crate::label::{is_register, label_at};
-use crate::statement::{LineError, Statement, statement_of};
+use crate::source::label::{is_register, label_at};
+use crate::source::statement::{LineError, Statement, statement_of};
 use tz_tokens::Token;
 
 /// What a line says.

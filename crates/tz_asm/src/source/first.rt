@@ -1,7 +1,7 @@
 //! The first of some tokens.
 
 ghost use Rattle.std.specs.Prelude.{◌≡◌, [], ◌∷◌, MatchOption};
-ghost use Rattle.tz_source.specs.Views.{views};
+ghost use Rattle.tz_asm.specs.Views.{views};
 ghost use Rattle.tz_tokens.specs.Views.{token_view};
 
 use tz_tokens::Token;
