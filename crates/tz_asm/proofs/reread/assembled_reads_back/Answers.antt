@@ -1,7 +1,7 @@
 use Rattle.tz_elf.proofs.ReadBack.{pairs_of-plain_text}
 use Rattle.tz_elf.proofs.ReadBackElf.{pairs_of-elf_bytes}
-use Rattle.tz_reread.proofs.Sound.{assembled_good}
-use Rattle.tz_reread.proofs.assembled_reads_back.Goals as goal
+use Rattle.tz_asm.proofs.Sound.{assembled_good}
+use Rattle.tz_asm.proofs.reread.assembled_reads_back.Goals as goal
 
 pub returns : goal.returns
 returns c = λ source segments h.

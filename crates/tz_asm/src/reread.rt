@@ -4,13 +4,11 @@
 //! itself; and a file that the assembler writes of a source says those of the source's segments. So the two
 //! laws together: an image that is assembled is read with the same bytes, in either form, on each board that
 //! takes it.
-#![tactic(auto)]
 
 ghost use Rattle.std.specs.Prelude.{◌≡◌, ℕ, List, Ok};
 ghost use Rattle.tz_table.specs.declared.units.Side.{Side};
 ghost use Rattle.tz_model.specs.Board.{BoardValue};
-ghost use Rattle.tz_model.specs.Image.{ImageValue};
-ghost use Rattle.tz_model.specs.Image.{SegmentValue};
+ghost use Rattle.tz_model.specs.Image.{ImageValue, SegmentValue};
 ghost use Rattle.tz_asm.specs.Told.{assembled};
 ghost use Rattle.tz_elf.specs.ElfImage.{elf_bytes};
 ghost use Rattle.tz_elf.specs.Images.{image_of, pairs_in, pairs_of};
