@@ -2,8 +2,8 @@
 use Rattle.std.proofs.Common.{arith, refl}
 use Rattle.tz_table.specs.BranchRows as rows
 use Rattle.tz_table.specs.declared.units.Width.TheVariants.{Wide}
-use Rattle.tz_spelled.proofs.Forms.{excepts_from, wide_branch_if_text, wide_hint_text}
-use Rattle.tz_spelled.proofs.Groups.{IsSpelled, in_branches, in_system}
+use Rattle.tz_dis.proofs.TextForms.{excepts_from, wide_branch_if_text, wide_hint_text}
+use Rattle.tz_dis.proofs.TextGroups.{IsSpelled, in_branches, in_system}
 
 pub bcond_w : IsSpelled rows.bcond_w
 bcond_w f s h = wide_branch_if_text _ _ (omega arith) (excepts_from rows.bcond_w f s h)

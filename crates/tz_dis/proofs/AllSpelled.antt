@@ -1,12 +1,12 @@
 -- The instructions of each row of the instruction table have a text.
 use Rattle.tz_table.specs.Table.{rows}
-use Rattle.tz_spelled.proofs.Groups.{EachIsSpelled, ◌▹◌}
-use Rattle.tz_spelled.proofs.NarrowSpelled as narrow
-use Rattle.tz_spelled.proofs.MultipleSpelled as multiples
-use Rattle.tz_spelled.proofs.DataSpelled as data_rows
-use Rattle.tz_spelled.proofs.BranchSpelled as branches
-use Rattle.tz_spelled.proofs.LoadSpelled as loads
-use Rattle.tz_spelled.proofs.ArithmeticSpelled as arithmetic
+use Rattle.tz_dis.proofs.TextGroups.{EachIsSpelled, ◌▹◌}
+use Rattle.tz_dis.proofs.NarrowSpelled as narrow
+use Rattle.tz_dis.proofs.MultipleSpelled as multiples
+use Rattle.tz_dis.proofs.DataSpelled as data_rows
+use Rattle.tz_dis.proofs.BranchSpelled as branches
+use Rattle.tz_dis.proofs.LoadSpelled as loads
+use Rattle.tz_dis.proofs.ArithmeticSpelled as arithmetic
 
 pub all_spelled : EachIsSpelled rows
 unfolding rows

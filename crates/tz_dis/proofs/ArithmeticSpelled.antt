@@ -3,8 +3,8 @@ use Rattle.std.proofs.Common.{refl}
 use Rattle.tz_table.specs.Fields.{bits}
 use Rattle.tz_table.specs.ArithmeticRows as rows
 use Rattle.tz_table.specs.declared.units.Width.TheVariants.{Wide}
-use Rattle.tz_spelled.proofs.Forms.{lazy_state_text, shift_text}
-use Rattle.tz_spelled.proofs.Groups.{IsSpelled, in_other_data, in_system}
+use Rattle.tz_dis.proofs.TextForms.{lazy_state_text, shift_text}
+use Rattle.tz_dis.proofs.TextGroups.{IsSpelled, in_other_data, in_system}
 
 pub shift_reg_w : IsSpelled rows.shift_reg_w
 shift_reg_w f s _ = shift_text (bits f 5 2) (bits f 4 1) _ _ _

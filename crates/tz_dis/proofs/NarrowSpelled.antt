@@ -3,8 +3,8 @@ use Rattle.std.proofs.Common.{arith, refl}
 use Rattle.tz_table.specs.Fields.{bits}
 use Rattle.tz_table.specs.NarrowRows as rows
 use Rattle.tz_table.specs.declared.units.Width.TheVariants.{Narrow}
-use Rattle.tz_spelled.proofs.Forms.{add_text, branch_exchange_text, branch_zero_text, call_exchange_text, change_state_text, excepts_from, left_text, load_many_narrow_text, narrow_branch_if_text, narrow_hint_text}
-use Rattle.tz_spelled.proofs.Groups.{IsSpelled, in_branches, in_constants, in_loads, in_multiples, in_other_data, in_registers, in_stores, in_system}
+use Rattle.tz_dis.proofs.TextForms.{add_text, branch_exchange_text, branch_zero_text, call_exchange_text, change_state_text, excepts_from, left_text, load_many_narrow_text, narrow_branch_if_text, narrow_hint_text}
+use Rattle.tz_dis.proofs.TextGroups.{IsSpelled, in_branches, in_constants, in_loads, in_multiples, in_other_data, in_registers, in_stores, in_system}
 
 pub lsl_imm : IsSpelled rows.lsl_imm
 lsl_imm f s _ = left_text _ _ _

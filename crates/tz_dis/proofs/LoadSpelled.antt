@@ -3,8 +3,8 @@ use Rattle.std.proofs.Common.{refl}
 use Rattle.tz_table.specs.Fields.{bits}
 use Rattle.tz_table.specs.LoadRows as rows
 use Rattle.tz_table.specs.declared.units.Width.TheVariants.{Wide}
-use Rattle.tz_spelled.proofs.Forms.{excepts_from, load_back_text, load_text, store_back_text, store_text}
-use Rattle.tz_spelled.proofs.Groups.{IsSpelled, in_exclusives}
+use Rattle.tz_dis.proofs.TextForms.{excepts_from, load_back_text, load_text, store_back_text, store_text}
+use Rattle.tz_dis.proofs.TextGroups.{IsSpelled, in_exclusives}
 
 pub ldr_imm12 : IsSpelled rows.ldr_imm12
 ldr_imm12 f s h = load_text f _ _ _ _ (excepts_from rows.ldr_imm12 f s h) refl refl refl refl refl

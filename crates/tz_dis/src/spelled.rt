@@ -2,7 +2,6 @@
 //!
 //! So a line of text never stops behind a code that is an instruction, and what a disassembler shows
 //! without one is no instruction. Nothing here runs.
-#![tactic(auto)]
 
 ghost use Rattle.std.specs.Prelude.{◌≡◌, ◌≢◌, ℕ, []};
 ghost use Rattle.tz_table.specs.Table.{decode_of};

@@ -17,7 +17,7 @@ use Rattle.tz_table.specs.declared.units.Size.{Size}
 use Rattle.tz_table.specs.declared.units.Size.TheVariants as sizes
 use Rattle.tz_table.specs.declared.units.Width.TheVariants.{Narrow, Wide}
 use Rattle.tz_syntax.specs.OtherTexts.{branches, system}
-use Rattle.tz_spelled.proofs.Groups.{Among}
+use Rattle.tz_dis.proofs.TextGroups.{Among}
 
 pub by_bool : (P : Bool → Type 0) (b : Bool) → P true → P false → P b
 by_bool P true x y = x

@@ -13,8 +13,8 @@ use Rattle.tz_table.specs.declared.units.Width.{Width}
 use Rattle.tz_table.specs.declared.units.Width.TheVariants.{Narrow}
 use Rattle.tz_syntax.specs.Rows.{TextRow, fits, row_text}
 use Rattle.tz_syntax.specs.Text.{found_text, text_of, texts}
-use Rattle.tz_spelled.proofs.AllSpelled.{all_spelled}
-use Rattle.tz_spelled.proofs.Groups.{EachIsSpelled, HasText}
+use Rattle.tz_dis.proofs.AllSpelled.{all_spelled}
+use Rattle.tz_dis.proofs.TextGroups.{EachIsSpelled, HasText}
 
 -- ---- the text of a row
 

@@ -17,9 +17,9 @@ use Rattle.tz_table.specs.declared.units.Width.TheVariants.{Narrow, Wide}
 use Rattle.tz_syntax.specs.DataTexts.{constants, registers, other_data}
 use Rattle.tz_syntax.specs.MemoryTexts.{loads, stores, pairs, multiples}
 use Rattle.tz_syntax.specs.OtherTexts.{branches, system}
-use Rattle.tz_spelled.proofs.Cases.{branch_if_narrow, branch_if_wide, by_bool, by_flags, by_indexed, by_one, by_shift, by_size, load_cases, narrow_hint, wide_hint}
-use Rattle.tz_spelled.proofs.Groups.{Among, HasText, in_branches, in_constants, in_loads, in_multiples, in_other_data, in_pairs, in_registers, in_stores, in_system}
-pub use Rattle.tz_spelled.proofs.Cases.{excepts_from}
+use Rattle.tz_dis.proofs.TextCases.{branch_if_narrow, branch_if_wide, by_bool, by_flags, by_indexed, by_one, by_shift, by_size, load_cases, narrow_hint, wide_hint}
+use Rattle.tz_dis.proofs.TextGroups.{Among, HasText, in_branches, in_constants, in_loads, in_multiples, in_other_data, in_pairs, in_registers, in_stores, in_system}
+pub use Rattle.tz_dis.proofs.TextCases.{excepts_from}
 
 -- ---- data
 

@@ -4,8 +4,8 @@ use Rattle.tz_table.specs.Fields.{bits}
 use Rattle.tz_table.specs.DataRows as rows
 use Rattle.tz_table.specs.declared.instruction.DataOp.TheVariants as ops
 use Rattle.tz_table.specs.declared.units.Width.TheVariants.{Wide}
-use Rattle.tz_spelled.proofs.Forms.{constant_text, move_text, register_text, saturate_text}
-use Rattle.tz_spelled.proofs.Groups.{IsSpelled, in_constants, in_other_data, in_registers}
+use Rattle.tz_dis.proofs.TextForms.{constant_text, move_text, register_text, saturate_text}
+use Rattle.tz_dis.proofs.TextGroups.{IsSpelled, in_constants, in_other_data, in_registers}
 
 pub and_reg_w : IsSpelled rows.and_reg_w
 and_reg_w f s _ = register_text ops.And (bits f 4 1) _ _ _ _ _ refl refl

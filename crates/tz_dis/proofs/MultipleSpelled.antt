@@ -3,8 +3,8 @@ use Rattle.std.proofs.Common.{refl, true, false}
 use Rattle.tz_table.specs.Fields.{bits}
 use Rattle.tz_table.specs.MultipleRows as rows
 use Rattle.tz_table.specs.declared.units.Width.TheVariants.{Wide}
-use Rattle.tz_spelled.proofs.Forms.{load_many_text, load_pair_text, store_many_text, store_pair_text, table_branch_text, test_target_text}
-use Rattle.tz_spelled.proofs.Groups.{IsSpelled, in_exclusives, in_pairs}
+use Rattle.tz_dis.proofs.TextForms.{load_many_text, load_pair_text, store_many_text, store_pair_text, table_branch_text, test_target_text}
+use Rattle.tz_dis.proofs.TextGroups.{IsSpelled, in_exclusives, in_pairs}
 
 pub ldm_w : IsSpelled rows.ldm_w
 ldm_w f s _ = load_many_text _ _ false (bits f 5 1)
