@@ -1,8 +1,8 @@
 -- What a source gives is what is told of it.
-use Rattle.std.proofs.Common.{◌≡◌, ℕ, ◌+◌, List, [], ◌∷◌, Result, Ok, Err, refl, sym, ap, ◌∙◌}
+use Rattle.std.proofs.Common.{◌≡◌, ℕ, ◌+◌, List, [], ◌∷◌, Result, Ok, Err, sym, ap, ◌∙◌}
 use Rattle.tz_asm.specs.Assembled.{Assembled}
 use Rattle.tz_asm.specs.FirstPass.{first_pass}
-use Rattle.tz_asm.specs.Growing.{GrowingValue, finished, grown, nothing}
+use Rattle.tz_asm.specs.Growing.{GrowingValue, grown, nothing}
 use Rattle.tz_asm.specs.Layouts.{advance, start}
 use Rattle.tz_asm.specs.Places.{Places}
 use Rattle.tz_asm.specs.Reading.{said}
