@@ -7,8 +7,8 @@ use Rattle.tz_asm.specs.Refusals.{Refusal}
 use Rattle.tz_asm.specs.Values.{data_bytes, in_size, low_first, number_bytes, value_bytes, value_of}
 use Rattle.tz_asm.specs.Written.{InstructionWrites, as_address, code_bytes, coded_bytes, label_place, last_word, word_of}
 use Rattle.tz_asm.specs.declared.values.Value.{Value}
-use Rattle.tz_source.specs.Operands.{ExpressionValue}
-use Rattle.tz_source.specs.Views.{views}
+use Rattle.tz_asm.specs.Operands.{ExpressionValue}
+use Rattle.tz_asm.specs.Views.{views}
 use Rattle.tz_statement.specs.Coded.{Coded}
 use Rattle.tz_statement.specs.declared.error.Uncoded.{Uncoded}
 use Rattle.tz_table.specs.declared.units.Code.{Code}

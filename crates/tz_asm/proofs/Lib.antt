@@ -7,3 +7,5 @@ pub mod Bytes
 pub mod Segments
 pub mod Passes
 pub mod Told
+pub mod Untested
+pub mod Sound

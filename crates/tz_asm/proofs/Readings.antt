@@ -1,8 +1,8 @@
 -- A line, read from its tokens.
 use Rattle.std.proofs.Common.{◌≡◌, ℕ, refl, List, Some}
 use Rattle.tz_asm.specs.Reading.{at_line, said}
-use Rattle.tz_source.specs.SourceLines.{line_of, source_line}
-use Rattle.tz_source.specs.Views.{views}
+use Rattle.tz_asm.specs.SourceLines.{line_of, source_line}
+use Rattle.tz_asm.specs.Views.{views}
 use Rattle.tz_tokens.specs.Tokens.{tokens_of, without_comment}
 use Rattle.tz_tokens.specs.declared.token.Token.{Token}
 

@@ -9,7 +9,7 @@ use Rattle.tz_asm.specs.Refusals.{OrgBackwards, TooLarge}
 use Rattle.tz_asm.specs.declared.layout.Layout.{Layout}
 use Rattle.tz_model.specs.Board.{most_bytes}
 use Rattle.tz_model.specs.Image.{IsImage, SegmentValue, are_addressed, are_clear, bytes_in, clear_of_all, end_of, is_clear_of}
-use Rattle.tz_source.specs.Statements.{StatementValue, Nothing, Org, Align, Data, Instruction}
+use Rattle.tz_asm.specs.Statements.{StatementValue, Nothing, Org, Align, Data, Instruction}
 
 or_left : (x y : Bool) → x ≡ true → (x || y) ≡ true
 or_left x y h = rw h refl

@@ -1,8 +1,8 @@
 -- What a source gives is what is told of it.
-use Rattle.std.proofs.Common.{◌≡◌, ℕ, ◌+◌, List, [], ◌∷◌, Result, Ok, Err, refl, sym, ap, ◌∙◌}
+use Rattle.std.proofs.Common.{◌≡◌, ℕ, ◌+◌, List, [], ◌∷◌, Result, Ok, Err, sym, ap, ◌∙◌}
 use Rattle.tz_asm.specs.Assembled.{Assembled}
 use Rattle.tz_asm.specs.FirstPass.{first_pass}
-use Rattle.tz_asm.specs.Growing.{GrowingValue, finished, grown, nothing}
+use Rattle.tz_asm.specs.Growing.{GrowingValue, grown, nothing}
 use Rattle.tz_asm.specs.Layouts.{advance, start}
 use Rattle.tz_asm.specs.Places.{Places}
 use Rattle.tz_asm.specs.Reading.{said}
@@ -11,9 +11,9 @@ use Rattle.tz_asm.specs.SecondPass.{SecondFrom, SecondPass, SecondTurn}
 use Rattle.tz_asm.specs.Told.{assembled, second_from, second_turn, written_by}
 use Rattle.tz_asm.specs.Written.{Writes, InstructionWrites, as_address, coded_bytes, label_place}
 use Rattle.tz_asm.specs.declared.layout.Layout.{Layout}
-use Rattle.tz_lines.specs.Lines.{lines_of}
+use Rattle.tz_tokens.specs.Lines.{lines_of}
 use Rattle.tz_model.specs.Image.{SegmentValue}
-use Rattle.tz_source.specs.Statements.{StatementValue, Nothing, Org, Align, Data, Instruction}
+use Rattle.tz_asm.specs.Statements.{StatementValue, Nothing, Org, Align, Data, Instruction}
 use Rattle.tz_statement.proofs.Told as codes
 
 -- what follows an answer is told where each answer that may follow is

@@ -3,8 +3,8 @@ use Rattle.std.specs.Prelude.{ℕ, ◌+◌, ◌-◌, ◌%◌, ◌^◌, ◌==◌,
 use Rattle.tz_asm.specs.Refusals.{Refusal, OrgBackwards, TooLarge}
 use Rattle.tz_asm.specs.declared.layout.Layout.{Layout}
 use Rattle.tz_model.specs.Board.{most_bytes}
-use Rattle.tz_source.specs.Statements.{StatementValue, Nothing, Org, Align, Data, Instruction}
-use Rattle.tz_source.specs.declared.number.Signed.{Signed}
+use Rattle.tz_asm.specs.Statements.{StatementValue, Nothing, Org, Align, Data, Instruction}
+use Rattle.tz_asm.specs.declared.source.number.Signed.{Signed}
 use Rattle.tz_table.specs.declared.units.Size.{Size}
 use Rattle.tz_table.specs.declared.units.Size.TheVariants.{Byte, Half, Word}
 use Rattle.tz_table.specs.declared.units.Width.{Width}

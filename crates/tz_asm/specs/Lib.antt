@@ -1,3 +1,8 @@
+pub mod Labels
+pub mod Operands
+pub mod Statements
+pub mod SourceLines
+pub mod Views
 pub mod Refusals
 pub mod Errors
 pub mod Reading

@@ -1,9 +1,9 @@
 -- Lines with their numbers.
 use Rattle.std.specs.Prelude.{ℕ, List, Result, Ok, Err}
 use Rattle.tz_asm.specs.Refusals.{Refusal, Token, Mnemonic, Operands}
-use Rattle.tz_source.specs.SourceLines.{LineValue, source_line}
-use Rattle.tz_source.specs.declared.statement.LineError.{LineError}
-use Rattle.tz_source.specs.declared.statement.LineError.TheVariants as causes
+use Rattle.tz_asm.specs.SourceLines.{LineValue, source_line}
+use Rattle.tz_asm.specs.declared.source.statement.LineError.{LineError}
+use Rattle.tz_asm.specs.declared.source.statement.LineError.TheVariants as causes
 
 -- why a line is refused
 abbrev pub refused_at : ℕ → LineError → Refusal

@@ -4,8 +4,8 @@ use Rattle.tz_asm.specs.Layouts.{size_bytes}
 use Rattle.tz_asm.specs.Places.{Places}
 use Rattle.tz_asm.specs.Refusals.{Refusal, NoLabel, Range}
 use Rattle.tz_asm.specs.declared.values.Value.{Value}
-use Rattle.tz_source.specs.Operands.{ExpressionValue, Constant, Label}
-use Rattle.tz_source.specs.declared.number.Signed.{Signed}
+use Rattle.tz_asm.specs.Operands.{ExpressionValue, Constant, Label}
+use Rattle.tz_asm.specs.declared.source.number.Signed.{Signed}
 use Rattle.tz_table.specs.declared.units.Size.{Size}
 use Rattle.tz_table.specs.declared.units.Size.TheVariants.{Byte, Half, Word}
 

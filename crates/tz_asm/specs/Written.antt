@@ -4,7 +4,7 @@ use Rattle.tz_asm.specs.Layouts.{padding}
 use Rattle.tz_asm.specs.Places.{Places}
 use Rattle.tz_asm.specs.Refusals.{Refusal, NoLabel, Range}
 use Rattle.tz_asm.specs.Values.{data_bytes, low_first}
-use Rattle.tz_source.specs.Statements.{StatementValue, Nothing, Org, Align, Data, Instruction}
+use Rattle.tz_asm.specs.Statements.{StatementValue, Nothing, Org, Align, Data, Instruction}
 use Rattle.tz_statement.specs.Coded.{Coded}
 use Rattle.tz_statement.specs.declared.error.Uncoded.{Uncoded}
 use Rattle.tz_statement.specs.declared.error.Uncoded.TheVariants as causes

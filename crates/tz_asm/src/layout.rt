@@ -3,10 +3,10 @@
 ghost use Rattle.std.specs.Prelude.{◌≡◌, ◌+◌, ◌<◌, ◌≤◌, ◌^◌, IfErr, IfOk, OnOk, Ok};
 ghost use Rattle.tz_asm.specs.Errors.{IsRefusal};
 ghost use Rattle.tz_asm.specs.Layouts.{IsLayout, advance, byte_count, go_to, org_place, padding, put, size_bytes, start, width_bytes};
-ghost use Rattle.tz_source.specs.Views.{statement_view};
+ghost use Rattle.tz_asm.specs.Views.{statement_view};
 
 use crate::error::AsmError;
-use tz_source::{Signed, Statement};
+use crate::source::{Signed, Statement};
 use tz_table::{Size, Width};
 
 /// One past the last address.

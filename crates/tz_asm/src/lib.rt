@@ -1,9 +1,11 @@
 //! The assembler: source in, an image out.
 //!
 //! It goes over the source twice. The first pass tells the place of each label, and the second puts the
-//! bytes. Both keep track of the place by the same function, so they can't disagree. What a source gives,
-//! and which refusal comes first, is said by this crate's definitions. What a statement's code is comes from
-//! `tz_statement`.
+//! bytes. Both keep track of the place by the same function, so they can't disagree. What a line says is read
+//! by the module `source`. What a source gives, and which refusal comes first, is said by this crate's
+//! definitions. What a statement's code is comes from `tz_statement`.
+//!
+//! Beside `assemble` stand two laws, in the module `reread`: what the files that are written of an image say.
 #![tactic(auto)]
 
 ghost use Rattle.std.specs.Prelude.{◌≡◌, ◌<◌, ◌^◌, IfErr, IfOk, Ok, length};
@@ -16,12 +18,15 @@ mod growing;
 mod layout;
 mod places;
 mod reading;
+mod reread;
 mod second_pass;
+mod source;
 mod values;
 mod written;
 
 pub use error::AsmError;
 use first_pass::first_pass;
+pub use reread::{assembled_reads_back, image_has_its_pairs};
 use second_pass::second_pass;
 use std::alloc::Global;
 use tz_model::Image;

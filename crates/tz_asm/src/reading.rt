@@ -3,16 +3,16 @@
 ghost use Rattle.std.specs.Prelude.{◌≡◌, IfErr, IfOk, Ok, OnOk, Some};
 ghost use Rattle.tz_asm.specs.Errors.{IsRefusal};
 ghost use Rattle.tz_asm.specs.Reading.{at_line, said};
-ghost use Rattle.tz_source.specs.SourceLines.{line_of};
-ghost use Rattle.tz_source.specs.Views.{line_view, views};
+ghost use Rattle.tz_asm.specs.SourceLines.{line_of};
+ghost use Rattle.tz_asm.specs.Views.{line_view, views};
 ghost use Rattle.tz_tokens.specs.Tokens.{tokens_of, without_comment};
 
 use crate::error::AsmError;
-use tz_source::{LineError, SourceLine, read_line};
+use crate::source::{LineError, SourceLine, read_line};
 use tz_tokens::{Token, read_tokens, without_comment};
 
 /// Reads the tokens of a line in place of what `tokens` had.
-#[tactic(auto, unfolding(crate::specs::Reading::said, tz_source::specs::SourceLines::source_line))]
+#[tactic(auto, unfolding(crate::specs::Reading::said, crate::specs::SourceLines::source_line))]
 pub fn tokens_in<'s>(line: u32, text: &'s [u8], tokens: &mut Vec<Token<'s>>) -> Result<(), AsmError>
     ensures ok { OnOk result (tokens_of (without_comment text.now) ≡ Some (views tokens.new.items)) }
     ensures err { IfErr result (λ e. IsRefusal e (said line text.now)) }

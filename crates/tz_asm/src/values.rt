@@ -3,11 +3,11 @@
 ghost use Rattle.std.specs.Prelude.{◌≡◌, ◌+◌, ◌<◌, ◌≤◌, ◌^◌, ◌++◌, IfSome, OnOk};
 ghost use Rattle.tz_asm.specs.Places.{places_in};
 ghost use Rattle.tz_asm.specs.Values.{in_size, low_first, modulus, moved, value_of};
-ghost use Rattle.tz_source.specs.Views.{expression_view};
+ghost use Rattle.tz_asm.specs.Views.{expression_view};
 
 use crate::places::{Places, place_of};
+use crate::source::{Expression, Signed};
 use std::alloc::AllocError;
-use tz_source::{Expression, Signed};
 use tz_table::Size;
 
 /// A number with its sign.

@@ -2,3 +2,14 @@ pub mod Listing
 pub mod Maximal
 pub mod Sorting
 pub mod Sending
+pub mod AllSpelled
+pub mod ArithmeticSpelled
+pub mod BranchSpelled
+pub mod DataSpelled
+pub mod LoadSpelled
+pub mod MultipleSpelled
+pub mod NarrowSpelled
+pub mod Spelling
+pub mod TextCases
+pub mod TextForms
+pub mod TextGroups

@@ -3,6 +3,9 @@
 //! `disassemble` writes exactly what the definition `dis_text` says: the maximal runs of bytes by their
 //! addresses, and in each run a line for what stands at its front, then one for what stands behind that. It
 //! takes no memory, and a line goes out as soon as it is read.
+//!
+//! Two laws stand beside it: that the runs are the maximal ones, and, in the module `spelled`, that each
+//! instruction that a code means has a text.
 #![tactic(auto)]
 
 ghost use Rattle.std.specs.Prelude.{◌≡◌};
@@ -14,10 +17,12 @@ mod fronts;
 mod lines;
 mod order;
 mod rest;
+mod spelled;
 
 use crate::lines::Line;
 use crate::order::ascending;
 use crate::rest::Rest;
+pub use spelled::decoded_is_spelled;
 use tz_model::{Image, Sink, SinkError};
 
 /// Writes the lines of an image, each as one put. It takes the image, since it puts the segments in order.

@@ -1,2 +1,3 @@
 pub mod Turns
 pub mod Numbers
+pub mod LineTurns

@@ -1,8 +1,7 @@
 //! Lines and comments that were told by hand.
 
 use std::test::Fail;
-use tz_lines::first_line;
-use tz_tokens::{read_tokens, without_comment};
+use tz_tokens::{first_line, read_tokens, without_comment};
 
 /// A text, its first line, and what is behind that.
 static LINES: [(&[u8], &[u8], &[u8]); 3] = [

@@ -2,8 +2,8 @@ use Rattle.std.proofs.Common.{◌∙◌}
 use Rattle.std.proofs.lemmas.Result.{IfErr-weaker, IfOk-weaker}
 use Rattle.tz_asm.specs.Places.{places_in}
 use Rattle.tz_asm.specs.Reading.{at_line, said}
-use Rattle.tz_source.specs.SourceLines.{line_of}
-use Rattle.tz_source.specs.Views.{line_view, views}
+use Rattle.tz_asm.specs.SourceLines.{line_of}
+use Rattle.tz_asm.specs.Views.{line_view, views}
 use Rattle.tz_asm.proofs.FirstTurns.{turned, undefined, unplaced, unsaid}
 use Rattle.tz_asm.proofs.Readings.{said-of}
 use Rattle.tz_asm.proofs.Telling.{IsRefusal-same}

@@ -3,8 +3,8 @@ use Rattle.tz_asm.specs.Growing.{Fits, GrowingValue, growing_view, grown}
 use Rattle.tz_asm.specs.Places.{places_in}
 use Rattle.tz_asm.specs.Reading.{at_line, said}
 use Rattle.tz_asm.specs.SecondPass.{SecondTurn}
-use Rattle.tz_source.specs.SourceLines.{line_of}
-use Rattle.tz_source.specs.Views.{line_view, statement_view, views}
+use Rattle.tz_asm.specs.SourceLines.{line_of}
+use Rattle.tz_asm.specs.Views.{line_view, statement_view, views}
 use Rattle.tz_asm.proofs.Readings.{said-of}
 use Rattle.tz_asm.proofs.SecondTurns.{turned, unplaced, unsaid, unwritten}
 use Rattle.tz_asm.proofs.Segments.{advance-grown}

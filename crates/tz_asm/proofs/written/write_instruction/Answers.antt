@@ -1,7 +1,7 @@
 use Rattle.std.proofs.Common.{◌≡◌, ◌∙◌, ◌++◌, List, Option, Ok, Err, ap, subst, sym, ℕ}
 use Rattle.tz_asm.specs.Places.{places_in}
 use Rattle.tz_asm.specs.Written.{InstructionWrites, code_bytes, uncoded}
-use Rattle.tz_source.specs.Views.{views}
+use Rattle.tz_asm.specs.Views.{views}
 use Rattle.tz_statement.specs.Coded.{Coded}
 use Rattle.tz_asm.proofs.Bytes.{coded_writes}
 use Rattle.tz_asm.proofs.Telling.{Tells-along}

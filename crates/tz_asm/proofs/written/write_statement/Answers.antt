@@ -1,7 +1,7 @@
 use Rattle.std.proofs.lemmas.Result.{on_ok_weaker}
 use Rattle.tz_asm.specs.Layouts.{byte_count}
 use Rattle.tz_asm.specs.Places.{places_in}
-use Rattle.tz_source.specs.Views.{expression_view, views}
+use Rattle.tz_asm.specs.Views.{expression_view, views}
 use Rattle.tz_asm.proofs.Bytes.{InstructionWrites-length, data_bytes-length}
 use Rattle.tz_asm.proofs.written.write_statement.Goals as goal
 

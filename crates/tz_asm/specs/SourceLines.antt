@@ -1,0 +1,41 @@
+-- The lines of source.
+use Rattle.std.specs.Prelude.{ℕ, if◌then◌else◌, List, Option, Some, None, Result, Ok, Err}
+use Rattle.tz_asm.specs.Labels.{is_register, label_at}
+use Rattle.tz_asm.specs.Statements.{StatementValue, statement_of}
+use Rattle.tz_asm.specs.declared.source.statement.LineError.{LineError}
+use Rattle.tz_asm.specs.declared.source.statement.LineError.TheVariants.{Token, Operands}
+use Rattle.tz_tokens.specs.Tokens.{TokenValue, tokens_of, without_comment}
+
+-- the label that a line defines, and its statement
+pub record LineValue : Type 0 where
+  pub label : Option (List ℕ)
+  pub statement : StatementValue
+
+-- a line without a label
+abbrev pub unlabelled : Result StatementValue LineError → Result LineValue LineError
+unlabelled (Err cause) = Err cause
+unlabelled (Ok statement) = Ok (record { label = None; statement = statement })
+
+-- a line with a label, which can't be the name of a register
+abbrev pub labelled : List ℕ → Result StatementValue LineError → Result LineValue LineError
+labelled name (Err cause) = Err cause
+labelled name (Ok statement) =
+    if is_register name then Err Operands else Ok (record { label = Some name; statement = statement })
+
+-- a line of tokens that may have a label
+abbrev pub line_with : Option (List ℕ × List TokenValue) → List TokenValue → Result LineValue LineError
+line_with None tokens = unlabelled (statement_of tokens)
+line_with (Some at) tokens = labelled at.0 (statement_of at.1)
+
+-- what a line of tokens says, or the first cause to refuse it
+unfoldable pub line_of : List TokenValue → Result LineValue LineError
+line_of tokens = line_with (label_at tokens) tokens
+
+-- the same where there may be no tokens
+abbrev pub tokens_said : Option (List TokenValue) → Result LineValue LineError
+tokens_said None = Err Token
+tokens_said (Some tokens) = line_of tokens
+
+-- what a line says, whatever its comment is
+unfoldable pub source_line : List ℕ → Result LineValue LineError
+source_line line = tokens_said (tokens_of (without_comment line))

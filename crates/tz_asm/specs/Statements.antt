@@ -1,0 +1,65 @@
+-- The statements of source.
+use Rattle.std.specs.Prelude.{ℕ, if◌then◌else◌, List, [], ◌∷◌, codes, Option, Some, None, option_map, ok_or, Result, Ok, Err}
+use Rattle.std.specs.Str.{bytes_eq}
+use Rattle.tz_asm.specs.Operands.{ExpressionValue, alignment, expression_of, number_of}
+use Rattle.tz_asm.specs.declared.source.directive.Directive.{Directive}
+use Rattle.tz_asm.specs.declared.source.directive.Directive.TheVariants as directives
+use Rattle.tz_asm.specs.declared.source.number.Signed.{Signed}
+use Rattle.tz_asm.specs.declared.source.statement.LineError.{LineError}
+use Rattle.tz_asm.specs.declared.source.statement.LineError.TheVariants.{Mnemonic, Operands}
+use Rattle.tz_statement.specs.Coded.{shaped}
+use Rattle.tz_statement.specs.Mnemonics.{width_of_word}
+use Rattle.tz_table.specs.declared.units.Size.{Size}
+use Rattle.tz_table.specs.declared.units.Size.TheVariants.{Byte, Half, Word}
+use Rattle.tz_table.specs.declared.units.Width.{Width}
+use Rattle.tz_tokens.specs.Tokens.{TokenValue}
+use Rattle.tz_tokens.specs.Tokens as tokens
+
+-- no statement, a directive, or an instruction with its width, its mnemonic and its operands
+pub data StatementValue : Type 0 where
+  Nothing : StatementValue
+  Org : (place : Signed) → StatementValue
+  Align : (multiple : ℕ) → StatementValue
+  Data : (size : Size) (value : ExpressionValue) → StatementValue
+  Instruction : (width : Width) (mnemonic : List ℕ) (operands : List TokenValue) → StatementValue
+
+-- the directive that a word is
+unfoldable pub directive_of : List ℕ → Option Directive
+directive_of word =
+    if bytes_eq word (codes ".org") then Some directives.Org
+    else if bytes_eq word (codes ".align") then Some directives.Align
+    else if bytes_eq word (codes ".byte") then Some (directives.Data Byte)
+    else if bytes_eq word (codes ".half") then Some (directives.Data Half)
+    else if bytes_eq word (codes ".word") then Some (directives.Data Word)
+    else None
+
+-- what a directive says with its operands
+unfoldable pub directed : Directive → List TokenValue → Option StatementValue
+directed directives.Org operands = option_map Org (number_of operands)
+directed directives.Align operands = option_map Align (alignment (number_of operands))
+directed (directives.Data size) operands = option_map (Data size) (expression_of operands)
+
+-- an instruction, where its mnemonic has a width
+abbrev pub with_width : Option Width → List ℕ → List TokenValue → Result StatementValue LineError
+with_width None mnemonic operands = Err Mnemonic
+with_width (Some width) mnemonic operands =
+    if shaped mnemonic operands then Ok (Instruction width mnemonic operands) else Err Operands
+
+-- an instruction, whose operands have the shape of a text of its mnemonic
+unfoldable pub instructed : List ℕ → List TokenValue → Result StatementValue LineError
+instructed mnemonic operands = with_width (width_of_word mnemonic) mnemonic operands
+
+-- the statement of a word that may be a directive
+abbrev pub worded_by : Option Directive → List ℕ → List TokenValue → Result StatementValue LineError
+worded_by (Some directive) word operands = ok_or (directed directive operands) Operands
+worded_by None word operands = instructed word operands
+
+-- the statement that begins with a word
+unfoldable pub worded : List ℕ → List TokenValue → Result StatementValue LineError
+worded word operands = worded_by (directive_of word) word operands
+
+-- the statement that tokens are
+unfoldable pub statement_of : List TokenValue → Result StatementValue LineError
+statement_of [] = Ok Nothing
+statement_of (tokens.Word word ∷ operands) = worded word operands
+statement_of _ = Err Mnemonic

@@ -1,0 +1,16 @@
+//! What a line of source says: a label, and a directive or an instruction, or neither.
+//!
+//! A line is read from its tokens, exactly as the definitions say, or refused for the first cause. An
+//! instruction is only told by its mnemonic and its operands; where its operands have the shape of a text,
+//! `tz_statement` tells its code. What stands in other lines isn't known here.
+
+mod directive;
+mod first;
+mod label;
+mod number;
+mod source_line;
+mod statement;
+
+pub use number::Signed;
+pub use source_line::{SourceLine, read_line};
+pub use statement::{Expression, LineError, Statement};

@@ -1,0 +1,109 @@
+//! Directives.
+
+ghost use Rattle.std.specs.Prelude.{◌≡◌, option_map};
+ghost use Rattle.tz_asm.specs.Operands.{alignment, expression_of, labelled_value};
+ghost use Rattle.tz_asm.specs.Statements.{directed, directive_of};
+ghost use Rattle.tz_asm.specs.Views.{expression_view, statement_view, views};
+
+use crate::source::first::split;
+use crate::source::number::{Signed, number_of, offset_of};
+use crate::source::statement::{Expression, Statement};
+use tz_statement::is_label;
+use tz_table::Size;
+use tz_tokens::Token;
+
+/// A directive.
+#[derive(Clone, Copy)]
+pub enum Directive {
+    /// `.org`.
+    Org,
+    /// `.align`.
+    Align,
+    /// `.byte`, `.half` or `.word`.
+    Data(Size),
+}
+
+/// The directive that a word is.
+#[tactic(auto, unfolding(crate::specs::Statements::directive_of))]
+pub fn directive_of(word: &[u8]) -> Option<Directive>
+    ensures { directive_of word.now ≡ result }
+{
+    if word == b".org".as_slice() {
+        Some(Directive::Org)
+    } else if word == b".align".as_slice() {
+        Some(Directive::Align)
+    } else if word == b".byte".as_slice() {
+        Some(Directive::Data(Size::Byte))
+    } else if word == b".half".as_slice() {
+        Some(Directive::Data(Size::Half))
+    } else if word == b".word".as_slice() {
+        Some(Directive::Data(Size::Word))
+    } else {
+        None
+    }
+}
+
+/// The number of an alignment: a power of two.
+fn alignment(number: Option<Signed>) -> Option<u32>
+    ensures { alignment number ≡ result }
+{
+    match number {
+        Some(number) => {
+            if !number.negative && number.size.is_power_of_two() {
+                Some(number.size)
+            } else {
+                None
+            }
+        }
+        None => None,
+    }
+}
+
+/// The value of a label and what tokens add to it.
+#[tactic(auto, unfolding(crate::specs::Operands::labelled_value))]
+fn labelled_value<'s>(name: &'s [u8], tokens: &[Token<'s>]) -> Option<Expression<'s>>
+    ensures { labelled_value name.now (views tokens.now) ≡ option_map expression_view result }
+{
+    if !is_label(name) {
+        return None;
+    }
+    match offset_of(tokens) {
+        Some(offset) => Some(Expression::Label(name, offset)),
+        None => None,
+    }
+}
+
+/// The value that tokens write: a number, or a label with what is added to it.
+#[tactic(auto, unfolding(crate::specs::Operands::expression_of))]
+fn expression_of<'s>(tokens: &[Token<'s>]) -> Option<Expression<'s>>
+    ensures { expression_of (views tokens.now) ≡ option_map expression_view result }
+{
+    if let Some((Token::Word(name), rest)) = split(tokens) {
+        return labelled_value(name, rest);
+    }
+    match number_of(tokens) {
+        Some(number) => Some(Expression::Number(number)),
+        None => None,
+    }
+}
+
+/// What a directive says with these operands, or nothing where they aren't its operands.
+#[tactic(auto, unfolding(crate::specs::Statements::directed))]
+pub fn directed<'t, 's>(directive: Directive, operands: &[Token<'s>]) -> Option<Statement<'t, 's>>
+    ensures { directed directive (views operands.now) ≡ option_map statement_view result }
+{
+    match directive {
+        Directive::Org => match number_of(operands) {
+            Some(place) => Some(Statement::Org(place)),
+            None => None,
+        },
+        Directive::Align => match alignment(number_of(operands)) {
+            Some(multiple) => Some(Statement::Align(multiple)),
+            None => None,
+        },
+        Directive::Data(size) => match expression_of(operands) {
+            Some(value) => Some(Statement::Data(size, value)),
+            None => None,
+        },
+    }
+}

@@ -1,2 +1,0 @@
-pub mod Untested
-pub mod Sound

@@ -1,5 +1,0 @@
-pub mod Labels
-pub mod Operands
-pub mod Statements
-pub mod SourceLines
-pub mod Views

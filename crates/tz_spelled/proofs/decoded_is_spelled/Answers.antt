@@ -1,5 +1,0 @@
-use Rattle.tz_spelled.proofs.Spelling.{spelled}
-use Rattle.tz_spelled.proofs.decoded_is_spelled.Goals as goal
-
-pub returns : goal.returns
-returns c = λ first second pc insn width means. spelled first second pc insn width means
