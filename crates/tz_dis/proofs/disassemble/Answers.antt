@@ -6,6 +6,8 @@ use Rattle.tz_dis.specs.Rests.{rest_text}
 use Rattle.tz_dis.proofs.Listing.{text_all}
 use Rattle.tz_dis.proofs.Sending.{sent_failed, sent_line, sent_start}
 use Rattle.tz_dis.proofs.disassemble.Goals as goal
+use Rattle.std.proofs.Common.{rules, tests}
+use Rattle.std.proofs.lemmas.Grind.{common_steps, elements}
 
 pub lines-init : goal.lines-init
 lines-init g c =
@@ -34,3 +36,13 @@ lines-preserved g c =
       empty = c.clear.ensures;
       below = c.next.ensures.below;
     }
+
+-- What the tactics try, by name: a body that is refused is then told without a search for what to offer.
+pub returns-in-Err-clause-cause : goal.returns-in-Err-clause-cause
+returns-in-Err-clause-cause g c = first_of (assumption, search (tests, rules), grind (arith, common_steps), grind (arith, elements))
+
+pub returns-clause-put : goal.returns-clause-put
+returns-clause-put g c = first_of (assumption, search (tests, rules), grind (arith, common_steps), grind (arith, elements))
+
+pub returns-clause-cause : goal.returns-clause-cause
+returns-clause-cause g c = first_of (assumption, search (tests, rules), grind (arith, common_steps), grind (arith, elements))

@@ -1,1 +1,10 @@
--- The tactics close each goal. Where this file stands, a body that is refused is told without a search for answers to offer.
+use Rattle.std.proofs.Common.{arith, rules, tests}
+use Rattle.std.proofs.lemmas.Grind.{common_steps, elements}
+use Rattle.tz_frames.proofs.machine.of_side.Goals as goal
+
+-- What the tactics try, by name: a body that is refused is then told without a search for what to offer.
+pub returns-in-Secure : goal.returns-in-Secure
+returns-in-Secure c = first_of (assumption, search (tests, rules), grind (arith, common_steps), grind (arith, elements))
+
+pub returns-in-NonSecure : goal.returns-in-NonSecure
+returns-in-NonSecure c = first_of (assumption, search (tests, rules), grind (arith, common_steps), grind (arith, elements))

@@ -1,1 +1,13 @@
--- The tactics close each goal. Where this file stands, a body that is refused is told without a search for answers to offer.
+use Rattle.std.proofs.Common.{arith, rules, tests}
+use Rattle.std.proofs.lemmas.Grind.{common_steps, elements}
+use Rattle.tz_frames.proofs.machine.vector_word.Goals as goal
+
+-- What the tactics try, by name: a body that is refused is then told without a search for what to offer.
+pub returns-then-not-may_touch : goal.returns-then-not-may_touch
+returns-then-not-may_touch c = first_of (assumption, search (tests, rules), grind (arith, common_steps), grind (arith, elements))
+
+pub returns-in-Ok : goal.returns-in-Ok
+returns-in-Ok c = first_of (assumption, search (tests, rules), grind (arith, common_steps), grind (arith, elements))
+
+pub returns-in-Err : goal.returns-in-Err
+returns-in-Err c = first_of (assumption, search (tests, rules), grind (arith, common_steps), grind (arith, elements))

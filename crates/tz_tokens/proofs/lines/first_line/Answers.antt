@@ -3,6 +3,8 @@ use Rattle.std.proofs.lemmas.List.{take_rest}
 use Rattle.tz_tokens.specs.Lines.{lines_of}
 use Rattle.tz_tokens.proofs.LineTurns.{lines_of-feed, lines_of-last}
 use Rattle.tz_tokens.proofs.lines.first_line.Goals as goal
+use Rattle.std.proofs.Common.{rules, tests}
+use Rattle.std.proofs.lemmas.Grind.{common_steps, elements}
 
 pub returns-then-end-text-clause-lines : goal.returns-then-end-text-clause-lines
 returns-then-end-text-clause-lines c =
@@ -15,3 +17,10 @@ returns-then-end-text-clause-lines c =
 pub returns-else-end-text-clause-lines : goal.returns-else-end-text-clause-lines
 returns-else-end-text-clause-lines c =
     lines_of-last c.args.text.now c.requires (λ j h. c.feed_at-end.ensures.before j (omega arith))
+
+-- What the tactics try, by name: a body that is refused is then told without a search for what to offer.
+pub returns-then-end-text-clause-shorter : goal.returns-then-end-text-clause-shorter
+returns-then-end-text-clause-shorter c = first_of (assumption, search (tests, rules), grind (arith, common_steps), grind (arith, elements))
+
+pub returns-else-end-text-clause-shorter : goal.returns-else-end-text-clause-shorter
+returns-else-end-text-clause-shorter c = first_of (assumption, search (tests, rules), grind (arith, common_steps), grind (arith, elements))

@@ -7,6 +7,8 @@ use Rattle.tz_words.specs.Leaf.{are_positional, is_name, is_one_of, with_one}
 use Rattle.tz_words.specs.Parts.{AnyWord, parts_of}
 use Rattle.tz_words.proofs.WordAnswers.{taken, refused}
 use Rattle.tz_words.proofs.leaf.matches.Goals as goal
+use Rattle.std.proofs.Common.{arith, rules, tests}
+use Rattle.std.proofs.lemmas.Grind.{common_steps, elements}
 
 pub returns-in-Ok : goal.returns-in-Ok
 returns-in-Ok c =
@@ -33,3 +35,10 @@ returns c =
       | inr among ↦ refused is.leaf names named plain is.values words _ (subst (λ (a : App). IsAmong (kind_of c.in-Err.error) (fault_of a words)) is.app among)
           ∙ ap (λ o. with_one (is_one_of names) (parts_of o AnyWord words)) is.named
     ]
+
+-- What the tactics try, by name: a body that is refused is then told without a search for what to offer.
+pub returns-in_err-command : goal.returns-in_err-command
+returns-in_err-command c = first_of (assumption, search (tests, rules), grind (arith, common_steps), grind (arith, elements))
+
+pub returns-in-OutOfMemory : goal.returns-in-OutOfMemory
+returns-in-OutOfMemory c = first_of (assumption, search (tests, rules), grind (arith, common_steps), grind (arith, elements))

@@ -3,6 +3,8 @@ use Rattle.tz_model.specs.Image.{SegmentValue}
 use Rattle.tz_dis.proofs.Listing.{enter_empty, enter_touching}
 use Rattle.tz_dis.proofs.rest.Rest.enter.Goals.{then-is_empty, else-is_empty+else-self-len}
 use Rattle.tz_dis.proofs.rest.Rest.enter.Goals as goal
+use Rattle.std.proofs.Common.{rules, tests}
+use Rattle.std.proofs.lemmas.Grind.{common_steps, elements}
 
 pub returns-clause-text : goal.returns-clause-text
 returns-clause-text c =
@@ -21,3 +23,19 @@ returns-clause-text c =
           let touches : old.at + length old.waiting.items ≡ s.base = omega arith in
           rw w.self-is (enter_touching old.at old.waiting.items old.here.now c.deref-self.result.now s old.segments.now c.in-Some.behind.now c.requires.here is touches bytes)
     ]
+
+-- What the tactics try, by name: a body that is refused is then told without a search for what to offer.
+pub returns-then-self-len-clause-text : goal.returns-then-self-len-clause-text
+returns-then-self-len-clause-text c = first_of (assumption, search (tests, rules), grind (arith, common_steps), grind (arith, elements))
+
+pub returns-then-self-len-clause-below : goal.returns-then-self-len-clause-below
+returns-then-self-len-clause-below c = first_of (assumption, search (tests, rules), grind (arith, common_steps), grind (arith, elements))
+
+pub returns-then-self-len-clause-waiting : goal.returns-then-self-len-clause-waiting
+returns-then-self-len-clause-waiting c = first_of (assumption, search (tests, rules), grind (arith, common_steps), grind (arith, elements))
+
+pub returns-then-self-len-clause-fewer : goal.returns-then-self-len-clause-fewer
+returns-then-self-len-clause-fewer c = first_of (assumption, search (tests, rules), grind (arith, common_steps), grind (arith, elements))
+
+pub returns-then-self-len-clause-end : goal.returns-then-self-len-clause-end
+returns-then-self-len-clause-end c = first_of (assumption, search (tests, rules), grind (arith, common_steps), grind (arith, elements))

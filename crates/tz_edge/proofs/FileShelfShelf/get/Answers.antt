@@ -1,1 +1,0 @@
--- The tactics close each goal. Where this file stands, a body that is refused is told without a search for answers to offer.
