@@ -2,6 +2,7 @@ mod boards;
 mod codes;
 mod decoding;
 mod doubles;
+mod edges;
 mod encoding;
 mod failing;
 mod fields;

@@ -8,9 +8,6 @@
 ghost use Rattle.std.specs.Prelude.{◌≡◌, ◌<◌, ◌≤◌, ◌^◌, length, false, IfErr, IfOk, OnOk, OnErr};
 ghost use Rattle.tz_model.specs.Outside.{Untold, Got, Cut, HasCause, Long, Rose};
 
-#[cfg(test)]
-mod tests;
-
 use std::fs;
 use std::io::{ErrorKind, Read, Write};
 use std::rt::Files;
@@ -54,7 +51,7 @@ fn read_piece<F: Read>(reader: &mut F, buffer: &mut [u8]) -> Result<usize, Shelf
 }
 
 /// Appends what a reader gives up to its end, at most `limit` bytes, and of more `limit + 1`.
-fn read_to_limit<F: Read>(
+pub fn read_to_limit<F: Read>(
     reader: &mut F,
     limit: usize,
     into: &mut Vec<u8>,

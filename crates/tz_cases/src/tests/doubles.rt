@@ -20,15 +20,20 @@ pub fn files(alloc: Global, rows: &[(&str, &str)]) -> Result<Vec<File>, AllocErr
 /// One file, `a`.
 static FILE: [(&str, &str); 1] = [("a", "hello")];
 
-/// What a shelf answers, and the bytes that it gives.
-fn read<S: Shelf>(alloc: Global, shelf: &mut S, name: &str, limit: u8) -> (&'static str, Vec<u8>) {
-    let mut bytes = Vec::new(alloc);
-    let answer = match shelf.get(name, usize::from(limit), &mut bytes) {
+/// An answer in a word.
+pub fn answer_of(answer: Result<(), ShelfError>) -> &'static str {
+    match answer {
         Ok(()) => "all",
         Err(ShelfError::Failed) => "failed",
         Err(ShelfError::Long) => "long",
         Err(ShelfError::Memory) => "memory",
-    };
+    }
+}
+
+/// What a shelf answers, and the bytes that it gives.
+fn read<S: Shelf>(alloc: Global, shelf: &mut S, name: &str, limit: u8) -> (&'static str, Vec<u8>) {
+    let mut bytes = Vec::new(alloc);
+    let answer = answer_of(shelf.get(name, usize::from(limit), &mut bytes));
     (answer, bytes)
 }
 

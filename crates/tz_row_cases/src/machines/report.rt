@@ -1,0 +1,70 @@
+//! The report of a step as a line.
+
+use crate::words::side_word;
+use tz_model::{CrossKind, Report, StepKind, Way};
+use tz_rows::Row;
+
+/// What a step was, in a word.
+pub fn kind_text(kind: StepKind) -> &'static str {
+    match kind {
+        StepKind::Locked => "locked",
+        StepKind::Idle => "idle",
+        StepKind::Taken { .. } => "taken",
+        StepKind::Ran { .. } => "ran",
+    }
+}
+
+/// A kind of crossing, in a word.
+fn crossing_text(kind: CrossKind) -> &'static str {
+    match kind {
+        CrossKind::Return => "return",
+        CrossKind::Call => "call",
+        CrossKind::ExcReturn => "excreturn",
+        CrossKind::Chain => "chain",
+        CrossKind::Preempt => "preempt",
+        CrossKind::Refused => "refused",
+    }
+}
+
+/// Tells what a step was: an exception that was taken with its number and LR, an instruction with its address.
+fn tell_kind(row: &mut Row<'_>, kind: StepKind) {
+    row.tell(kind_text(kind));
+    match kind {
+        StepKind::Locked | StepKind::Idle => (),
+        StepKind::Taken { number, lr } => {
+            row.tell(" ");
+            row.tell_decimal(i64::from(number));
+            row.tell(" ");
+            row.tell_hex(lr);
+        }
+        StepKind::Ran { pc, .. } => {
+            row.tell(" ");
+            row.tell_hex(pc);
+        }
+    }
+}
+
+/// Tells how a step crossed out of Secure state.
+fn tell_crossing(row: &mut Row<'_>, way: Way) {
+    row.tell(", ");
+    row.tell(crossing_text(way.kind));
+    row.tell(" ");
+    row.tell_decimal(i64::from(way.number));
+    if let Some(lr) = way.lr {
+        row.tell(" ");
+        row.tell_hex(lr);
+    }
+}
+
+/// Tells the sides at the start and the end of a step, whether it looked at Secure state, what it was, and how it crossed
+/// out of Secure state, where it did.
+pub fn tell_report(row: &mut Row<'_>, report: &Report) {
+    row.tell(side_word(report.start));
+    row.tell(" to ");
+    row.tell(side_word(report.end));
+    row.tell(if report.touched { ", touched, " } else { ", " });
+    tell_kind(row, report.kind);
+    if let Some(way) = report.way {
+        tell_crossing(row, way);
+    }
+}
