@@ -114,10 +114,10 @@ fn tell_step(row: &mut Row<'_>, machine: &mut Machine, asked: &str) {
     let (due, parts) = asked.split_once(':').unwrap_or(("", asked));
     let (events, count) = events_of(row, due);
     let report = machine.step(&events[..count.min(3)]);
-    let mut divider = "";
-    for part in parts.split_whitespace() {
-        row.tell(divider);
-        divider = "; ";
+    for (index, part) in parts.split_whitespace().enumerate() {
+        if index != 0 {
+            row.tell("; ");
+        }
         tell_part(row, machine, &report, part);
     }
 }
@@ -128,10 +128,10 @@ fn tell_steps(row: &mut Row<'_>, machine: &mut Machine) {
     let address = row.field(4);
     let address = row.number_in(address);
     let _kind = run(machine, Some(address));
-    let mut divider = "";
-    for asked in row.field(5).split('/') {
-        row.tell(divider);
-        divider = " / ";
+    for (index, asked) in row.field(5).split('/').enumerate() {
+        if index != 0 {
+            row.tell(" / ");
+        }
         tell_step(row, machine, asked);
     }
 }
