@@ -1,0 +1,156 @@
+//! Machines on the built-in board, from rows.
+//!
+//! Secure code writes words in turn and goes on at a place of its own. The handler of exception N stands 0x800 and 16 N
+//! bytes behind its side's vectors.
+
+ghost use Rattle.std.specs.Prelude.{◌<◌, ◌^◌, length};
+
+use std::alloc::{AllocError, Global};
+use std::fmt::Write;
+use tz_asm::assemble;
+use tz_board::demo_board;
+use tz_core::Machine;
+use tz_model::{Image, Profile};
+use tz_rows::{Fields, RowError};
+
+/// The Secure vectors, with a stack pointer and a start, and the code that writes words. MSP_NS is set first, and R4 is
+/// where the Non-secure code stands.
+const SECURE: &str = ".org 0x10000000
+ .word 0x30001000
+ .word 0x10000081
+ .word 0x10000821
+ .word 0x10000831
+ .word 0x10000841
+ .word 0x10000851
+ .word 0x10000861
+ .word 0x10000871
+ .word 0x10000881
+ .word 0x10000891
+ .word 0x100008A1
+ .word 0x100008B1
+ .word 0x100008C1
+ .word 0x100008D1
+ .word 0x100008E1
+ .word 0x100008F1
+ .word 0x10000901
+ .word 0x10000911
+ .word 0x10000921
+ .word 0x10000931
+ .word 0x10000941
+ .word 0x10000951
+ .word 0x10000961
+ .word 0x10000971
+.org 0x10000080
+ ldr r0, stack
+ msr msp_ns, r0
+ ldr r0, table
+ ldr r3, after
+ ldr r4, nonsecure
+next: ldm r0!, {r1, r2}
+ cbz r1, done
+ str r2, [r1, #0]
+ b next
+done: bx r3
+.align 4
+stack: .word 0x20001000
+table: .word writes
+after: .word 0x10000401
+nonsecure: .word 0x00200400
+writes:
+";
+
+/// Where the Secure code goes on, behind the words that it writes.
+const SECURE_CODE: &str = " .word 0
+ .word 0
+.org 0x10000400
+";
+
+/// The Non-secure vectors, of which nothing reads the first two words.
+const NONSECURE: &str = ".org 0x00200000
+ .word 0
+ .word 0
+ .word 0x00200821
+ .word 0x00200831
+ .word 0x00200841
+ .word 0x00200851
+ .word 0x00200861
+ .word 0x00200871
+ .word 0x00200881
+ .word 0x00200891
+ .word 0x002008A1
+ .word 0x002008B1
+ .word 0x002008C1
+ .word 0x002008D1
+ .word 0x002008E1
+ .word 0x002008F1
+ .word 0x00200901
+ .word 0x00200911
+ .word 0x00200921
+ .word 0x00200931
+ .word 0x00200941
+ .word 0x00200951
+ .word 0x00200961
+ .word 0x00200971
+";
+
+/// Where the Non-secure code stands.
+const NONSECURE_CODE: &str = ".org 0x00200400
+";
+
+/// Adds addresses with their words.
+fn push_writes(text: &mut String, writes: &str) -> Result<(), RowError> {
+    for write in writes.split_whitespace() {
+        let Some((address, word)) = write.split_once('=') else {
+            return Err(RowError::Unread);
+        };
+        write!(text, " .word {address}\n .word {word}\n")?;
+    }
+    Ok(())
+}
+
+/// Adds the lines of code.
+fn push_code(text: &mut String, code: &str) -> Result<(), AllocError> {
+    for line in code.split(';') {
+        write!(text, "{}\n", line.trim())?;
+    }
+    Ok(())
+}
+
+/// The image of a source.
+fn image_of(alloc: Global, source: &[u8]) -> Result<Image, RowError>
+    requires { length source.now < 2 ^ 32 }
+{
+    match assemble(alloc, source) {
+        Ok(image) => Ok(image),
+        Err(_) => Err(RowError::Unread),
+    }
+}
+
+/// The image of vectors and of the words and the code behind them, the code at a place of its own.
+fn assembled(
+    alloc: Global,
+    vectors: &str,
+    writes: &str,
+    place: &str,
+    code: &str,
+) -> Result<Image, RowError> {
+    let mut text = String::from_str(alloc, vectors)?;
+    push_writes(&mut text, writes)?;
+    text.push_str(place)?;
+    push_code(&mut text, code)?;
+    let source = text.as_bytes();
+    if source.len() < 0x1_0000_0000 {
+        image_of(alloc, source)
+    } else {
+        Err(RowError::Unread)
+    }
+}
+
+/// The machine of a row, from its fields 1 to 3.
+pub fn machine_of(alloc: Global, row: &Fields<'_>, profile: Profile) -> Result<Machine, RowError> {
+    let secure = assembled(alloc, SECURE, row.at(1)?, SECURE_CODE, row.at(2)?)?;
+    let nonsecure = assembled(alloc, NONSECURE, "", NONSECURE_CODE, row.at(3)?)?;
+    let mut board = demo_board(alloc)?;
+    board.profile = profile;
+    Ok(Machine::new(alloc, &board, &secure, &nonsecure)?)
+}
