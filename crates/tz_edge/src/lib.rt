@@ -51,6 +51,8 @@ fn read_piece<F: Read>(reader: &mut F, buffer: &mut [u8]) -> Result<usize, Shelf
 }
 
 /// Appends what a reader gives up to its end, at most `limit` bytes, and of more `limit + 1`.
+/// `Long` where there are more, `Failed` where a read fails or is interrupted too often, `Memory` where memory is refused;
+/// what was read by then is appended. The limit is below 2^31.
 pub fn read_to_limit<F: Read>(
     reader: &mut F,
     limit: usize,
