@@ -10,7 +10,7 @@ ghost use Rattle.tz_table.specs.Rows.{TableRow, same_width};
 ghost use Rattle.tz_table.specs.Table.{rows};
 ghost use Rattle.tz_table.specs.declared.instruction.Insn.{Insn};
 
-use tz_shapes::try_row;
+use crate::trying::try_row;
 use tz_table::{Width, row_at, row_count};
 
 /// How many values of an instruction make its form; its numbers come after them.
