@@ -14,7 +14,7 @@ use Rattle.tz_board.specs.Scripts.{Timed, ScriptRefusal, script_of}
 use Rattle.tz_twin.specs.Trace.{text_from}
 use Rattle.tz_run.specs.Events.{events_of}
 use Rattle.tz_board.specs.Boards.{BoardRefusal, board_of}
-use Rattle.tz_dis.specs.Text.{dis_text}
+use Rattle.tz_text.specs.Text.{dis_text}
 use Rattle.tz_elf.specs.PlainImage.{plain_text}
 use Rattle.tz_elf.specs.ElfImage.{elf_bytes}
 use Rattle.tz_asm.specs.Refusals.{Refusal as AsmRefusal}

@@ -8,8 +8,8 @@ ghost use Rattle.tz_cli.specs.Answer.{Answer};
 use crate::files::{load_listed, names_of_dis};
 use crate::lines::refuse_fault;
 use std::alloc::Global;
-use tz_dis::disassemble;
 use tz_model::{Shelf, Sink};
+use tz_text::disassemble;
 use tz_words::DisWords;
 
 /// Does what the words of `dis` say, and tells the answer with what it says of the outside.

@@ -5,9 +5,9 @@ ghost use Rattle.std.specs.Prelude.{◌<◌, ◌^◌, length};
 use std::alloc::Global;
 use std::test::Fail;
 use tz_board::demo_board;
-use tz_dis::disassemble;
 use tz_elf::read_image;
 use tz_model::{Image, MemorySink, Side};
+use tz_text::disassemble;
 
 /// The base of a segment.
 fn base(image: &Image, index: usize) -> u32 {

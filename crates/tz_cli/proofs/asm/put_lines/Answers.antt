@@ -1,5 +1,5 @@
 use Rattle.std.proofs.Common.{◌≡◌, ◌∙◌, arith, List, ℕ, Ok, Err}
-use Rattle.tz_dis.proofs.Sending.{sent_failed, sent_line}
+use Rattle.tz_text.proofs.Sending.{sent_failed, sent_line}
 use Rattle.tz_cli.proofs.asm.put_lines.Goals as goal
 
 pub returns-in-Err-clause-put : goal.returns-in-Err-clause-put

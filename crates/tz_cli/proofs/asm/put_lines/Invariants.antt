@@ -1,5 +1,5 @@
 use Rattle.std.proofs.Common.{◌≤◌, length}
-use Rattle.tz_dis.proofs.Sending.{Sent}
+use Rattle.tz_text.proofs.Sending.{Sent}
 use Rattle.tz_cli.proofs.asm.put_lines.Given as goal
 
 abbrev pub invariant-lines : goal.invariant-lines

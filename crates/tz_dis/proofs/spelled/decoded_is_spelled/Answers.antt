@@ -1,5 +1,0 @@
-use Rattle.tz_dis.proofs.Spelling.{spelled}
-use Rattle.tz_dis.proofs.spelled.decoded_is_spelled.Goals as goal
-
-pub returns : goal.returns
-returns c = λ first second pc insn width means. spelled first second pc insn width means

@@ -1,5 +1,0 @@
-pub mod Fronts
-pub mod Maximal
-pub mod Rests
-pub mod Runs
-pub mod Text
