@@ -2,17 +2,17 @@
 
 ghost use Rattle.std.specs.Prelude.{◌≡◌, ◌<◌, ◌≤◌, ◌+◌, ◌++◌, ◌^◌, IfOk, Err, length, Some};
 ghost use Rattle.tz_model.specs.Outside.{HasCause, Put};
-ghost use Rattle.tz_words.specs.Asm.{asm_in, asm_names};
-ghost use Rattle.tz_words.specs.Commands.{Asm, longest};
+ghost use Rattle.tz_edge.specs.Asm.{asm_in, asm_names};
+ghost use Rattle.tz_edge.specs.Commands.{Asm, longest};
 ghost use Rattle.tz_cli.specs.Told.{image_bytes};
 ghost use Rattle.tz_cli.specs.Answer.{Answer};
 
 use crate::files::{load_assembled, names_of_asm};
 use crate::lines::{refuse, refuse_fault};
 use std::alloc::{AllocError, Global};
+use tz_edge::{AsmWords, Form};
 use tz_elf::{write_image, write_plain};
 use tz_model::{Image, Shelf, Sink, SinkError};
-use tz_words::{AsmWords, Form};
 
 /// The bytes of an image's file in a form.
 fn file_of(alloc: Global, form: Form, image: &Image) -> Result<Vec<u8>, AllocError>

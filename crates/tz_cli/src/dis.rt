@@ -1,16 +1,16 @@
 //! The command `dis`: its files, the lines of the image, and the status.
 
 ghost use Rattle.std.specs.Prelude.{◌+◌, Some};
-ghost use Rattle.tz_words.specs.Dis.{dis_in, dis_names};
-ghost use Rattle.tz_words.specs.Commands.{Dis, longest};
+ghost use Rattle.tz_edge.specs.Dis.{dis_in, dis_names};
+ghost use Rattle.tz_edge.specs.Commands.{Dis, longest};
 ghost use Rattle.tz_cli.specs.Answer.{Answer};
 
 use crate::files::{load_listed, names_of_dis};
 use crate::lines::refuse_fault;
 use std::alloc::Global;
+use tz_edge::DisWords;
 use tz_model::{Shelf, Sink};
 use tz_text::disassemble;
-use tz_words::DisWords;
 
 /// Does what the words of `dis` say, and tells the answer with what it says of the outside.
 pub fn dis_files<H: Shelf, O: Sink, E: Sink>(

@@ -1,17 +1,17 @@
 //! The command `run`: its files, the machine, the trace, and the status.
 
 ghost use Rattle.std.specs.Prelude.{◌+◌, Some};
-ghost use Rattle.tz_words.specs.Run.{run_in, run_names};
-ghost use Rattle.tz_words.specs.Commands.{Run, longest};
+ghost use Rattle.tz_edge.specs.Run.{run_in, run_names};
+ghost use Rattle.tz_edge.specs.Commands.{Run, longest};
 ghost use Rattle.tz_cli.specs.Answer.{Answer};
 
 use crate::files::{load, names_of_run};
 use crate::lines::{refuse, refuse_fault};
 use std::alloc::Global;
 use tz_core::Machine;
+use tz_edge::RunWords;
 use tz_model::{Shelf, Sink};
 use tz_run::run;
-use tz_words::RunWords;
 
 /// The most steps of a run.
 const STEP_LIMIT: u32 = 10_000_000;

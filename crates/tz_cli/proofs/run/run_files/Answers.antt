@@ -4,7 +4,7 @@ use Rattle.tz_model.specs.Outside.{Put}
 use Rattle.tz_state.specs.State.{State}
 use Rattle.tz_twin.specs.Trace.{text_from}
 use Rattle.tz_run.specs.Events.{events_of}
-use Rattle.tz_words.specs.Run.{run_in}
+use Rattle.tz_edge.specs.Run.{run_in}
 use Rattle.tz_cli.specs.Told.{run_task}
 use Rattle.tz_cli.specs.Faults.{IsReached, run_files, start_in}
 use Rattle.tz_cli.proofs.Exits.{gains_nothing, answer_memory, answer_steps, answer_told, answer_put, answer_cut, run_loads, run_of_start, failed_alone}

@@ -1,9 +1,0 @@
-pub mod Looks
-pub mod WordTurns
-pub mod WordWalks
-pub mod WordValues
-pub mod WordAnswers
-pub mod Numbers
-pub mod Choices
-pub mod Sides
-pub mod FileNames
