@@ -47,7 +47,6 @@ fn ends_in_word(low: u32, width: u32) -> bool
 fn allows(limit: Limit, earlier: &[i32], n: u32) -> bool
     ensures { result ≡ allows_of limit earlier.now n }
 {
-    let at = |place: u8| number_at(earlier, place);
     match limit {
         Limit::Any => true,
         Limit::Below(bound) => n < bound,
@@ -55,32 +54,32 @@ fn allows(limit: Limit, earlier: &[i32], n: u32) -> bool
         Limit::Plain => words::plain(n),
         Limit::NotPc => n != 15,
         Limit::NotSp => n != 13,
-        Limit::NotBothPc(rd) => words::can_add_high(at(rd), n),
-        Limit::HighOperand(rn) => words::can_compare_high(at(rn), n),
-        Limit::Target(ns) => words::can_exchange(n, at(ns)),
-        Limit::Either(other) => n == 1 || at(other) == 1,
-        Limit::ItMask(cond) => n != 0 && (at(cond) != 14 || words::is_single(n)),
-        Limit::StoreList(rn) => words::can_store_many(at(rn), n),
-        Limit::LoadList(back, rn) => is_load_list(at(back), at(rn), n),
-        Limit::ManyList(back, rn) => is_many(at(back), at(rn), n),
-        Limit::PlainOther(other) => words::plain(n) && n != at(other),
-        Limit::BaseOther(other) => n != 15 && n != at(other),
-        Limit::PairBase(back, rt, rt2) => is_pair_base(n, at(back), at(rt), at(rt2)),
-        Limit::SumResult(shift) => words::plain(n) || n == 13 && at(shift) == 0,
-        Limit::SumOperand(rd) => n != 15 && (words::plain(at(rd)) || n == 13),
-        Limit::SumAmount(rd) => words::plain(at(rd)) || n <= 3,
+        Limit::NotBothPc(rd) => words::can_add_high(number_at(earlier, rd), n),
+        Limit::HighOperand(rn) => words::can_compare_high(number_at(earlier, rn), n),
+        Limit::Target(ns) => words::can_exchange(n, number_at(earlier, ns)),
+        Limit::Either(other) => n == 1 || number_at(earlier, other) == 1,
+        Limit::ItMask(cond) => n != 0 && (number_at(earlier, cond) != 14 || words::is_single(n)),
+        Limit::StoreList(rn) => words::can_store_many(number_at(earlier, rn), n),
+        Limit::LoadList(back, rn) => is_load_list(number_at(earlier, back), number_at(earlier, rn), n),
+        Limit::ManyList(back, rn) => is_many(number_at(earlier, back), number_at(earlier, rn), n),
+        Limit::PlainOther(other) => words::plain(n) && n != number_at(earlier, other),
+        Limit::BaseOther(other) => n != 15 && n != number_at(earlier, other),
+        Limit::PairBase(back, rt, rt2) => is_pair_base(n, number_at(earlier, back), number_at(earlier, rt), number_at(earlier, rt2)),
+        Limit::SumResult(shift) => words::plain(n) || n == 13 && number_at(earlier, shift) == 0,
+        Limit::SumOperand(rd) => n != 15 && (words::plain(number_at(earlier, rd)) || n == 13),
+        Limit::SumAmount(rd) => words::plain(number_at(earlier, rd)) || n <= 3,
         Limit::MoveResult(flags, shift) => words::plain(n)
-            || n == 13 && words::is_bare(at(flags), at(shift)),
+            || n == 13 && words::is_bare(number_at(earlier, flags), number_at(earlier, shift)),
         Limit::MoveSource(flags, shift, rd) => words::plain(n)
-            || n == 13 && words::plain(at(rd)) && words::is_bare(at(flags), at(shift)),
-        Limit::MoveAmount(rd, rm) => words::plain(at(rd)) && words::plain(at(rm)) || n == 0,
+            || n == 13 && words::plain(number_at(earlier, rd)) && words::is_bare(number_at(earlier, flags), number_at(earlier, shift)),
+        Limit::MoveAmount(rd, rm) => words::plain(number_at(earlier, rd)) && words::plain(number_at(earlier, rm)) || n == 0,
         Limit::Constant => !words::copies_zero(n),
-        Limit::Saturation(asr) => !(at(asr) == 1 && n == 0),
-        Limit::WidthFrom(low) => ends_in_word(at(low), n),
+        Limit::Saturation(asr) => !(number_at(earlier, asr) == 1 && n == 0),
+        Limit::WidthFrom(low) => ends_in_word(number_at(earlier, low), n),
         Limit::Special => words::is_special(n),
-        Limit::LoadSign(size) => !(n == 1 && at(size) == 2),
-        Limit::LoadResult(size) => words::can_load(at(size), n),
-        Limit::StoreSource(size) => words::can_store(at(size), n),
+        Limit::LoadSign(size) => !(n == 1 && number_at(earlier, size) == 2),
+        Limit::LoadResult(size) => words::can_load(number_at(earlier, size), n),
+        Limit::StoreSource(size) => words::can_store(number_at(earlier, size), n),
     }
 }
 

@@ -197,5 +197,5 @@ fn start_of(number: u32, width: Width) -> u16
 pub fn rows_from(number: u32, width: Width) -> &'static [Row]
     ensures { map row_view result.now ≡ drop (start_at number width) texts }
 {
-    behind(&ROWS, start_of(number, width))
+    behind(text_rows(), start_of(number, width))
 }
