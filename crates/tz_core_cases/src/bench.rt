@@ -1,17 +1,16 @@
 //! Rows of a bench: a core, its exceptions and a table of words, which are set up, called and looked at word by word.
 
-use crate::calls::{entered, gated, left, popped, pushed, raised};
+use crate::calls::{entered, gated, left, popped, popped_more, pushed, pushed_more, raised};
 use crate::shown::tell_status;
 use crate::values::{core_value, set_value};
 use std::alloc::{AllocError, Global};
-use std::fmt::Write;
 use tz_excret::{is_exc_return, takes};
 use tz_frames::{Frames, TableFrames};
 use tz_gate::is_fnc_return;
 use tz_model::{Side, Slot, TableEntry};
 use tz_nvic::Exceptions;
 use tz_regs::Core;
-use tz_rows::{Fields, RowError, number_of};
+use tz_rows::{Row, number_of};
 
 /// A core, its exceptions, and words. The vectors of the sides begin at 0x10000000 and 0x00200000.
 #[derive(Drop)]
@@ -22,18 +21,14 @@ pub struct Bench {
 }
 
 /// The exception that a text names: its number, and `s` or `ns`.
-fn slot_of(name: &str) -> Result<Slot, RowError> {
+fn slot_of(row: &mut Row<'_>, name: &str) -> Slot {
     let (number, side) = match name.strip_suffix("ns") {
         Some(number) => (number, Side::NonSecure),
         None => (name.strip_suffix("s").unwrap_or(""), Side::Secure),
     };
-    let number = number_of(number)?;
-    if number < 256 {
-        let number = number as u16;
-        Ok(Slot { number, side })
-    } else {
-        Err(RowError::Unread)
-    }
+    let number = row.number_in(number);
+    let number = u16::from(row.byte_in(number));
+    Slot { number, side }
 }
 
 /// Gives an external interrupt to its side, and enables it with priority 0x20. Other exceptions stay.
@@ -48,156 +43,173 @@ fn give(exceptions: &mut Exceptions, slot: Slot) {
 }
 
 /// Sets an exception pending, active or enabled.
-fn set_slot(exceptions: &mut Exceptions, state: &str, name: &str) -> Result<(), RowError> {
-    let slot = slot_of(name)?;
+fn set_slot(row: &mut Row<'_>, exceptions: &mut Exceptions, state: &str, name: &str) {
+    let slot = slot_of(row, name);
     give(exceptions, slot);
     if !exceptions.exists(slot) {
-        return Err(RowError::Unread);
+        return row.refuse();
     }
     match state {
         "pend" => exceptions.pend(slot),
         "activate" => exceptions.activate(slot),
         _ => exceptions.set_enabled(slot, true),
     }
-    Ok(())
 }
 
 /// Tells whether an exception is pending, or whether it is active.
-fn tell_slot(
-    text: &mut String,
-    exceptions: &Exceptions,
-    state: &str,
-    name: &str,
-) -> Result<(), RowError> {
-    let slot = slot_of(name)?;
+fn tell_slot(row: &mut Row<'_>, exceptions: &Exceptions, state: &str, name: &str) {
+    let slot = slot_of(row, name);
     if !exceptions.exists(slot) {
-        return Err(RowError::Unread);
+        return row.refuse();
     }
     let stands = if state == "pending" {
         exceptions.pending(slot)
     } else {
         exceptions.active(slot)
     };
-    Ok(write!(text, " {state} {name} {stands}")?)
+    row.tell_word(state);
+    row.tell_word(name);
+    row.tell(if stands { " true" } else { " false" });
 }
 
 /// Tells the words of the table.
-fn tell_table(text: &mut String, frames: &TableFrames) -> Result<(), AllocError> {
+fn tell_table(row: &mut Row<'_>, frames: &TableFrames) {
     for entry in frames.port.entries.iter() {
-        write!(text, " [{:x}] {:x}", entry.addr, entry.value)?;
+        row.tell(" [");
+        row.tell_hex(entry.addr);
+        row.tell("] ");
+        row.tell_hex(entry.value);
     }
-    Ok(())
+}
+
+/// Tells how many words the table has.
+fn tell_count(row: &mut Row<'_>, frames: &TableFrames) {
+    row.tell(" count ");
+    row.tell_decimal(i64::try_from(frames.port.entries.len()).unwrap_or(0));
+}
+
+/// The word of the table at an address.
+fn word_at(row: &mut Row<'_>, frames: &mut TableFrames, address: u32) -> u32 {
+    match frames.secure_load(address) {
+        Ok(word) => word,
+        Err(_) => {
+            row.refuse();
+            0
+        }
+    }
 }
 
 /// Tells the word at an address, or a value of the core.
-fn tell_value(text: &mut String, bench: &mut Bench, name: &str) -> Result<(), RowError> {
+fn tell_value(row: &mut Row<'_>, bench: &mut Bench, name: &str) {
     let value = match number_of(name) {
-        Ok(address) => match bench.frames.secure_load(address) {
-            Ok(word) => word,
-            Err(_) => return Err(RowError::Unread),
-        },
-        Err(_) => core_value(&bench.core, name)?,
+        Some(address) => word_at(row, &mut bench.frames, address),
+        None => core_value(row, &bench.core, name),
     };
-    Ok(write!(text, " {name} {value:x}")?)
+    row.tell_value(name, value);
 }
 
 /// Tells what a word without a value asks.
-fn look(text: &mut String, bench: &mut Bench, name: &str) -> Result<(), RowError> {
+fn look(row: &mut Row<'_>, bench: &mut Bench, name: &str) {
     match name {
-        "table" => Ok(tell_table(text, &bench.frames)?),
-        "count" => Ok(write!(text, " count {}", bench.frames.port.entries.len())?),
-        "status" => Ok(tell_status(text, &bench.core)?),
+        "table" => tell_table(row, &bench.frames),
+        "count" => tell_count(row, &bench.frames),
+        "status" => tell_status(row, &bench.core),
         "takes" => {
             let taken = takes(&bench.core, &mut bench.exceptions);
-            Ok(write!(text, " takes {taken}")?)
+            row.tell(if taken { " takes true" } else { " takes false" });
         }
-        _ => tell_value(text, bench, name),
+        _ => tell_value(row, bench, name),
     }
 }
 
 /// Adds a word to the table.
-fn push_word(bench: &mut Bench, addr: u32, value: u32) -> Result<(), RowError> {
-    match bench
-        .frames
-        .port
-        .entries
-        .try_push(TableEntry { addr, value })
-    {
-        Ok(()) => Ok(()),
-        Err(_) => Err(RowError::Unread),
+fn push_word(row: &mut Row<'_>, frames: &mut TableFrames, addr: u32, value: u32) {
+    let pushed = frames.port.entries.try_push(TableEntry { addr, value });
+    if pushed.is_err() {
+        row.refuse();
     }
 }
 
 /// Sets BFHFNMINS, the address that fails, a word of the table, or a value of the core.
-fn put(bench: &mut Bench, name: &str, value: &str) -> Result<(), RowError> {
-    let number = number_of(value)?;
+fn put(row: &mut Row<'_>, bench: &mut Bench, name: &str, number: u32) {
     match name {
         "bfhfnmins" if number == 1 => bench.exceptions.set_fault_side(true),
         "fails" => bench.frames.port.failing = Some(number),
         _ => match number_of(name) {
-            Ok(addr) => return push_word(bench, addr, number),
-            Err(_) => return set_value(&mut bench.core, name, number),
+            Some(addr) => push_word(row, &mut bench.frames, addr, number),
+            None => set_value(row, &mut bench.core, name, number),
         },
     }
-    Ok(())
 }
 
-/// Calls with a number, or tells whether the number is one by which code returns.
-fn call(text: &mut String, bench: &mut Bench, name: &str, value: u32) -> Result<(), RowError> {
+/// Calls with a number, tells whether the number is one by which code returns, or puts it somewhere.
+fn call(row: &mut Row<'_>, bench: &mut Bench, name: &str, value: u32) {
     match name {
-        "push" | "push_additional" => pushed(text, bench, name, value),
-        "pop" | "pop_additional" => Ok(popped(text, bench, name, value)?),
-        "is_fnc_return" => Ok(write!(text, " {}", is_fnc_return(value))?),
-        "is_exc_return" => Ok(write!(text, " {}", is_exc_return(value))?),
-        _ => gated(text, bench, name, value),
+        "push" => pushed(row, bench, value),
+        "push_additional" => pushed_more(row, bench, value),
+        "pop" => popped(row, bench, value),
+        "pop_additional" => popped_more(row, bench, value),
+        "sg" | "bxns" | "blxns" | "fnc_return" => gated(row, bench, name, value),
+        "is_fnc_return" => row.tell(if is_fnc_return(value) {
+            " true"
+        } else {
+            " false"
+        }),
+        "is_exc_return" => row.tell(if is_exc_return(value) {
+            " true"
+        } else {
+            " false"
+        }),
+        _ => put(row, bench, name, value),
     }
 }
 
 /// Does what a word with a value asks.
-fn act(text: &mut String, bench: &mut Bench, name: &str, value: &str) -> Result<(), RowError> {
+fn act(row: &mut Row<'_>, bench: &mut Bench, name: &str, value: &str) {
     match name {
-        "pend" | "activate" | "enable" => set_slot(&mut bench.exceptions, name, value),
-        "pending" | "active" => tell_slot(text, &bench.exceptions, name, value),
-        "enter" => entered(text, bench, value),
-        "leave" => left(text, bench, value),
-        "raise" => raised(text, bench, value),
-        "push"
-        | "push_additional"
-        | "pop"
-        | "pop_additional"
-        | "sg"
-        | "bxns"
-        | "blxns"
-        | "fnc_return"
-        | "is_fnc_return"
-        | "is_exc_return" => { call(text, bench, name, number_of(value)?) }
-        _ => put(bench, name, value),
+        "pend" | "activate" | "enable" => set_slot(row, &mut bench.exceptions, name, value),
+        "pending" | "active" => tell_slot(row, &bench.exceptions, name, value),
+        "enter" => entered(row, bench, value),
+        "leave" => left(row, bench, value),
+        "raise" => raised(row, bench, value),
+        _ => {
+            let number = row.number_in(value);
+            call(row, bench, name, number);
+        }
     }
 }
 
 /// Follows words in turn.
-fn follow(text: &mut String, bench: &mut Bench, words: &str) -> Result<(), RowError> {
+fn follow(row: &mut Row<'_>, bench: &mut Bench, words: &str) {
     for word in words.split_whitespace() {
         match word.split_once('=') {
-            Some((name, value)) => act(text, bench, name, value)?,
-            None => look(text, bench, word)?,
+            Some((name, value)) => act(row, bench, name, value),
+            None => look(row, bench, word),
         }
     }
-    Ok(())
 }
 
-/// Adds the answer to a row: what the words of its field 1 tell of a bench, which others set up.
-pub fn followed(
-    alloc: Global,
-    base: &str,
-    row: &Fields<'_>,
-    text: &mut String,
-) -> Result<(), RowError> {
-    let mut bench = Bench {
+/// A bench that nothing is set up on.
+fn bench_of(alloc: Global) -> Result<Bench, AllocError> {
+    Ok(Bench {
         core: Core::new(),
         exceptions: Exceptions::new(alloc, 8)?,
         frames: TableFrames::new(&[], None, 0x1000_0000, 0x0020_0000),
-    };
-    follow(text, &mut bench, base)?;
-    follow(text, &mut bench, row.at(1)?)
+    })
+}
+
+/// Follows the words that set a bench up, and those of a row.
+fn follow_both(row: &mut Row<'_>, bench: &mut Bench, base: &str) {
+    follow(row, bench, base);
+    let words = row.field(1);
+    follow(row, bench, words);
+}
+
+/// Tells what the words of a row tell of a bench, which others set up.
+pub fn followed(row: &mut Row<'_>, base: &str) {
+    let made = bench_of(row.alloc);
+    match row.kept(made) {
+        Some(mut bench) => follow_both(row, &mut bench, base),
+        None => (),
+    }
 }

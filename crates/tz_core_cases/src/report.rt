@@ -1,9 +1,7 @@
 //! The report of a step as a line.
 
-use crate::shown::side_text;
-use std::alloc::AllocError;
-use std::fmt::Write;
 use tz_model::{CrossKind, Report, StepKind, Way};
+use tz_rows::{Row, side_word};
 
 /// What a step was, in a word.
 pub fn kind_text(kind: StepKind) -> &'static str {
@@ -28,34 +26,44 @@ fn crossing_text(kind: CrossKind) -> &'static str {
 }
 
 /// Tells what a step was: an exception that was taken with its number and LR, an instruction with its address.
-fn tell_kind(text: &mut String, kind: StepKind) -> Result<(), AllocError> {
-    text.push_str(kind_text(kind))?;
+fn tell_kind(row: &mut Row<'_>, kind: StepKind) {
+    row.tell(kind_text(kind));
     match kind {
-        StepKind::Locked | StepKind::Idle => Ok(()),
-        StepKind::Taken { number, lr } => write!(text, " {number} {lr:x}"),
-        StepKind::Ran { pc, .. } => write!(text, " {pc:x}"),
+        StepKind::Locked | StepKind::Idle => (),
+        StepKind::Taken { number, lr } => {
+            row.tell(" ");
+            row.tell_decimal(i64::from(number));
+            row.tell(" ");
+            row.tell_hex(lr);
+        }
+        StepKind::Ran { pc, .. } => {
+            row.tell(" ");
+            row.tell_hex(pc);
+        }
     }
 }
 
 /// Tells how a step crossed out of Secure state.
-fn tell_crossing(text: &mut String, way: Way) -> Result<(), AllocError> {
-    write!(text, ", {} {}", crossing_text(way.kind), way.number)?;
-    match way.lr {
-        Some(lr) => write!(text, " {lr:x}"),
-        None => Ok(()),
+fn tell_crossing(row: &mut Row<'_>, way: Way) {
+    row.tell(", ");
+    row.tell(crossing_text(way.kind));
+    row.tell(" ");
+    row.tell_decimal(i64::from(way.number));
+    if let Some(lr) = way.lr {
+        row.tell(" ");
+        row.tell_hex(lr);
     }
 }
 
 /// Tells the sides at the start and the end of a step, whether it looked at Secure state, what it was, and how it crossed
 /// out of Secure state, where it did.
-pub fn tell_report(text: &mut String, report: &Report) -> Result<(), AllocError> {
-    let touched = if report.touched { "touched, " } else { "" };
-    let start = side_text(report.start);
-    let end = side_text(report.end);
-    write!(text, "{start} to {end}, {touched}")?;
-    tell_kind(text, report.kind)?;
-    match report.way {
-        Some(way) => tell_crossing(text, way),
-        None => Ok(()),
+pub fn tell_report(row: &mut Row<'_>, report: &Report) {
+    row.tell(side_word(report.start));
+    row.tell(" to ");
+    row.tell(side_word(report.end));
+    row.tell(if report.touched { ", touched, " } else { ", " });
+    tell_kind(row, report.kind);
+    if let Some(way) = report.way {
+        tell_crossing(row, way);
     }
 }

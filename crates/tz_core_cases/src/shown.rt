@@ -1,16 +1,15 @@
 //! A machine as a line.
 
-use std::alloc::AllocError;
-use std::fmt::Write;
 use tz_core::Machine;
 use tz_model::{Side, Size, Sleep};
 use tz_nvic::{Exceptions, PLACES};
 use tz_regs::Core;
+use tz_rows::{Row, side_word};
 
 /// Tells the fault registers that aren't 0, HFSR last.
-pub fn tell_status(text: &mut String, core: &Core) -> Result<(), AllocError> {
+pub fn tell_status(row: &mut Row<'_>, core: &Core) {
     let status = &core.status;
-    for (name, value) in [
+    let values = [
         ("ufsr_s", status.s.ufsr),
         ("mmfsr_s", status.s.mmfsr),
         ("mmfar_s", status.s.mmfar),
@@ -22,49 +21,55 @@ pub fn tell_status(text: &mut String, core: &Core) -> Result<(), AllocError> {
         ("sfsr", status.security.sfsr),
         ("sfar", status.security.sfar),
         ("hfsr", status.bus.hfsr),
-    ] {
-        if value != 0 {
-            write!(text, " {name} {value:x}")?;
+    ];
+    for (name, value) in values.iter() {
+        if *value != 0 {
+            row.tell_value(name, *value);
         }
     }
-    Ok(())
 }
 
-/// A side, in a letter or two.
-pub fn side_text(side: Side) -> &'static str {
-    match side {
-        Side::Secure => "s",
-        Side::NonSecure => "ns",
-    }
+/// Tells a word, and an exception by its number and its side.
+pub fn tell_exception(row: &mut Row<'_>, word: &str, number: u16, side: Side) {
+    row.tell_word(word);
+    row.tell(" ");
+    row.tell_decimal(i64::from(number));
+    row.tell(side_word(side));
 }
 
 /// Tells the exceptions that are pending or active, in the order of their numbers.
-fn tell_slots(text: &mut String, exceptions: &Exceptions) -> Result<(), AllocError> {
+fn tell_slots(row: &mut Row<'_>, exceptions: &Exceptions) {
     for index in 0..PLACES {
         let state = exceptions.at(index);
         let slot = exceptions.slot_at(index);
         if state.pending {
-            write!(text, " pends {}{}", slot.number, side_text(slot.side))?;
+            tell_exception(row, "pends", slot.number, slot.side);
         }
         if state.active {
-            write!(text, " active {}{}", slot.number, side_text(slot.side))?;
+            tell_exception(row, "active", slot.number, slot.side);
         }
     }
-    Ok(())
+}
+
+/// Whether a core is locked, sleeps or runs.
+fn state_text(core: &Core) -> &'static str {
+    if core.run.locked {
+        "locked at "
+    } else if matches!(core.run.sleep, Sleep::Awake) {
+        "runs at "
+    } else {
+        "sleeps at "
+    }
 }
 
 /// Tells whether a machine is locked, sleeps or runs, and where; its fault registers that aren't 0, HFSR last; and the
 /// exceptions that are pending or active.
-pub fn tell_machine(text: &mut String, machine: &Machine) -> Result<(), AllocError> {
+pub fn tell_machine(row: &mut Row<'_>, machine: &Machine) {
     let core = machine.core();
-    let state = match (core.run.locked, core.run.sleep) {
-        (true, _) => "locked",
-        (false, Sleep::Awake) => "runs",
-        (false, _) => "sleeps",
-    };
-    write!(text, "{state} at {:x}", core.registers.pc)?;
-    tell_status(text, core)?;
-    tell_slots(text, machine.exceptions())
+    row.tell(state_text(core));
+    row.tell_hex(core.registers.pc);
+    tell_status(row, core);
+    tell_slots(row, machine.exceptions());
 }
 
 /// Where the return address lies of an exception whose LR this is, and which was taken over code on a main stack: above the
@@ -81,18 +86,17 @@ fn return_place(core: &Core, lr: u32) -> u32 {
 
 /// Tells an exception that was taken: the stacked return address, the fault registers, the exceptions, and the number and
 /// LR of the exception.
-pub fn tell_taken(
-    text: &mut String,
-    machine: &Machine,
-    number: u16,
-    lr: u32,
-) -> Result<(), AllocError> {
+pub fn tell_taken(row: &mut Row<'_>, machine: &Machine, number: u16, lr: u32) {
     let place = return_place(machine.core(), lr);
+    row.tell("from ");
     match machine.bus().read(place, Size::Word) {
-        Ok(back) => write!(text, "from {back:x}")?,
-        Err(_) => write!(text, "from nowhere")?,
+        Ok(back) => row.tell_hex(back),
+        Err(_) => row.tell("nowhere"),
     }
-    tell_status(text, machine.core())?;
-    tell_slots(text, machine.exceptions())?;
-    write!(text, " X {number} {lr:x}")
+    tell_status(row, machine.core());
+    tell_slots(row, machine.exceptions());
+    row.tell(" X ");
+    row.tell_decimal(i64::from(number));
+    row.tell(" ");
+    row.tell_hex(lr);
 }

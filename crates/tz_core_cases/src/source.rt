@@ -11,7 +11,7 @@ use tz_asm::assemble;
 use tz_board::demo_board;
 use tz_core::Machine;
 use tz_model::{Image, Profile};
-use tz_rows::{Fields, RowError};
+use tz_rows::Row;
 
 /// The Secure vectors, with a stack pointer and a start, and the code that writes words. MSP_NS is set first, and R4 is
 /// where the Non-secure code stands.
@@ -98,11 +98,9 @@ const NONSECURE_CODE: &str = ".org 0x00200400
 ";
 
 /// Adds addresses with their words.
-fn push_writes(text: &mut String, writes: &str) -> Result<(), RowError> {
-    for write in writes.split_whitespace() {
-        let Some((address, word)) = write.split_once('=') else {
-            return Err(RowError::Unread);
-        };
+fn push_writes(text: &mut String, writes: &str) -> Result<(), AllocError> {
+    for each in writes.split_whitespace() {
+        let (address, word) = each.split_once('=').unwrap_or((each, ""));
         write!(text, " .word {address}\n .word {word}\n")?;
     }
     Ok(())
@@ -116,41 +114,71 @@ fn push_code(text: &mut String, code: &str) -> Result<(), AllocError> {
     Ok(())
 }
 
-/// The image of a source.
-fn image_of(alloc: Global, source: &[u8]) -> Result<Image, RowError>
-    requires { length source.now < 2 ^ 32 }
-{
-    match assemble(alloc, source) {
-        Ok(image) => Ok(image),
-        Err(_) => Err(RowError::Unread),
-    }
-}
-
-/// The image of vectors and of the words and the code behind them, the code at a place of its own.
-fn assembled(
+/// A source: vectors, the words that are written, and code at a place of its own.
+fn source_of(
     alloc: Global,
     vectors: &str,
     writes: &str,
     place: &str,
     code: &str,
-) -> Result<Image, RowError> {
+) -> Result<String, AllocError> {
     let mut text = String::from_str(alloc, vectors)?;
     push_writes(&mut text, writes)?;
     text.push_str(place)?;
     push_code(&mut text, code)?;
-    let source = text.as_bytes();
-    if source.len() < 0x1_0000_0000 {
-        image_of(alloc, source)
+    Ok(text)
+}
+
+/// The image of a source.
+fn image_of(alloc: Global, source: &[u8]) -> Option<Image>
+    requires { length source.now < 2 ^ 32 }
+{
+    assemble(alloc, source).ok()
+}
+
+/// The image of a source, where it has one.
+fn assembled(alloc: Global, source: &str) -> Option<Image> {
+    let bytes = source.as_bytes();
+    if bytes.len() < 0x1_0000_0000 {
+        image_of(alloc, bytes)
     } else {
-        Err(RowError::Unread)
+        None
     }
 }
 
-/// The machine of a row, from its fields 1 to 3.
-pub fn machine_of(alloc: Global, row: &Fields<'_>, profile: Profile) -> Result<Machine, RowError> {
-    let secure = assembled(alloc, SECURE, row.at(1)?, SECURE_CODE, row.at(2)?)?;
-    let nonsecure = assembled(alloc, NONSECURE, "", NONSECURE_CODE, row.at(3)?)?;
+/// The image of the Secure code of a row, with the words that it writes.
+fn secure_image(row: &mut Row<'_>) -> Option<Image> {
+    let writes = row.field(1);
+    let code = row.field(2);
+    let source = source_of(row.alloc, SECURE, writes, SECURE_CODE, code);
+    let source = row.kept(source)?;
+    assembled(row.alloc, source.as_str())
+}
+
+/// The image of the Non-secure code of a row.
+fn nonsecure_image(row: &mut Row<'_>) -> Option<Image> {
+    let code = row.field(3);
+    let source = source_of(row.alloc, NONSECURE, "", NONSECURE_CODE, code);
+    let source = row.kept(source)?;
+    assembled(row.alloc, source.as_str())
+}
+
+/// The machine of images on the built-in board.
+fn machine_over(
+    alloc: Global,
+    profile: Profile,
+    secure: &Image,
+    nonsecure: &Image,
+) -> Result<Machine, AllocError> {
     let mut board = demo_board(alloc)?;
     board.profile = profile;
-    Ok(Machine::new(alloc, &board, &secure, &nonsecure)?)
+    Machine::new(alloc, &board, secure, nonsecure)
+}
+
+/// The machine of a row, from its fields 1 to 3.
+pub fn machine_of(row: &mut Row<'_>, profile: Profile) -> Option<Machine> {
+    let secure = secure_image(row)?;
+    let nonsecure = nonsecure_image(row)?;
+    let made = machine_over(row.alloc, profile, &secure, &nonsecure);
+    row.kept(made)
 }

@@ -1,66 +1,52 @@
-//! The words of rows.
+//! Words that rows of more than one kind have.
 
-use std::alloc::Global;
-use tz_model::{Profile, Side, TableEntry};
-use tz_rows::{RowError, number_of};
+use tz_model::{Side, Size};
+use tz_rows::Row;
 
-/// A side.
-pub fn side_of(word: &str) -> Result<Side, RowError> {
+/// The side of a word.
+pub fn side_in(row: &mut Row<'_>, word: &str) -> Side {
     match word {
-        "s" => Ok(Side::Secure),
-        "ns" => Ok(Side::NonSecure),
-        _ => Err(RowError::Unread),
+        "s" => Side::Secure,
+        "ns" => Side::NonSecure,
+        _ => {
+            row.refuse();
+            Side::Secure
+        }
     }
 }
 
-/// The profile of a board.
-pub fn profile_of(word: &str) -> Result<Profile, RowError> {
-    match word {
-        "v80" => Ok(Profile::V80),
-        "v81" => Ok(Profile::V81),
-        _ => Err(RowError::Unread),
+/// The side at a place of a step.
+pub fn side_at(row: &mut Row<'_>, index: usize) -> Side {
+    let word = row.word(index);
+    side_in(row, word)
+}
+
+/// The size at a place of a step: `b`, `h` or `w`.
+pub fn size_at(row: &mut Row<'_>, index: usize) -> Size {
+    match row.word(index) {
+        "b" => Size::Byte,
+        "h" => Size::Half,
+        "w" => Size::Word,
+        _ => {
+            row.refuse();
+            Size::Word
+        }
     }
 }
 
-/// A number of 8 bits.
-pub fn byte_of(number: u32) -> Result<u8, RowError> {
-    match u8::try_from(number) {
-        Ok(byte) => Ok(byte),
-        Err(_) => Err(RowError::Unread),
-    }
+/// Tells a word of 32 bits.
+pub fn tell_number(row: &mut Row<'_>, number: u32) {
+    row.tell(" 0x");
+    row.tell_hex(number);
 }
 
-/// A number of 16 bits.
-pub fn half_of(number: u32) -> Result<u16, RowError> {
-    match u16::try_from(number) {
-        Ok(half) => Ok(half),
-        Err(_) => Err(RowError::Unread),
-    }
+/// Tells a number that is counted.
+pub fn tell_count(row: &mut Row<'_>, count: i32) {
+    row.tell(" ");
+    row.tell_decimal(i64::from(count));
 }
 
-/// The entry of a table that a word `ADDRESS=NUMBER` says.
-fn entry_of(word: &str) -> Result<TableEntry, RowError> {
-    let Some((addr, value)) = word.split_once('=') else {
-        return Err(RowError::Unread);
-    };
-    Ok(TableEntry {
-        addr: number_of(addr)?,
-        value: number_of(value)?,
-    })
-}
-
-/// The entries of a table: words `ADDRESS=NUMBER`.
-pub fn entries_of(alloc: Global, field: &str) -> Result<Vec<TableEntry>, RowError> {
-    field
-        .split_whitespace()
-        .map(|word| entry_of(word))
-        .try_collect(alloc)
-}
-
-/// The address that fails, or none for an empty field.
-pub fn failing_of(field: &str) -> Result<Option<u32>, RowError> {
-    if field.is_empty() {
-        return Ok(None);
-    }
-    Ok(Some(number_of(field)?))
+/// Tells an answer.
+pub fn tell_flag(row: &mut Row<'_>, flag: bool) {
+    row.tell(if flag { " yes" } else { " no" });
 }

@@ -1,18 +1,17 @@
 //! Rows of text: those whose answers differ, and those that cannot be read, are told by their lines.
 
-use std::alloc::Global;
-use std::fmt::Write;
 use std::test::Fail;
-use tz_rows::{Answers, Fields, RowError, told};
+use tz_rows::{Answers, Row, told};
 
 /// The sum of two numbers.
 struct Sums;
 
 impl Answers for Sums {
-    fn answer(&self, _: Global, row: &Fields<'_>, text: &mut String) -> Result<(), RowError> {
-        let sum = row.number(0)?.wrapping_add(row.number(1)?);
-        write!(text, "{sum}")?;
-        Ok(())
+    fn answer(&self, row: &mut Row<'_>) {
+        let first = row.field(0);
+        let second = row.field(1);
+        let sum = row.number_in(first).wrapping_add(row.number_in(second));
+        row.tell_decimal(i64::from(sum));
     }
 }
 

@@ -1,0 +1,226 @@
+//! A row: what it asks, the step of it that is done, and the answer to it.
+
+use std::alloc::{AllocError, Global};
+use std::fmt::Write;
+
+/// A row. Where a field, a word or a number isn't there, something stands for it, and the row is unread.
+#[derive(Drop)]
+pub struct Row<'a> {
+    /// Where memory comes from.
+    pub alloc: Global,
+    /// The text that the row stands in.
+    pub rows: &'a str,
+    fields: &'a str,
+    step: &'a str,
+    answer: String,
+    is_unread: bool,
+    is_short: bool,
+}
+
+/// The number that a text is: digits, or `0x` and hexadecimal digits. None where it is none below 2^32.
+pub fn number_of(text: &str) -> Option<u32> {
+    match text.strip_prefix("0x") {
+        Some(digits) => u32::from_str_radix(digits, 16).ok(),
+        None => text.parse::<u32>().ok(),
+    }
+}
+
+/// What the row asks.
+impl<'a> Row<'a> {
+    /// A row of a text, without fields and without an answer.
+    pub fn new(alloc: Global, rows: &'a str) -> Self {
+        Row {
+            alloc,
+            rows,
+            fields: "",
+            step: "",
+            answer: String::new(alloc),
+            is_unread: false,
+            is_short: false,
+        }
+    }
+
+    /// Gives the row its fields.
+    pub fn ask(&mut self, fields: &'a str) {
+        self.fields = fields;
+    }
+
+    /// Says that the row can't be read.
+    pub fn refuse(&mut self) {
+        self.is_unread = true;
+    }
+
+    /// Keeps whether memory was refused. What there is otherwise.
+    pub fn kept<T>(&mut self, made: Result<T, AllocError>) -> Option<T> {
+        match made {
+            Ok(made) => Some(made),
+            Err(_) => {
+                self.is_short = true;
+                None
+            }
+        }
+    }
+
+    /// The field at a place, counted from 0, without blanks around it. Empty where there is none.
+    pub fn field_or_empty(&self, index: usize) -> &'a str {
+        match self.fields.split('|').nth(index) {
+            Some(field) => field.trim(),
+            None => "",
+        }
+    }
+
+    /// The field at a place, which has to be there.
+    pub fn field(&mut self, index: usize) -> &'a str {
+        match self.fields.split('|').nth(index) {
+            Some(field) => field.trim(),
+            None => {
+                self.is_unread = true;
+                ""
+            }
+        }
+    }
+
+    /// The number that a text has to be.
+    pub fn number_in(&mut self, text: &str) -> u32 {
+        match number_of(text) {
+            Some(number) => number,
+            None => {
+                self.is_unread = true;
+                0
+            }
+        }
+    }
+
+    /// A number that has to have at most 16 bits.
+    pub fn half_in(&mut self, number: u32) -> u16 {
+        match u16::try_from(number) {
+            Ok(half) => half,
+            Err(_) => {
+                self.is_unread = true;
+                0
+            }
+        }
+    }
+
+    /// A number that has to have at most 8 bits.
+    pub fn byte_in(&mut self, number: u32) -> u8 {
+        match u8::try_from(number) {
+            Ok(byte) => byte,
+            Err(_) => {
+                self.is_unread = true;
+                0
+            }
+        }
+    }
+}
+
+/// The words of the step that is done.
+impl<'a> Row<'a> {
+    /// Begins a step.
+    pub fn begin(&mut self, step: &'a str) {
+        self.step = step;
+    }
+
+    /// The step.
+    pub fn step(&self) -> &'a str {
+        self.step
+    }
+
+    /// The word at a place, which has to be there.
+    pub fn word(&mut self, index: usize) -> &'a str {
+        match self.step.split_whitespace().nth(index) {
+            Some(word) => word,
+            None => {
+                self.is_unread = true;
+                ""
+            }
+        }
+    }
+
+    /// The number at a place.
+    pub fn number(&mut self, index: usize) -> u32 {
+        let word = self.word(index);
+        self.number_in(word)
+    }
+
+    /// The number of at most 16 bits at a place.
+    pub fn half(&mut self, index: usize) -> u16 {
+        let number = self.number(index);
+        self.half_in(number)
+    }
+
+    /// The number of at most 8 bits at a place.
+    pub fn byte(&mut self, index: usize) -> u8 {
+        let number = self.number(index);
+        self.byte_in(number)
+    }
+
+    /// The answer at a place, 0 for no and 1 for yes.
+    pub fn flag(&mut self, index: usize) -> bool {
+        let number = self.number(index);
+        if number > 1 {
+            self.is_unread = true;
+        }
+        number == 1
+    }
+}
+
+/// The answer to the row.
+impl Row<'_> {
+    /// The answer without blanks around it. None where the row can't be read.
+    pub fn answer(&self) -> Result<Option<&str>, AllocError> {
+        if self.is_short {
+            Err(AllocError)
+        } else if self.is_unread {
+            Ok(None)
+        } else {
+            Ok(Some(self.answer.as_str().trim()))
+        }
+    }
+
+    /// Tells a text.
+    pub fn tell(&mut self, text: &str) {
+        if self.answer.push_str(text).is_err() {
+            self.is_short = true;
+        }
+    }
+
+    /// Tells a blank and a text.
+    pub fn tell_word(&mut self, text: &str) {
+        self.tell(" ");
+        self.tell(text);
+    }
+
+    /// Tells a number in hexadecimal digits.
+    pub fn tell_hex(&mut self, number: u32) {
+        if write!(self.answer, "{number:x}").is_err() {
+            self.is_short = true;
+        }
+    }
+
+    /// Tells a number in decimal digits.
+    pub fn tell_decimal(&mut self, number: i64) {
+        if write!(self.answer, "{number}").is_err() {
+            self.is_short = true;
+        }
+    }
+
+    /// Tells a blank, a name, a blank and a number in hexadecimal digits.
+    pub fn tell_value(&mut self, name: &str, value: u32) {
+        self.tell_word(name);
+        self.tell(" ");
+        self.tell_hex(value);
+    }
+
+    /// Tells what stands between two parts of an answer, where a first part is told.
+    pub fn divide(&mut self, divider: &str) {
+        if !self.answer.is_empty() {
+            self.tell(divider);
+        }
+    }
+
+    /// Drops what is told so far.
+    pub fn forget(&mut self) {
+        self.answer.clear();
+    }
+}

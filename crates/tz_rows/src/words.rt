@@ -1,0 +1,48 @@
+//! Words that rows of more than one program have.
+
+use crate::Row;
+use tz_model::{Profile, ScriptEvent, Side};
+
+/// The word of a side.
+pub fn side_word(side: Side) -> &'static str {
+    match side {
+        Side::Secure => "s",
+        Side::NonSecure => "ns",
+    }
+}
+
+/// The profile of a word.
+pub fn profile_in(row: &mut Row<'_>, word: &str) -> Profile {
+    match word {
+        "v80" | "8.0" => Profile::V80,
+        "v81" | "8.1" => Profile::V81,
+        _ => {
+            row.refuse();
+            Profile::V80
+        }
+    }
+}
+
+/// The event of a word: `nmi`, or the number of an interrupt.
+fn event_in(row: &mut Row<'_>, word: &str) -> ScriptEvent {
+    if word == "nmi" {
+        return ScriptEvent::Nmi;
+    }
+    let number = row.number_in(word);
+    ScriptEvent::Irq(row.half_in(number))
+}
+
+/// The events of words, at most three, and how many there are.
+pub fn events_of(row: &mut Row<'_>, words: &str) -> ([ScriptEvent; 3], usize) {
+    let mut events = [ScriptEvent::Nmi; 3];
+    let mut count = 0usize;
+    for word in words.split_whitespace() {
+        let event = event_in(row, word);
+        match events.get_mut(count) {
+            Some(place) => *place = event,
+            None => row.refuse(),
+        }
+        count = count.saturating_add(1);
+    }
+    (events, count)
+}

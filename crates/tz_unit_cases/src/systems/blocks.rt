@@ -1,0 +1,45 @@
+//! IT blocks and conditions.
+
+use crate::words::{tell_flag, tell_number};
+use tz_regs::{Apsr, Core};
+use tz_rows::Row;
+
+/// Steps of an IT block: `it begin COND MASK`, `it advance`, and `it show`, which shows IT, whether it is in a block, and
+/// whether in the last instruction of one.
+pub fn step(core: &mut Core, row: &mut Row<'_>) {
+    let registers = &mut core.registers;
+    match row.word(1) {
+        "begin" => registers.begin_it(row.byte(2), row.byte(3)),
+        "advance" => registers.advance_it(),
+        "show" => {
+            tell_number(row, u32::from(registers.it));
+            tell_flag(row, registers.in_it_block());
+            tell_flag(row, registers.is_last_in_it_block());
+        }
+        _ => row.refuse(),
+    }
+}
+
+/// The flags that meet a condition: bit `8 n + 4 z + 2 c + v` is set where N, Z, C and V meet it.
+fn flags_met(cond: u8) -> u32 {
+    let mut met = 0u32;
+    for flags in 0..16u32 {
+        let apsr = Apsr {
+            n: flags / 8 % 2 == 1,
+            z: flags / 4 % 2 == 1,
+            c: flags / 2 % 2 == 1,
+            v: flags % 2 == 1,
+            q: false,
+        };
+        if apsr.condition_holds(cond) {
+            met |= 1 << flags;
+        }
+    }
+    met
+}
+
+/// Shows the flags that meet a condition: `met COND`.
+pub fn met(row: &mut Row<'_>) {
+    let cond = row.byte(1);
+    tell_number(row, flags_met(cond));
+}

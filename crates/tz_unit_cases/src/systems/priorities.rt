@@ -1,0 +1,52 @@
+//! Priorities, and what they let happen.
+
+use crate::systems::slots::slot_of;
+use crate::words::{tell_count, tell_flag};
+use tz_model::Side;
+use tz_nvic::Exceptions;
+use tz_prio::{Taken, can_take, escalate, execution_priority, is_negative, raw_priority};
+use tz_regs::Core;
+use tz_rows::Row;
+
+/// Sets the execution priority that instructions are told, which may be below 0: `at PRIORITY`.
+pub fn set_priority(priority: &mut i32, row: &mut Row<'_>) {
+    match row.word(1).parse::<i32>() {
+        Ok(number) => *priority = number,
+        Err(_) => row.refuse(),
+    }
+}
+
+/// Shows the priority that active slots give, the execution priority, and whether that is negative.
+pub fn show_execution(core: &Core, exceptions: &Exceptions, row: &mut Row<'_>) {
+    tell_count(row, raw_priority(exceptions));
+    tell_count(row, execution_priority(core, exceptions));
+    tell_flag(row, is_negative(core, exceptions))
+}
+
+/// Shows whether an exception can be taken: `takes NUMBER SIDE`.
+pub fn show_taken(core: &Core, exceptions: &Exceptions, row: &mut Row<'_>) {
+    let slot = slot_of(row);
+    if !exceptions.exists(slot) {
+        return row.refuse();
+    }
+    tell_flag(row, can_take(core, exceptions, slot))
+}
+
+/// What is taken, in a word.
+fn taken_word(taken: Taken) -> &'static str {
+    match taken {
+        Taken::AsIs => "as is",
+        Taken::Hard(Side::Secure) => "hard s",
+        Taken::Hard(Side::NonSecure) => "hard ns",
+        Taken::Lockup => "lockup",
+    }
+}
+
+/// Shows what an exception becomes: `becomes NUMBER SIDE`.
+pub fn show_escalated(core: &Core, exceptions: &Exceptions, row: &mut Row<'_>) {
+    let slot = slot_of(row);
+    if !exceptions.exists(slot) {
+        return row.refuse();
+    }
+    row.tell_word(taken_word(escalate(core, exceptions, slot)))
+}

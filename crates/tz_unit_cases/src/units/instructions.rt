@@ -1,0 +1,49 @@
+//! Instructions: the code or the name of one, what stands in the core before it, and for loads, stores and branches the
+//! table that memory is and the address that fails. The answer is how it goes on and what it changes.
+
+mod named;
+mod start;
+mod told;
+
+use crate::units::words::set_port;
+use named::insn_of;
+use start::core_of;
+use told::{tell_step, tell_stores};
+use tz_model::TablePort;
+use tz_rows::Row;
+
+/// Tells what a data processing instruction does.
+pub fn data(row: &mut Row<'_>) {
+    let insn = insn_of(row);
+    let before = core_of(row);
+    let mut after = before;
+    let outcome = tz_alu::execute(&insn, &mut after);
+    tell_step(row, &outcome, &before, &after);
+}
+
+/// Tells what a branch does.
+pub fn branch(row: &mut Row<'_>) {
+    let insn = insn_of(row);
+    let before = core_of(row);
+    let mut port = TablePort::new(&[], None);
+    set_port(row, &mut port, 3);
+    let mut after = before;
+    let outcome = tz_branch::execute(&insn, &mut after, &mut port);
+    tell_step(row, &outcome, &before, &after);
+}
+
+/// Tells what a load or a store does, and which stores it makes.
+pub fn load_store(row: &mut Row<'_>) {
+    let insn = insn_of(row);
+    let before = core_of(row);
+    let mut port = TablePort::new(&[], None);
+    set_port(row, &mut port, 3);
+    let kept = port.entries.len();
+    if kept > 16 {
+        return row.refuse();
+    }
+    let mut after = before;
+    let outcome = tz_loadstore::execute(&insn, &mut after, &mut port);
+    tell_step(row, &outcome, &before, &after);
+    tell_stores(row, &port, kept);
+}
