@@ -2,7 +2,7 @@
 use Rattle.std.proofs.Common.{ℕ, zero, suc, List, [], ◌∷◌, take, drop}
 use Rattle.tz_table.specs.Rows.{TableRow}
 use Rattle.tz_table.specs.Table.{rows}
-use Rattle.tz_slots.specs.declared.slot.Slot.{Slot}
+use Rattle.tz_encode.specs.declared.slot.Slot.{Slot}
 use Rattle.tz_encode.specs.declared.shapes.TheConstants.{SHAPES}
 use Rattle.tz_encode.proofs.ArithmeticDescribed.{arithmetic_described}
 use Rattle.tz_encode.proofs.BranchDescribed.{branch_described}

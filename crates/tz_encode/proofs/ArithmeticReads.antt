@@ -8,7 +8,7 @@ use Rattle.tz_table.specs.Limits.{plain, plain3, plain4, can_multiply_long}
 use Rattle.tz_table.specs.ArithmeticRows.{shift_reg_w, sxth_w, uxth_w, sxtb_w, uxtb_w, mla, mul_w, mls, smull, umull, smlal, umlal, sdiv, udiv, sg, vlstm}
 use Rattle.tz_encode.proofs.Reading.{Reads, shape, read_all, read_alone}
 use Rattle.tz_encode.proofs.Slots.{fill}
-use Rattle.tz_encode.proofs.Words.{bool_word, flags_word, shift_word, at_1, at_2}
+use Rattle.tz_encode.proofs.FieldWords.{bool_word, flags_word, shift_word, at_1, at_2}
 use Rattle.tz_encode.proofs.Regrouping.{one, two, three, four, redundant, pc_not_plain, eqb_swap}
 use Rattle.tz_encode.proofs.Tautologies.{always_5}
 use Rattle.tz_encode.proofs.Choosing.{other, other_passes}

@@ -4,9 +4,9 @@ use Rattle.tz_table.specs.Fields.{bits}
 use Rattle.tz_table.specs.Limits.{plain, is_special}
 use Rattle.tz_table.specs.Terms.{signed_by, far_offset}
 use Rattle.tz_table.specs.BranchRows.{bcond_w, branch_w, bl, msr, mrs, hint_w, clrex, dsb, dmb, isb, udf_w}
-use Rattle.tz_slots.specs.Numbers.{far}
+use Rattle.tz_encode.specs.Numbers.{far}
 use Rattle.tz_encode.proofs.Reading.{Reads, shape, read_alone}
-use Rattle.tz_encode.proofs.Words.{at_5}
+use Rattle.tz_encode.proofs.FieldWords.{at_5}
 use Rattle.tz_encode.proofs.Regrouping.{two, conditions}
 
 -- the offset of B.W and BL, gathered as S:J:K:i10:i11:0

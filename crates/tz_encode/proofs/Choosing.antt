@@ -5,10 +5,10 @@ use Rattle.std.specs.Ordering.{int_eq}
 use Rattle.std.proofs.lemmas.Bool.{cases_Bool, agree_below, agree_below_at, cond-false, eqb-true, eqb-false, ne_eqb, and_parts, and_from, and_right, not-true}
 use Rattle.tz_table.specs.Fields.{bits}
 use Rattle.tz_table.specs.Limits.{not_pc, is_listed}
-use Rattle.tz_slots.specs.Slots.{held_by}
-use Rattle.tz_slots.specs.Numbers.{amount_number}
+use Rattle.tz_encode.specs.Slots.{held_by}
+use Rattle.tz_encode.specs.Numbers.{amount_number}
 use Rattle.tz_table.specs.Terms.{imm_amount_of}
-use Rattle.tz_slots.specs.declared.slot.Part.{Part}
+use Rattle.tz_encode.specs.declared.slot.Part.{Part}
 
 -- 0 breaks a limit that asks for more than one thing at once
 pub not_with_false : (a : Bool) → not (a && false) ≡ true

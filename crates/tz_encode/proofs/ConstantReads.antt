@@ -7,10 +7,10 @@ use Rattle.tz_table.specs.Fields.{bits}
 use Rattle.tz_table.specs.Limits.{plain, not_pc, copies_zero}
 use Rattle.tz_table.specs.Terms.{imm5_of, imm12_of}
 use Rattle.tz_table.specs.DataRows.{and_imm_w, tst_imm_w, bic_imm_w, orr_imm_w, mov_imm_w, orn_imm_w, mvn_imm_w, eor_imm_w, teq_imm_w, cmn_imm_w, adc_imm_w, sbc_imm_w, cmp_imm_w, rsb_imm_w, adr_after, adr_before, movw, ssat, usat, sbfx, ubfx, bfi, bfc}
-use Rattle.tz_slots.specs.Slots.{held_by, parts_in}
+use Rattle.tz_encode.specs.Slots.{held_by, parts_in}
 use Rattle.tz_encode.proofs.Reading.{Reads, shape, slot, read_all, read_alone}
 use Rattle.tz_encode.proofs.Slots.{fill, bits_taken}
-use Rattle.tz_encode.proofs.Words.{bool_word, flags_word, at_1, at_2, at_6}
+use Rattle.tz_encode.proofs.FieldWords.{bool_word, flags_word, at_1, at_2, at_6}
 use Rattle.tz_encode.proofs.Regrouping.{one, two, three, redundant, pc_first, pc_second, not_below}
 use Rattle.tz_encode.proofs.Choosing.{not_with_false}
 

@@ -3,17 +3,17 @@ use Rattle.std.proofs.Common.{◌≡◌, ℕ, zero, suc, Bool, true, false, ◌&
 use Rattle.std.specs.Prelude.{ℤ, pos, slice_get, Some, ◌==◌}
 use Rattle.std.proofs.lemmas.Bool.{and_parts, eqb-true, leb-true}
 use Rattle.tz_table.specs.Rows.{TableRow, row_of}
-use Rattle.tz_slots.specs.Codes.{InRow}
-use Rattle.tz_slots.specs.Numbers.{take_all, values_in}
-use Rattle.tz_slots.specs.declared.slot.Slot.{Slot}
-use Rattle.tz_slots.proofs.Describes.{Describes, AllWritten, Holds}
-use Rattle.tz_slots.specs.declared.limit.Limit.{Limit}
-use Rattle.tz_slots.specs.declared.limit.Limit.TheVariants.{Any, NonZero}
-use Rattle.tz_slots.proofs.Codings.{tells}
-use Rattle.tz_slots.proofs.Making.{LaidOut, LaidOut-from, laid_out}
-use Rattle.tz_slots.proofs.Others.{unlisted_told, up_to_written}
-use Rattle.tz_slots.proofs.Shifted.{kind_slot, amount_slot, shifted_written, shifted_told}
-use Rattle.tz_slots.proofs.Telling.{is_regular, all_regular, all_written, written, told, all_tell, all_told, values_told, eight}
+use Rattle.tz_encode.specs.Codes.{InRow}
+use Rattle.tz_encode.specs.Numbers.{take_all, values_in}
+use Rattle.tz_encode.specs.declared.slot.Slot.{Slot}
+use Rattle.tz_encode.proofs.Describes.{Describes, AllWritten, Holds}
+use Rattle.tz_encode.specs.declared.limit.Limit.{Limit}
+use Rattle.tz_encode.specs.declared.limit.Limit.TheVariants.{Any, NonZero}
+use Rattle.tz_encode.proofs.Codings.{tells}
+use Rattle.tz_encode.proofs.Making.{LaidOut, LaidOut-from, laid_out}
+use Rattle.tz_encode.proofs.Others.{unlisted_told, up_to_written}
+use Rattle.tz_encode.proofs.Shifted.{kind_slot, amount_slot, shifted_written, shifted_told}
+use Rattle.tz_encode.proofs.Telling.{is_regular, all_regular, all_written, written, told, all_tell, all_told, values_told, eight}
 use Rattle.tz_table.specs.NarrowRows.{ldm}
 use Rattle.tz_table.specs.DataRows.{bfi, bfc}
 use Rattle.tz_table.proofs.Scans.{holds_parts}

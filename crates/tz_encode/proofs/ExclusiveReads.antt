@@ -6,7 +6,7 @@ use Rattle.tz_table.specs.Limits.{plain, not_pc}
 use Rattle.tz_table.specs.MultipleRows.{strex, tt as target, ldrex, strexb, strexh, stlb, stlh, stl, stlexb, stlexh, stlex, ldrexb, ldrexh, ldab, ldah, lda, ldaexb, ldaexh, ldaex, tbb}
 use Rattle.tz_encode.proofs.Reading.{Reads, shape, read_all, read_alone}
 use Rattle.tz_encode.proofs.Slots.{fill}
-use Rattle.tz_encode.proofs.Words.{bool_word, at_1, at_2}
+use Rattle.tz_encode.proofs.FieldWords.{bool_word, at_1, at_2}
 use Rattle.tz_encode.proofs.Regrouping.{two, redundant, store_exclusive, pc_store_exclusive}
 use Rattle.tz_encode.proofs.Choosing.{other, other_passes}
 

@@ -10,7 +10,7 @@ use Rattle.tz_table.specs.LoadRows.{ldr_imm12, str_imm12, ldr_negative, str_nega
 use Rattle.tz_table.proofs.Scans.{holds_parts}
 use Rattle.tz_encode.proofs.Reading.{Reads, shape, read, read_alone}
 use Rattle.tz_encode.proofs.Slots.{fill}
-use Rattle.tz_encode.proofs.Words.{bool_word, at_1, at_2, at_7, sign_word}
+use Rattle.tz_encode.proofs.FieldWords.{bool_word, at_1, at_2, at_7, sign_word}
 use Rattle.tz_encode.proofs.WideWords.{size_left, at_6_offset, back_load, back_store}
 use Rattle.tz_encode.proofs.LoadLimits.{load_limits, load_index_limits, load_literal_limits, load_user_limits, load_back_limits, store_limits, store_index_limits, store_back_limits}
 use Rattle.tz_encode.proofs.Choosing.{other, other_passes}

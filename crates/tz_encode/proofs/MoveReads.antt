@@ -8,13 +8,13 @@ use Rattle.tz_table.specs.Fields.{bits}
 use Rattle.tz_table.specs.Limits.{plain, can_move}
 use Rattle.tz_table.specs.Terms.{imm5_of, imm_shift_of, imm_amount_of}
 use Rattle.tz_table.specs.DataRows.{mov_reg_w}
-use Rattle.tz_slots.specs.Limits.{is_bare}
-use Rattle.tz_slots.specs.Numbers.{amount_number}
-use Rattle.tz_slots.specs.Slots.{held_by, parts_in}
-use Rattle.tz_slots.specs.declared.slot.Part.{Part}
+use Rattle.tz_encode.specs.Limits.{is_bare}
+use Rattle.tz_encode.specs.Numbers.{amount_number}
+use Rattle.tz_encode.specs.Slots.{held_by, parts_in}
+use Rattle.tz_encode.specs.declared.slot.Part.{Part}
 use Rattle.tz_encode.proofs.Reading.{Reads, shape, slot, read_all}
 use Rattle.tz_encode.proofs.Slots.{fill, limit_taken}
-use Rattle.tz_encode.proofs.Words.{flags_word, amount_word, shift_zero, amount_left, at_1, at_8}
+use Rattle.tz_encode.proofs.FieldWords.{flags_word, amount_word, shift_zero, amount_left, at_1, at_8}
 use Rattle.tz_encode.proofs.Tautologies.{always_6, always_7}
 use Rattle.tz_encode.proofs.Choosing.{amount_passes, amount_taken}
 use Rattle.tz_encode.proofs.RegisterReads.{kind_taken}

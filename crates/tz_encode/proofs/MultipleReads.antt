@@ -9,10 +9,10 @@ use Rattle.tz_table.specs.Terms.{indexed}
 use Rattle.tz_table.specs.Limits.{plain, not_pc, not_zero, is_listed, can_move_many, can_store_pair, can_load_pair, can_load_pair_literal}
 use Rattle.tz_table.specs.MultipleRows.{ldm_w, stm_w, ldmdb, stmdb, ldrd, strd, ldrd_literal}
 use Rattle.tz_table.proofs.Scans.{holds_parts}
-use Rattle.tz_slots.specs.Slots.{parts_in}
+use Rattle.tz_encode.specs.Slots.{parts_in}
 use Rattle.tz_encode.proofs.Reading.{Reads, shape, slot, read, read_all, fixed_field, cube_of_row}
 use Rattle.tz_encode.proofs.Slots.{fill, bits_taken}
-use Rattle.tz_encode.proofs.Words.{bool_word, at_2, at_6, at_7, at_8, sign_word}
+use Rattle.tz_encode.proofs.FieldWords.{bool_word, at_2, at_6, at_7, at_8, sign_word}
 use Rattle.tz_encode.proofs.Regrouping.{move_many, eqb_swap}
 use Rattle.tz_encode.proofs.Tautologies.{always_3, always_4, always_5}
 use Rattle.tz_encode.proofs.Choosing.{two_without, many_taken, other, other_passes, third, third_taken}

@@ -6,10 +6,10 @@ use Rattle.std.proofs.lemmas.Bool.{and_from, or_right, agree_below_at}
 use Rattle.tz_table.specs.Fields.{bits}
 use Rattle.tz_table.specs.Limits.{not_zero, is_single, can_store_many, is_listed}
 use Rattle.tz_table.specs.NarrowRows.{add_high, cmp_high, bx, blx, add_sp_imm7, cbz, push, pop, cps, if_then, stm, ldm, bcond}
-use Rattle.tz_slots.specs.Slots.{held_by, parts_in}
+use Rattle.tz_encode.specs.Slots.{held_by, parts_in}
 use Rattle.tz_encode.proofs.Reading.{Reads, shape, slot, read_all, read_alone}
 use Rattle.tz_encode.proofs.Slots.{fill, limit_taken, bits_taken}
-use Rattle.tz_encode.proofs.Words.{bool_word, at_1, bits_123}
+use Rattle.tz_encode.proofs.FieldWords.{bool_word, at_1, bits_123}
 use Rattle.tz_encode.proofs.Regrouping.{one, compare_high, load_list, same_zero, change_state, conditions, it_conditions, it_mask}
 use Rattle.tz_encode.proofs.Choosing.{not_with_false}
 

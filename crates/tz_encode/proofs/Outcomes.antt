@@ -7,7 +7,7 @@ use Rattle.tz_encode.specs.Search.{Found}
 use Rattle.tz_encode.specs.declared.error.EncodeError.TheVariants.{NoForm, Range}
 use Rattle.tz_fields.specs.Values.{names_of, values_of}
 use Rattle.tz_fields.specs.declared.names.FieldName.{FieldName}
-use Rattle.tz_slots.specs.Codes.{Blames, IsCode, Reaches, seconds}
+use Rattle.tz_encode.specs.Codes.{Blames, IsCode, Reaches, seconds}
 use Rattle.tz_table.proofs.Apart.{decode_row}
 use Rattle.tz_table.specs.Rows.{TableRow}
 use Rattle.tz_table.specs.Table.{rows}

@@ -12,13 +12,13 @@ use Rattle.tz_table.specs.declared.units.Width.TheVariants.{Narrow, Wide}
 use Rattle.tz_table.proofs.Cubes.{InCube-from, in_cube-from, inside-from, has-from_InCube}
 use Rattle.tz_table.proofs.Reduction.{inside, cube_of}
 use Rattle.tz_table.proofs.Scans.{holds_parts}
-use Rattle.tz_slots.specs.Codes.{InRow, seconds}
-use Rattle.tz_slots.specs.Numbers.{take_all, values_in}
-use Rattle.tz_slots.specs.declared.coding.Coding.TheVariants.{Is}
-use Rattle.tz_slots.specs.declared.limit.Limit.TheVariants.{Any}
-use Rattle.tz_slots.specs.declared.slot.Parts.TheVariants.{Zero}
-use Rattle.tz_slots.specs.declared.slot.Slot.{Slot}
-use Rattle.tz_slots.proofs.Describes.{limits_in, Fillable, Holds}
+use Rattle.tz_encode.specs.Codes.{InRow, seconds}
+use Rattle.tz_encode.specs.Numbers.{take_all, values_in}
+use Rattle.tz_encode.specs.declared.coding.Coding.TheVariants.{Is}
+use Rattle.tz_encode.specs.declared.limit.Limit.TheVariants.{Any}
+use Rattle.tz_encode.specs.declared.slot.Parts.TheVariants.{Zero}
+use Rattle.tz_encode.specs.declared.slot.Slot.{Slot}
+use Rattle.tz_encode.proofs.Describes.{limits_in, Fillable, Holds}
 use Rattle.tz_encode.proofs.Slots.{stands_alone, fill_alone}
 use Rattle.tz_encode.specs.declared.shapes.TheConstants.{SHAPES}
 

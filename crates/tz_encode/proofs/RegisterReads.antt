@@ -6,11 +6,11 @@ use Rattle.std.proofs.lemmas.Bool.{and_parts, ltb-true}
 use Rattle.tz_table.specs.Fields.{bits}
 use Rattle.tz_table.specs.Limits.{plain, not_pc}
 use Rattle.tz_table.specs.DataRows.{and_reg_w, tst_reg_w, bic_reg_w, orr_reg_w, orn_reg_w, mvn_reg_w, eor_reg_w, teq_reg_w, cmn_reg_w, adc_reg_w, sbc_reg_w, cmp_reg_w, rsb_reg_w}
-use Rattle.tz_slots.specs.Numbers.{takes}
-use Rattle.tz_slots.specs.Slots.{parts_in}
+use Rattle.tz_encode.specs.Numbers.{takes}
+use Rattle.tz_encode.specs.Slots.{parts_in}
 use Rattle.tz_encode.proofs.Reading.{Reads, shape, slot, read_all}
 use Rattle.tz_encode.proofs.Slots.{fill, stood_for}
-use Rattle.tz_encode.proofs.Words.{flags_word, amount_word, at_1, at_8}
+use Rattle.tz_encode.proofs.FieldWords.{flags_word, amount_word, at_1, at_8}
 use Rattle.tz_encode.proofs.Regrouping.{two, three, redundant, pc_first, pc_second, base_first}
 use Rattle.tz_encode.proofs.Choosing.{amount_taken}
 

@@ -9,11 +9,11 @@ use Rattle.tz_table.specs.Limits.{plain, plain2, plain2_same}
 use Rattle.tz_table.specs.LoadRows.{pld_imm12, pld_negative, pld_index}
 use Rattle.tz_table.specs.ArithmeticRows.{rev_w, rev16_w, rbit, revsh_w, clz}
 use Rattle.tz_table.specs.Rows.{TableRow, keeps}
-use Rattle.tz_slots.specs.Numbers.{values_in}
-use Rattle.tz_slots.specs.declared.limit.Limit.TheVariants.{Any}
-use Rattle.tz_slots.proofs.Describes.{Describes, Holds, AllWritten}
-use Rattle.tz_slots.proofs.Others.{again_written}
-use Rattle.tz_slots.proofs.Telling.{written, eight}
+use Rattle.tz_encode.specs.Numbers.{values_in}
+use Rattle.tz_encode.specs.declared.limit.Limit.TheVariants.{Any}
+use Rattle.tz_encode.proofs.Describes.{Describes, Holds, AllWritten}
+use Rattle.tz_encode.proofs.Others.{again_written}
+use Rattle.tz_encode.proofs.Telling.{written, eight}
 use Rattle.tz_encode.proofs.Reading.{Reads, shape, slot, keeps_from, holds_from}
 use Rattle.tz_encode.proofs.Slots.{fill, fill_alone, bits_taken}
 use Rattle.tz_encode.proofs.Described.{written_by}

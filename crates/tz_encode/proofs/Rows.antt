@@ -9,11 +9,11 @@ use Rattle.tz_table.specs.Rows.{TableRow, row_of, rows_of}
 use Rattle.tz_table.specs.Table.{rows}
 use Rattle.tz_table.specs.declared.rows.Row.{Row}
 use Rattle.tz_table.specs.declared.instruction.Insn.{Insn}
-use Rattle.tz_slots.specs.Codes.{Tried}
-use Rattle.tz_slots.specs.Numbers.{answer, sound}
-use Rattle.tz_slots.specs.declared.slot.Slot.{Slot}
-use Rattle.tz_slots.proofs.Codings.{int_eq-true}
-use Rattle.tz_slots.proofs.Trying.{tried}
+use Rattle.tz_encode.specs.Codes.{Tried}
+use Rattle.tz_encode.specs.Numbers.{answer, sound}
+use Rattle.tz_encode.specs.declared.slot.Slot.{Slot}
+use Rattle.tz_encode.proofs.Codings.{int_eq-true}
+use Rattle.tz_encode.proofs.Answered.{tried}
 use Rattle.tz_table.proofs.Data.{count_of_rows}
 use Rattle.tz_encode.specs.declared.shapes.TheConstants.{SHAPES}
 use Rattle.tz_encode.proofs.Described.{AllDescribed, all_laid_out, shaped_at}

@@ -4,7 +4,7 @@ use Rattle.std.proofs.lemmas.Bool.{cases_lt}
 use Rattle.tz_encode.proofs.Places.{code_has_form, no_code_of, no_form_of, same_width_is, same_width_not}
 use Rattle.tz_encode.specs.Encoded.{At, HasCode, HasForm}
 use Rattle.tz_encode.specs.Search.{Found, NoneBefore}
-use Rattle.tz_slots.specs.Codes.{Blames, Tried}
+use Rattle.tz_encode.specs.Codes.{Blames, Tried}
 use Rattle.tz_table.specs.Rows.{TableRow, same_width}
 use Rattle.tz_table.specs.Table.{rows}
 use Rattle.tz_table.specs.declared.instruction.Insn.{Insn}

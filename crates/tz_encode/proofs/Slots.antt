@@ -4,18 +4,18 @@ use Rattle.std.specs.Prelude.{ℤ, pos, ◌==◌, ◌||◌, if◌then◌else◌}
 use Rattle.std.specs.List.{list_all}
 use Rattle.std.proofs.lemmas.Bool.{and_parts, and_from, eqb-true, or_cases, cases_Bool, MatchBool-at_true, MatchBool-at_false}
 use Rattle.std.specs.Bool.{MatchBool}
-use Rattle.tz_slots.specs.Limits.{allows, limit_holds, entry}
-use Rattle.tz_slots.specs.Numbers.{takes, number_for, stands_for}
-use Rattle.tz_slots.specs.Slots.{held_by, parts_in}
-use Rattle.tz_slots.specs.declared.coding.Coding.{Coding}
-use Rattle.tz_slots.specs.declared.coding.Coding.TheVariants.{Is, Same, Natural, Above, Minus, Signed, Sign, Far, Right, Kind, Amount, UpTo, Unlisted, Again}
-use Rattle.tz_slots.specs.declared.limit.Limit.{Limit}
-use Rattle.tz_slots.specs.declared.limit.Limit.TheVariants as limits
-use Rattle.tz_slots.specs.declared.slot.Slot.{Slot}
-use Rattle.tz_slots.specs.declared.slot.Parts.{Parts}
-use Rattle.tz_slots.specs.declared.slot.Parts.TheVariants as counts
-use Rattle.tz_slots.proofs.Codings.{int_eq-self}
-use Rattle.tz_slots.proofs.Describes.{Fillable}
+use Rattle.tz_encode.specs.Limits.{allows, limit_holds, entry}
+use Rattle.tz_encode.specs.Numbers.{takes, number_for, stands_for}
+use Rattle.tz_encode.specs.Slots.{held_by, parts_in}
+use Rattle.tz_encode.specs.declared.coding.Coding.{Coding}
+use Rattle.tz_encode.specs.declared.coding.Coding.TheVariants.{Is, Same, Natural, Above, Minus, Signed, Sign, Far, Right, Kind, Amount, UpTo, Unlisted, Again}
+use Rattle.tz_encode.specs.declared.limit.Limit.{Limit}
+use Rattle.tz_encode.specs.declared.limit.Limit.TheVariants as limits
+use Rattle.tz_encode.specs.declared.slot.Slot.{Slot}
+use Rattle.tz_encode.specs.declared.slot.Parts.{Parts}
+use Rattle.tz_encode.specs.declared.slot.Parts.TheVariants as counts
+use Rattle.tz_encode.proofs.Codings.{int_eq-self}
+use Rattle.tz_encode.proofs.Describes.{Fillable}
 
 -- ---- slots that look at no earlier value
 

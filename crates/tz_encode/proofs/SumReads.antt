@@ -7,10 +7,10 @@ use Rattle.tz_table.specs.Fields.{bits}
 use Rattle.tz_table.specs.Limits.{plain, not_pc, copies_zero, can_add_register, can_add_constant, can_add}
 use Rattle.tz_table.specs.Terms.{imm5_of, imm12_of, imm_shift_of, imm_amount_of}
 use Rattle.tz_table.specs.DataRows.{add_reg_w, sub_reg_w, add_imm_w, sub_imm_w, addw, subw}
-use Rattle.tz_slots.specs.Slots.{parts_in}
+use Rattle.tz_encode.specs.Slots.{parts_in}
 use Rattle.tz_encode.proofs.Reading.{Reads, shape, slot, read_all}
 use Rattle.tz_encode.proofs.Slots.{fill}
-use Rattle.tz_encode.proofs.Words.{flags_word, amount_word, shift_zero, amount_left, at_1, at_8}
+use Rattle.tz_encode.proofs.FieldWords.{flags_word, amount_word, shift_zero, amount_left, at_1, at_8}
 use Rattle.tz_encode.proofs.Tautologies.{always_4, always_5, always_7}
 use Rattle.tz_encode.proofs.Choosing.{amount_taken}
 use Rattle.tz_encode.proofs.RegisterReads.{kind_taken}

@@ -5,9 +5,9 @@ use Rattle.std.proofs.lemmas.Bool.{eqb-false}
 use Rattle.tz_fields.specs.Values.{size_number, address_number, address_first, address_second, address_third}
 use Rattle.tz_table.specs.Fields.{bits}
 use Rattle.tz_table.specs.Terms.{size_of, indexed, far_offset}
-use Rattle.tz_encode.proofs.Words.{size_word}
-use Rattle.tz_slots.specs.Numbers.{far}
-use Rattle.tz_slots.proofs.Codings.{far_of_parts}
+use Rattle.tz_encode.proofs.FieldWords.{size_word}
+use Rattle.tz_encode.specs.Numbers.{far}
+use Rattle.tz_encode.proofs.Codings.{far_of_parts}
 
 -- ---- far offsets
 

@@ -1,7 +1,7 @@
 -- What is known in the course of a search through the rows of a table.
 use Rattle.std.specs.Prelude.{ℕ, ◌+◌, ◌<◌, List, Option, Some, None, Result, Ok, Err}
 use Rattle.tz_encode.specs.Encoded.{At, FirstCode, HasCode, HasForm}
-use Rattle.tz_slots.specs.Codes.{Blames}
+use Rattle.tz_encode.specs.Codes.{Blames}
 use Rattle.tz_table.specs.Rows.{TableRow}
 use Rattle.tz_table.specs.declared.instruction.Insn.{Insn}
 use Rattle.tz_table.specs.declared.units.Width.{Width}

@@ -5,7 +5,7 @@ use Rattle.std.specs.Option.{option_or}
 use Rattle.std.specs.Ordering.{int_eq}
 use Rattle.tz_encode.specs.Encoded.{code_of}
 use Rattle.tz_fields.specs.Values.{values_of}
-use Rattle.tz_slots.specs.Codes.{seconds}
+use Rattle.tz_encode.specs.Codes.{seconds}
 use Rattle.tz_table.specs.Rows.{TableRow, holds, same_width}
 use Rattle.tz_table.specs.Table.{rows}
 use Rattle.tz_table.specs.declared.units.Code.{Code}

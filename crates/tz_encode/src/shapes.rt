@@ -7,7 +7,9 @@
 
 ghost use Rattle.std.specs.Prelude.{◌≡◌, slice_get};
 
-use tz_slots::{Coding, Half, Limit, Part, Parts, Slot};
+use crate::coding::Coding;
+use crate::limit::Limit;
+use crate::slot::{Half, Part, Parts, Slot};
 
 /// Bits of a halfword and where they lie in the number.
 macro_rules! part {

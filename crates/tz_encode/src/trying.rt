@@ -2,13 +2,13 @@
 
 ghost use Rattle.std.specs.Prelude.{◌≡◌, ◌≤◌, length, slice_get, Some, Err};
 ghost use Rattle.tz_fields.specs.Values.{values_of};
-ghost use Rattle.tz_slots.specs.Codes.{Tried};
+ghost use Rattle.tz_encode.specs.Codes.{Tried};
 ghost use Rattle.tz_table.specs.Rows.{TableRow};
 ghost use Rattle.tz_table.specs.Table.{rows};
 ghost use Rattle.tz_table.specs.declared.instruction.Insn.{Insn};
 
 use crate::shapes::slots_at;
-use tz_slots::answer;
+use crate::writing::answer;
 use tz_table::row_at;
 
 /// The halfwords of the least code that the row at `index` has of the instruction with these values, as

@@ -1,7 +1,7 @@
 //! Codes that LLVM's assembler gives, from slots that are written here by hand, and the first values that
 //! have no code.
 
-use tz_slots::{Coding, Half, Limit, Part, Parts, Slot, answer};
+use tz_encode::{Coding, Half, Limit, Part, Parts, Slot, answer};
 
 /// A field that is 0.
 const NOTHING: Slot = Slot {

@@ -1,5 +1,5 @@
 use Rattle.std.proofs.Common.{◌≡◌, length, sym, ◌∙◌, ap, arith, subst, of_z, w32}
-use Rattle.tz_slots.specs.Codes.{Tried}
+use Rattle.tz_encode.specs.Codes.{Tried}
 use Rattle.tz_encode.proofs.All.{all_described}
 use Rattle.tz_encode.proofs.Rows.{no_row, other_variant, past_rows, row_tried, row_without_slots, sound_at}
 use Rattle.tz_table.specs.Table.{rows}

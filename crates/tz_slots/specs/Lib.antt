@@ -1,4 +1,0 @@
-pub mod Slots
-pub mod Numbers
-pub mod Limits
-pub mod Codes
