@@ -15,9 +15,9 @@ use Rattle.tz_table.specs.declared.units.Code.{Code}
 use Rattle.tz_table.specs.declared.units.Size.{Size}
 use Rattle.tz_table.specs.declared.units.Width.{Width}
 use Rattle.tz_table.specs.declared.units.Width.TheVariants.{Narrow, Wide}
-use Rattle.tz_tokens.specs.Tokens.{TokenValue}
-use Rattle.tz_tokens.specs.Views.{token_view}
-use Rattle.tz_tokens.specs.declared.token.Token.{Token}
+use Rattle.tz_syntax.specs.Tokens.{TokenValue}
+use Rattle.tz_syntax.specs.Views.{token_view}
+use Rattle.tz_syntax.specs.declared.token.Token.{Token}
 
 pub length-low_first : (count number : ℕ) → length (low_first count number) ≡ count
 unfolding low_first

@@ -7,7 +7,7 @@ use Rattle.tz_asm.specs.Places.{Places, defined}
 use Rattle.tz_asm.specs.Reading.{said}
 use Rattle.tz_asm.specs.declared.error.AsmError.{AsmError}
 use Rattle.tz_asm.specs.declared.layout.Layout.{Layout}
-use Rattle.tz_tokens.specs.Lines.{lines_of}
+use Rattle.tz_syntax.specs.Lines.{lines_of}
 use Rattle.tz_asm.specs.SourceLines.{LineValue}
 use Rattle.tz_asm.proofs.Telling.{IsRefusal-then}
 

@@ -10,7 +10,7 @@ use Rattle.tz_asm.specs.SecondPass.{SecondFrom, SecondPass, SecondTurn}
 use Rattle.tz_asm.specs.Written.{Writes}
 use Rattle.tz_asm.specs.declared.error.AsmError.{AsmError}
 use Rattle.tz_asm.specs.declared.layout.Layout.{Layout}
-use Rattle.tz_tokens.specs.Lines.{lines_of}
+use Rattle.tz_syntax.specs.Lines.{lines_of}
 use Rattle.tz_model.specs.Image.{SegmentValue}
 use Rattle.tz_asm.specs.SourceLines.{LineValue}
 use Rattle.tz_asm.proofs.Telling.{Tells-along}

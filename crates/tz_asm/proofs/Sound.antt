@@ -16,7 +16,7 @@ use Rattle.tz_asm.specs.declared.layout.Layout.{Layout}
 use Rattle.tz_asm.specs.declared.values.Value.{Value}
 use Rattle.tz_asm.proofs.Bytes.{data_bytes-length, length-low_first}
 use Rattle.tz_asm.proofs.Segments.{Fits-finished, Fits-start, advance-grown}
-use Rattle.tz_tokens.specs.Lines.{lines_of}
+use Rattle.tz_syntax.specs.Lines.{lines_of}
 use Rattle.tz_elf.proofs.Written.{HoldBytes}
 use Rattle.tz_model.specs.Board.{most_bytes}
 use Rattle.tz_model.specs.Image.{SegmentValue, are_addressed, bytes_in, end_of}

@@ -11,7 +11,7 @@ use Rattle.tz_asm.specs.SecondPass.{SecondFrom, SecondPass, SecondTurn}
 use Rattle.tz_asm.specs.Told.{assembled, second_from, second_turn, written_by}
 use Rattle.tz_asm.specs.Written.{Writes, InstructionWrites, as_address, coded_bytes, label_place}
 use Rattle.tz_asm.specs.declared.layout.Layout.{Layout}
-use Rattle.tz_tokens.specs.Lines.{lines_of}
+use Rattle.tz_syntax.specs.Lines.{lines_of}
 use Rattle.tz_model.specs.Image.{SegmentValue}
 use Rattle.tz_asm.specs.Statements.{StatementValue, Nothing, Org, Align, Data, Instruction}
 use Rattle.tz_statement.proofs.Told as codes

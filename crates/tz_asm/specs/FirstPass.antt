@@ -5,7 +5,7 @@ use Rattle.tz_asm.specs.Places.{Places, defined, no_places}
 use Rattle.tz_asm.specs.Reading.{said}
 use Rattle.tz_asm.specs.Refusals.{◌>>=◌, Refusal}
 use Rattle.tz_asm.specs.declared.layout.Layout.{Layout}
-use Rattle.tz_tokens.specs.Lines.{lines_of}
+use Rattle.tz_syntax.specs.Lines.{lines_of}
 
 -- a line's turn: its label has the place before its statement
 unfoldable pub first_turn : ℕ → Places → Layout → List ℕ → Result (Places × Layout) Refusal

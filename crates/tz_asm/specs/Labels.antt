@@ -2,7 +2,7 @@
 use Rattle.std.specs.Prelude.{ℕ, ◌==◌, Bool, if◌then◌else◌, List, ◌∷◌, Option, Some, None, is_some}
 use Rattle.std.specs.List.{list_any}
 use Rattle.tz_syntax.specs.Spelling.{register_of}
-use Rattle.tz_tokens.specs.Tokens.{TokenValue, Word, Mark}
+use Rattle.tz_syntax.specs.Tokens.{TokenValue, Word, Mark}
 
 -- a `.` (46) stands in a word
 abbrev pub has_dot : List ℕ → Bool

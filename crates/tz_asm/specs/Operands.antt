@@ -3,7 +3,7 @@ use Rattle.std.specs.Prelude.{ℕ, ◌==◌, Bool, true, false, not, ◌&&◌, i
 use Rattle.std.specs.Int.{is_power_of_two}
 use Rattle.tz_statement.specs.Operands.{is_label}
 use Rattle.tz_asm.specs.declared.source.number.Signed.{Signed}
-use Rattle.tz_tokens.specs.Tokens.{TokenValue, Word, Number, Mark}
+use Rattle.tz_syntax.specs.Tokens.{TokenValue, Word, Number, Mark}
 
 -- a number, or the place of a label and what is added to it
 pub data ExpressionValue : Type 0 where

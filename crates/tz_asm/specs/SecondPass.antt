@@ -7,7 +7,7 @@ use Rattle.tz_asm.specs.Reading.{said}
 use Rattle.tz_asm.specs.Refusals.{After, Refusal}
 use Rattle.tz_asm.specs.Written.{Writes}
 use Rattle.tz_asm.specs.declared.layout.Layout.{Layout}
-use Rattle.tz_tokens.specs.Lines.{lines_of}
+use Rattle.tz_syntax.specs.Lines.{lines_of}
 use Rattle.tz_model.specs.Image.{SegmentValue}
 
 -- a line's turn: its bytes stand behind those of earlier lines

@@ -4,7 +4,7 @@ use Rattle.tz_asm.specs.Labels.{is_register, label_at}
 use Rattle.tz_asm.specs.Statements.{StatementValue, statement_of}
 use Rattle.tz_asm.specs.declared.source.statement.LineError.{LineError}
 use Rattle.tz_asm.specs.declared.source.statement.LineError.TheVariants.{Token, Operands}
-use Rattle.tz_tokens.specs.Tokens.{TokenValue, tokens_of, without_comment}
+use Rattle.tz_syntax.specs.Tokens.{TokenValue, tokens_of, without_comment}
 
 -- the label that a line defines, and its statement
 pub record LineValue : Type 0 where

@@ -12,8 +12,8 @@ use Rattle.tz_statement.specs.Mnemonics.{width_of_word}
 use Rattle.tz_table.specs.declared.units.Size.{Size}
 use Rattle.tz_table.specs.declared.units.Size.TheVariants.{Byte, Half, Word}
 use Rattle.tz_table.specs.declared.units.Width.{Width}
-use Rattle.tz_tokens.specs.Tokens.{TokenValue}
-use Rattle.tz_tokens.specs.Tokens as tokens
+use Rattle.tz_syntax.specs.Tokens.{TokenValue}
+use Rattle.tz_syntax.specs.Tokens as tokens
 
 -- no statement, a directive, or an instruction with its width, its mnemonic and its operands
 pub data StatementValue : Type 0 where

@@ -9,7 +9,7 @@ use Rattle.tz_asm.specs.Refusals.{◌>>=◌, Refusal}
 use Rattle.tz_asm.specs.Values.{data_bytes}
 use Rattle.tz_asm.specs.Written.{as_address, coded_bytes, label_place}
 use Rattle.tz_asm.specs.declared.layout.Layout.{Layout}
-use Rattle.tz_tokens.specs.Lines.{lines_of}
+use Rattle.tz_syntax.specs.Lines.{lines_of}
 use Rattle.tz_model.specs.Image.{SegmentValue}
 use Rattle.tz_asm.specs.Statements.{StatementValue, Nothing, Org, Align, Data, Instruction}
 use Rattle.tz_statement.specs.Told.{code_told}

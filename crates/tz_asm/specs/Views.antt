@@ -10,9 +10,9 @@ use Rattle.tz_asm.specs.declared.source.statement.Expression.{Expression}
 use Rattle.tz_asm.specs.declared.source.statement.Expression.TheVariants.{Number, Label}
 use Rattle.tz_asm.specs.declared.source.statement.Statement.{Statement}
 use Rattle.tz_asm.specs.declared.source.statement.Statement.TheVariants.{Nothing, Org, Align, Data, Instruction}
-use Rattle.tz_tokens.specs.Tokens.{TokenValue}
-use Rattle.tz_tokens.specs.Views.{token_view}
-use Rattle.tz_tokens.specs.declared.token.Token.{Token}
+use Rattle.tz_syntax.specs.Tokens.{TokenValue}
+use Rattle.tz_syntax.specs.Views.{token_view}
+use Rattle.tz_syntax.specs.declared.token.Token.{Token}
 
 abbrev pub views : List Token → List TokenValue
 views tokens = map token_view tokens

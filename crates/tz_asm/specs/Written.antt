@@ -11,7 +11,7 @@ use Rattle.tz_statement.specs.declared.error.Uncoded.TheVariants as causes
 use Rattle.tz_table.specs.declared.units.Code.{Code}
 use Rattle.tz_table.specs.declared.units.Width.{Width}
 use Rattle.tz_table.specs.declared.units.Width.TheVariants.{Narrow, Wide}
-use Rattle.tz_tokens.specs.Tokens.{TokenValue, Word, Number, Mark}
+use Rattle.tz_syntax.specs.Tokens.{TokenValue, Word, Number, Mark}
 
 -- the word that a token is
 abbrev pub word_of : TokenValue → Option (List ℕ)

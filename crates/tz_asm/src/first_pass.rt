@@ -12,7 +12,7 @@ use crate::places::{Places, define};
 use crate::reading::{said_by, tokens_in};
 use std::alloc::Global;
 use std::collections::BTreeMap;
-use tz_tokens::{Token, first_line};
+use tz_syntax::{Token, first_line};
 
 /// A line's turn: its label is added, and the layout behind it is told.
 fn first_turn<'s>(

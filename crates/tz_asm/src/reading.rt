@@ -5,11 +5,11 @@ ghost use Rattle.tz_asm.specs.Errors.{IsRefusal};
 ghost use Rattle.tz_asm.specs.Reading.{at_line, said};
 ghost use Rattle.tz_asm.specs.SourceLines.{line_of};
 ghost use Rattle.tz_asm.specs.Views.{line_view, views};
-ghost use Rattle.tz_tokens.specs.Tokens.{tokens_of, without_comment};
+ghost use Rattle.tz_syntax.specs.Tokens.{tokens_of, without_comment};
 
 use crate::error::AsmError;
 use crate::source::{LineError, SourceLine, read_line};
-use tz_tokens::{Token, read_tokens, without_comment};
+use tz_syntax::{Token, read_tokens, without_comment};
 
 /// Reads the tokens of a line in place of what `tokens` had.
 #[tactic(auto, unfolding(crate::specs::Reading::said, crate::specs::SourceLines::source_line))]

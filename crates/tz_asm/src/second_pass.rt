@@ -16,7 +16,7 @@ use crate::reading::{said_by, tokens_in};
 use crate::written::write_statement;
 use std::alloc::Global;
 use tz_model::Segment;
-use tz_tokens::{Token, first_line};
+use tz_syntax::{Token, first_line};
 
 /// A line's turn: its bytes are put behind those of the lines before, and the layout behind it is told.
 fn second_turn<'s>(

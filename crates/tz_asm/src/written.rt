@@ -7,7 +7,7 @@ ghost use Rattle.tz_asm.specs.Places.{places_in};
 ghost use Rattle.tz_asm.specs.Values.{data_bytes};
 ghost use Rattle.tz_asm.specs.Written.{InstructionWrites, Writes, as_address, code_bytes, label_place, last_word, uncoded, word_of};
 ghost use Rattle.tz_asm.specs.Views.{expression_view, statement_view, views};
-ghost use Rattle.tz_tokens.specs.Views.{token_view};
+ghost use Rattle.tz_syntax.specs.Views.{token_view};
 
 use crate::error::AsmError;
 use crate::layout::{padding, size_bytes};
@@ -16,8 +16,8 @@ use crate::source::{Expression, Statement};
 use crate::values::{in_size, push_low_first, value_of};
 use std::alloc::AllocError;
 use tz_statement::{Uncoded, code_of};
+use tz_syntax::Token;
 use tz_table::{Code, Size, Width};
-use tz_tokens::Token;
 
 /// The bytes of a value.
 #[tactic(auto, unfolding(crate::specs::Values::data_bytes))]

@@ -9,7 +9,7 @@ use Rattle.tz_elf.specs.Placement.{image_with, placed_in, regions_for}
 use Rattle.tz_elf.proofs.Accepted.{Accepted, IsImage-accepted, segments_from-accepted}
 use Rattle.tz_elf.proofs.AcceptedLoads.{elf_segments-accepted}
 use Rattle.tz_elf.specs.ElfImage.{elf_segments}
-use Rattle.tz_tokens.specs.Lines.{lines_of}
+use Rattle.tz_syntax.specs.Lines.{lines_of}
 use Rattle.tz_elf.specs.PlainImage.{plain_segments}
 
 pub image_of-segments : (file : List ℕ) (board : BoardValue) (side : Side) (regions usable : List Region) → regions ≡ board.regions → usable ≡ regions_for side regions

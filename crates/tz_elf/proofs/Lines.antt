@@ -2,7 +2,7 @@
 use Rattle.std.proofs.Common.{◌≡◌, ◌+◌, ℕ, refl, arith, List, [], ◌∷◌, length, Ok}
 use Rattle.tz_model.specs.Image.{SegmentValue}
 use Rattle.tz_elf.specs.Placement.{Test}
-use Rattle.tz_tokens.specs.Lines.{lines_of}
+use Rattle.tz_syntax.specs.Lines.{lines_of}
 use Rattle.tz_elf.specs.PlainImage.{line_then, segments_from, without_return}
 
 -- a turn over the lines

@@ -10,7 +10,7 @@ use Rattle.hex.proofs.HexLemmas.{decode_of-encode_lower, length-encode_with}
 use Rattle.tz_model.specs.Image.{SegmentValue, are_addressed, end_of}
 use Rattle.tz_model.specs.Image.{entries_from}
 use Rattle.tz_elf.specs.Placement.{Segments, no_test}
-use Rattle.tz_tokens.specs.Lines.{lines_of, onto_first_line}
+use Rattle.tz_syntax.specs.Lines.{lines_of, onto_first_line}
 use Rattle.tz_elf.specs.PlainImage.{bytes_of, digits_of, line_text, line_then, lines_text, plain_text, segment_of, segment_text, segment_with, segments_from, without_return}
 use Rattle.tz_elf.specs.PlainImage.{plain_segments}
 use Rattle.tz_elf.specs.Images.{pairs_in, pairs_of, pairs_with}

@@ -3,7 +3,7 @@ use Rattle.std.specs.Prelude.{ℕ, zero, suc, ◌+◌, ◌-◌, ◌*◌, ◌/◌
 use Rattle.std.specs.Int.{from_be_bytes, to_be_bytes, w32}
 use Rattle.tz_model.specs.Board.{within}
 use Rattle.tz_model.specs.Image.{SegmentValue}
-use Rattle.tz_tokens.specs.Lines.{lines_of}
+use Rattle.tz_syntax.specs.Lines.{lines_of}
 use Rattle.tz_elf.specs.Placement.{Hex, Segments, Test, first_sharing, unless}
 
 -- a line without the carriage return (13) at its end

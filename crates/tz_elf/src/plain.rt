@@ -15,7 +15,7 @@ use crate::placed::Placed;
 use crate::placement::test_segment;
 use std::alloc::{AllocError, Global};
 use tz_model::{Region, Segment};
-use tz_tokens::first_line;
+use tz_syntax::first_line;
 
 /// The segment that a line tells, or none where the line isn't of the form that tells one.
 fn read_line(alloc: Global, line: &[u8]) -> Result<Option<Segment>, AllocError>

@@ -1,9 +1,9 @@
 -- A list of registers, one register after another.
 use Rattle.std.proofs.Common.{◌≡◌, ◌∙◌, ℕ, ◌+◌, List, [], ◌∷◌, Option, Some, None, option_map, drop, ap, sym, refl, arith, pos}
 use Rattle.std.proofs.lemmas.List.{drop-drop}
-use Rattle.tz_tokens.specs.Tokens.{TokenValue}
-use Rattle.tz_tokens.specs.Tokens as values
-use Rattle.tz_tokens.specs.declared.token.Token.{Token}
+use Rattle.tz_syntax.specs.Tokens.{TokenValue}
+use Rattle.tz_syntax.specs.Tokens as values
+use Rattle.tz_syntax.specs.declared.token.Token.{Token}
 use Rattle.tz_statement.specs.Front.{views}
 use Rattle.tz_statement.specs.Operands.{entry_at, list_behind, with_register}
 

@@ -11,7 +11,7 @@ use Rattle.tz_table.specs.declared.instruction.Insn.{Insn}
 use Rattle.tz_table.specs.declared.units.Code.{Code}
 use Rattle.tz_table.specs.declared.units.Width.{Width}
 use Rattle.tz_table.specs.declared.units.Width.TheVariants.{Narrow, Wide}
-use Rattle.tz_tokens.specs.Tokens.{TokenValue}
+use Rattle.tz_syntax.specs.Tokens.{TokenValue}
 use Rattle.tz_statement.specs.Coded.{CodedBy, Gives, GivesBy, IsCodeOf, Passes, PassesBy}
 use Rattle.tz_statement.specs.Readings.{Progress, Site}
 use Rattle.tz_statement.specs.Rows.{row_read}

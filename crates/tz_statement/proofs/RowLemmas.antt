@@ -2,7 +2,7 @@
 use Rattle.std.proofs.Common.{◌≡◌, ℕ, List, [], ◌∷◌, Option, Result, Err, inl, inr, refl, sym, subst}
 use Rattle.tz_syntax.specs.Rows.{TextRow}
 use Rattle.tz_table.specs.declared.units.Code.{Code}
-use Rattle.tz_tokens.specs.Tokens.{TokenValue}
+use Rattle.tz_syntax.specs.Tokens.{TokenValue}
 use Rattle.tz_statement.specs.Coded.{CodedBy, Gives, Passes}
 use Rattle.tz_statement.specs.Readings.{Progress, Site}
 use Rattle.tz_statement.specs.Rows.{row_read}

@@ -1,7 +1,7 @@
 -- What a statement gives is what is told of it.
 use Rattle.std.proofs.Common.{◌≡◌, ℕ, ◌&&◌, Bool, true, false, List, [], ◌∷◌, Option, Some, None, Result, Ok, Err, is_none, option_map, length, inl, inr, refl, sym, ap, ◌∙◌, subst, ℤ}
 use Rattle.std.specs.Prelude.{unwrap_or, if◌then◌else◌}
-use Rattle.tz_tokens.specs.Tokens.{TokenValue}
+use Rattle.tz_syntax.specs.Tokens.{TokenValue}
 use Rattle.tz_encode.specs.Encoded.{At, EncodedIn, FirstCode, code_of}
 use Rattle.tz_encode.specs.Told.{first_code, code_with}
 use Rattle.tz_encode.proofs.Told.{IsTold, means_some, told_of}

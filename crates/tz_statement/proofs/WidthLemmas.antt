@@ -14,7 +14,7 @@ use Rattle.tz_table.specs.declared.instruction.Insn.{Insn}
 use Rattle.tz_table.specs.declared.units.Code.{Code}
 use Rattle.tz_table.specs.declared.units.Width.{Width}
 use Rattle.tz_table.specs.declared.units.Width.TheVariants.{Narrow, Wide}
-use Rattle.tz_tokens.specs.Tokens.{TokenValue}
+use Rattle.tz_syntax.specs.Tokens.{TokenValue}
 use Rattle.tz_statement.proofs.PartLemmas.{same_behind}
 use Rattle.tz_statement.specs.Coded.{CodedBy, Gives, GivesBy, width_of_code}
 use Rattle.tz_statement.specs.Mnemonics.{behind, ends_well, first_width, is_named, lettered, texts_of, width_of_word}

@@ -3,7 +3,7 @@ use Rattle.std.specs.Prelude.{◌≡◌, ℕ, Bool, true, false, ◌&&◌, if◌
 use Rattle.std.specs.Cmp.Lexicographic.{pointwise}
 use Rattle.std.specs.List.{list_any}
 use Rattle.std.specs.Ordering.{int_eq}
-use Rattle.tz_tokens.specs.Tokens.{TokenValue}
+use Rattle.tz_syntax.specs.Tokens.{TokenValue}
 use Rattle.tz_encode.specs.Encoded.{EncodedIn, meaning_of}
 use Rattle.tz_fields.specs.Values.{values_of}
 use Rattle.tz_syntax.specs.Rows.{TextRow}

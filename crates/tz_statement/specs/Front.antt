@@ -1,9 +1,9 @@
 -- What stands first among tokens, with the tokens behind it; none where something else does.
 use Rattle.std.specs.Prelude.{ℕ, ◌==◌, Bool, true, false, List, [], ◌∷◌, Option, Some, None, if◌then◌else◌, map}
-use Rattle.tz_tokens.specs.Tokens.{TokenValue}
-use Rattle.tz_tokens.specs.Tokens as values
-use Rattle.tz_tokens.specs.Views.{token_view}
-use Rattle.tz_tokens.specs.declared.token.Token.{Token}
+use Rattle.tz_syntax.specs.Tokens.{TokenValue}
+use Rattle.tz_syntax.specs.Tokens as values
+use Rattle.tz_syntax.specs.Views.{token_view}
+use Rattle.tz_syntax.specs.declared.token.Token.{Token}
 
 -- one reading after another
 infixl 10 ◌>>=◌

@@ -2,8 +2,8 @@
 -- a value that no instruction has, as a constant that is too large, the value is none.
 use Rattle.std.specs.Prelude.{ℕ, ◌+◌, ◌^◌, ◌==◌, nat_lt, Bool, true, false, not, ◌&&◌, if◌then◌else◌, List, [], ◌∷◌, codes, Option, Some, None, option_map, option_and_then, is_some, ℤ, pos}
 use Rattle.std.specs.List.{list_any}
-use Rattle.tz_tokens.specs.Tokens.{TokenValue}
-use Rattle.tz_tokens.specs.Tokens as values
+use Rattle.tz_syntax.specs.Tokens.{TokenValue}
+use Rattle.tz_syntax.specs.Tokens as values
 use Rattle.tz_statement.specs.Bits.{field_of, least_bits, whole_of}
 use Rattle.tz_statement.specs.Front.{◌>>=◌, mark_at, some_mark_at, word_at, signed_at, constant_at}
 use Rattle.tz_syntax.specs.Spelling.{register_of, shift_of, spells}

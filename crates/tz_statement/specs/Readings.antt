@@ -1,7 +1,7 @@
 -- Operands read by the pieces of a row's text: what is read so far, and how each piece goes on.
 use Rattle.std.specs.Prelude.{ℕ, ◌/◌, ◌*◌, Bool, false, ◌||◌, ◌&&◌, if◌then◌else◌, List, [], ◌∷◌, codes, Option, Some, None, option_and_then, slice_set, ℤ, pos}
 use Rattle.std.specs.Ordering.{int_eq}
-use Rattle.tz_tokens.specs.Tokens.{TokenValue}
+use Rattle.tz_syntax.specs.Tokens.{TokenValue}
 use Rattle.tz_syntax.specs.Pieces.{program_counter}
 use Rattle.tz_syntax.specs.Spelling.{register_of, condition_of, special_of, spells}
 use Rattle.tz_syntax.specs.declared.row.Mark.{Mark}

@@ -1,7 +1,7 @@
 -- A statement read by a row of the texts.
 use Rattle.std.specs.Prelude.{ℕ, ◌==◌, Bool, true, false, ◌&&◌, if◌then◌else◌, List, [], ◌∷◌, length, replicate, Option, Some, None, option_map, unwrap_or, slice_set, ℤ, pos}
 use Rattle.std.specs.Option.{option_or}
-use Rattle.tz_tokens.specs.Tokens.{TokenValue}
+use Rattle.tz_syntax.specs.Tokens.{TokenValue}
 use Rattle.tz_syntax.specs.FormNumbers.{load, word, literal}
 use Rattle.tz_syntax.specs.Pieces.{number_at}
 use Rattle.tz_syntax.specs.Rows.{TextRow}

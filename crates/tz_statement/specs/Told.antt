@@ -1,6 +1,6 @@
 -- What a statement gives, as a function.
 use Rattle.std.specs.Prelude.{ℕ, ◌&&◌, List, [], ◌∷◌, Option, Some, None, if◌then◌else◌, is_none, option_map, unwrap_or, Result, Ok, Err}
-use Rattle.tz_tokens.specs.Tokens.{TokenValue}
+use Rattle.tz_syntax.specs.Tokens.{TokenValue}
 use Rattle.tz_encode.specs.Told.{code_with}
 use Rattle.tz_syntax.specs.Rows.{TextRow}
 use Rattle.tz_table.specs.declared.units.Code.{Code}

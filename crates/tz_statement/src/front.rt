@@ -3,7 +3,7 @@
 ghost use Rattle.std.specs.Prelude.{◌≡◌, option_map};
 ghost use Rattle.tz_statement.specs.Front.{constant_at, mark_at, number_at, signed_at, views, word_at};
 
-use tz_tokens::Token;
+use tz_syntax::Token;
 
 /// A mark.
 pub fn mark_at<'t, 's>(tokens: &'t [Token<'s>], mark: u8) -> Option<&'t [Token<'s>]>

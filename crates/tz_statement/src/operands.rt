@@ -10,8 +10,7 @@ ghost use Rattle.tz_syntax.specs.Spelling.{condition_of, register_of, special_of
 
 use crate::bits::{field_of, least_bits, whole_of};
 use crate::front::{constant_at, mark_at, signed_at, word_at};
-use tz_syntax::spells;
-use tz_tokens::Token;
+use tz_syntax::{Token, spells};
 
 /// The value of an operand, and the tokens behind it.
 #[derive(Clone, Copy)]

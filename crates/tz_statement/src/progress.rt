@@ -8,7 +8,7 @@ ghost use Rattle.tz_statement.specs.Views.{operand_view, progress_view, shift_vi
 
 use crate::bits::{even_offset, offset_to};
 use crate::operands::{Operand, Shift, Target};
-use tz_tokens::Token;
+use tz_syntax::Token;
 
 /// What is read so far.
 #[derive(Clone, Copy)]

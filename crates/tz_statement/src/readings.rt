@@ -16,8 +16,7 @@ use crate::progress::{
     Reading, behind_any_target, behind_doubled, behind_even_target, behind_mark, behind_masks,
     behind_operand, behind_shift,
 };
-use tz_syntax::{Mark, Piece, spells};
-use tz_tokens::Token;
+use tz_syntax::{Mark, Piece, Token, spells};
 
 /// Where a statement stands, and what its label stands for.
 #[derive(Clone, Copy)]

@@ -11,8 +11,7 @@ use crate::bits::mask_of;
 use crate::mnemonics::{behind, lettered};
 use crate::progress::{Reading, put, with_value};
 use crate::readings::{Site, label_load_read, pieces_read};
-use tz_syntax::{Row, number_at};
-use tz_tokens::Token;
+use tz_syntax::{Row, Token, number_at};
 
 /// The number of the form of loads, of the size of a word, and of an address beside the program counter.
 const LOAD: u32 = 58;

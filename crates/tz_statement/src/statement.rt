@@ -6,7 +6,7 @@ ghost use Rattle.tz_statement.specs.Coded.{Coded, FixedWidth, Gives, IsCodeOf, O
 ghost use Rattle.tz_statement.specs.Mnemonics.{width_of_word};
 ghost use Rattle.tz_statement.specs.Views.{progress_view};
 ghost use Rattle.tz_table.specs.declared.units.Code.{Code};
-ghost use Rattle.tz_tokens.specs.Views.{token_view};
+ghost use Rattle.tz_syntax.specs.Views.{token_view};
 
 use crate::error::Uncoded;
 use crate::index::{next_row, rows_of};
@@ -15,8 +15,8 @@ use crate::readings::Site;
 use crate::rows::row_read;
 use tz_decode::decode;
 use tz_encode::find;
+use tz_syntax::Token;
 use tz_table::{Code, Decoded, Width};
-use tz_tokens::Token;
 
 /// The width that a mnemonic fixes, or none where the word is no mnemonic. Its letters may be of either case.
 #[tactic(auto, unfolding(crate::specs::Mnemonics::width_of_word))]

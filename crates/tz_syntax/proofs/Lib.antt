@@ -4,3 +4,6 @@ pub mod Lists
 pub mod NameLemmas
 pub mod Room
 pub mod SpellingLemmas
+pub mod Turns
+pub mod Numbers
+pub mod LineTurns

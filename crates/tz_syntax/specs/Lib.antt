@@ -10,3 +10,6 @@ pub mod Rows
 pub mod Spelling
 pub mod Starts
 pub mod Text
+pub mod Lines
+pub mod Tokens
+pub mod Views

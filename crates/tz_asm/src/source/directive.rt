@@ -9,8 +9,8 @@ use crate::source::first::split;
 use crate::source::number::{Signed, number_of, offset_of};
 use crate::source::statement::{Expression, Statement};
 use tz_statement::is_label;
+use tz_syntax::Token;
 use tz_table::Size;
-use tz_tokens::Token;
 
 /// A directive.
 #[derive(Clone, Copy)]

@@ -2,9 +2,9 @@
 
 ghost use Rattle.std.specs.Prelude.{◌≡◌, [], ◌∷◌, MatchOption};
 ghost use Rattle.tz_asm.specs.Views.{views};
-ghost use Rattle.tz_tokens.specs.Views.{token_view};
+ghost use Rattle.tz_syntax.specs.Views.{token_view};
 
-use tz_tokens::Token;
+use tz_syntax::Token;
 
 /// The first token, and those behind it.
 pub fn split<'t, 's>(tokens: &'t [Token<'s>]) -> Option<(Token<'s>, &'t [Token<'s>])>

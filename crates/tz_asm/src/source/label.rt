@@ -5,8 +5,7 @@ ghost use Rattle.tz_asm.specs.Labels.{behind_colon, has_dot, is_register, label_
 ghost use Rattle.tz_asm.specs.Views.{views};
 
 use crate::source::first::split;
-use tz_syntax::register_of;
-use tz_tokens::Token;
+use tz_syntax::{Token, register_of};
 
 /// Whether a word has a `.`.
 fn has_dot(word: &[u8]) -> bool

@@ -5,7 +5,7 @@ ghost use Rattle.tz_asm.specs.Operands.{number_of, offset_of, only_number, with_
 ghost use Rattle.tz_asm.specs.Views.{views};
 
 use crate::source::first::split;
-use tz_tokens::Token;
+use tz_syntax::Token;
 
 /// A number with its sign.
 #[derive(Clone, Copy)]

@@ -7,7 +7,7 @@ ghost use Rattle.tz_asm.specs.Views.{line_view, views};
 
 use crate::source::label::{is_register, label_at};
 use crate::source::statement::{LineError, Statement, statement_of};
-use tz_tokens::Token;
+use tz_syntax::Token;
 
 /// What a line says.
 #[derive(Clone, Copy)]

@@ -8,8 +8,8 @@ use crate::source::directive::{directed, directive_of};
 use crate::source::first::split;
 use crate::source::number::Signed;
 use tz_statement::{has_shape, width_of};
+use tz_syntax::Token;
 use tz_table::{Size, Width};
-use tz_tokens::Token;
 
 /// Why a line says nothing that can be built.
 #[derive(Clone, Copy)]

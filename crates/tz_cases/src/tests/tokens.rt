@@ -1,7 +1,7 @@
 //! Lines and comments that were told by hand.
 
 use std::test::Fail;
-use tz_tokens::{first_line, read_tokens, without_comment};
+use tz_syntax::{first_line, read_tokens, without_comment};
 
 /// A text, its first line, and what is behind that.
 static LINES: [(&[u8], &[u8], &[u8]); 3] = [

@@ -4,7 +4,7 @@ use Rattle.tz_asm.specs.FirstPass.{first_from, first_pass}
 use Rattle.tz_asm.specs.Layouts.{start}
 use Rattle.tz_asm.specs.Places.{Places, places_in}
 use Rattle.tz_asm.specs.declared.layout.Layout.{Layout}
-use Rattle.tz_tokens.specs.Lines.{lines_of}
+use Rattle.tz_syntax.specs.Lines.{lines_of}
 use Rattle.tz_asm.proofs.FirstTurns.{ends, goes_on, stops}
 use Rattle.tz_asm.proofs.Labels.{places_in-empty}
 use Rattle.tz_asm.proofs.Telling.{IsRefusal-same}

@@ -2,7 +2,7 @@ use Rattle.std.proofs.Common.{◌≡◌, ◌+◌, ◌≤◌, length}
 use Rattle.tz_asm.specs.FirstPass.{first_from, first_pass}
 use Rattle.tz_asm.specs.Layouts.{IsLayout}
 use Rattle.tz_asm.specs.Places.{places_in}
-use Rattle.tz_tokens.specs.Lines.{lines_of}
+use Rattle.tz_syntax.specs.Lines.{lines_of}
 use Rattle.tz_asm.proofs.first_pass.first_pass.Given as goal
 
 abbrev pub invariant-loop-rest : goal.invariant-loop-rest

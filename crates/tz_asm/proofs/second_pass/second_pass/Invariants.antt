@@ -4,7 +4,7 @@ use Rattle.tz_asm.specs.Layouts.{IsLayout}
 use Rattle.tz_asm.specs.Places.{places_in}
 use Rattle.tz_asm.specs.Refusals.{Refusal}
 use Rattle.tz_asm.specs.SecondPass.{SecondFrom, SecondPass}
-use Rattle.tz_tokens.specs.Lines.{lines_of}
+use Rattle.tz_syntax.specs.Lines.{lines_of}
 use Rattle.tz_model.specs.Image.{SegmentValue}
 use Rattle.tz_asm.proofs.second_pass.second_pass.Given as goal
 

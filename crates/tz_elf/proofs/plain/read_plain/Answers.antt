@@ -1,7 +1,7 @@
 use Rattle.std.proofs.Common.{◌≡◌, ◌∙◌, ◌+◌, arith, length}
 use Rattle.std.proofs.lemmas.Bool.Decides.{nat_tests}
 use Rattle.tz_elf.specs.Placement.{placed_in}
-use Rattle.tz_tokens.specs.Lines.{lines_of}
+use Rattle.tz_syntax.specs.Lines.{lines_of}
 use Rattle.tz_elf.specs.PlainImage.{segments_from}
 use Rattle.tz_elf.proofs.Lines.{segments_from-first, segments_from-none}
 use Rattle.tz_elf.proofs.RefusalLemmas.{IsImageRefusal-along}

@@ -1,7 +1,7 @@
 use Rattle.std.proofs.Common.{◌≡◌, ◌+◌, ◌≤◌, length}
 use Rattle.tz_elf.specs.Placement.{placed_in}
 use Rattle.tz_elf.specs.Taken.{Keeps}
-use Rattle.tz_tokens.specs.Lines.{lines_of}
+use Rattle.tz_syntax.specs.Lines.{lines_of}
 use Rattle.tz_elf.specs.PlainImage.{plain_segments, segments_from}
 use Rattle.tz_elf.proofs.plain.read_plain.Given as goal
 
