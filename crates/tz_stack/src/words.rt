@@ -2,7 +2,7 @@
 
 ghost use Rattle.std.specs.Prelude.{◌≡◌, ◌≤◌, ◌+◌, length};
 ghost use Rattle.std.specs.Result.{result_err};
-ghost use Rattle.tz_entry.specs.Stack.{written, word_read};
+ghost use Rattle.tz_entry.specs.Stack.{written, word_read, reads};
 
 use tz_entry::StackFault;
 use tz_frames::Frames;
@@ -48,4 +48,28 @@ pub(crate) fn load_word<P: Frames>(
         Ok(word) => Ok(word),
         Err(fault) => Err(StackFault::Access(fault)),
     }
+}
+
+/// Reads so many words from an address up, or the first fault.
+pub(crate) fn load_words<P: Frames, const N: usize>(
+    port: &mut P,
+    base: u32,
+    side: Side,
+    privileged: bool,
+) -> Result<[u32; N], StackFault>
+    ensures read { result ≡ reads P.answer side privileged (P.held port.old) base N }
+    ensures kept { P.held port.new ≡ P.held port.old }
+    ensures room { P.room port.new ≡ P.room port.old }
+    ensures lent { P.lent port.new ≡ P.lent port.old }
+{
+    let mut words = [0; N];
+    let mut addr = base;
+    for index in 0..N {
+        match load_word(port, addr, side, privileged) {
+            Ok(word) => words[index] = word,
+            Err(fault) => return Err(fault),
+        }
+        addr = addr.wrapping_add(4);
+    }
+    Ok(words)
 }
