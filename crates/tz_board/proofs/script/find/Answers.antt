@@ -40,7 +40,7 @@ loop-low-preserved g c =
 
 -- What the tactics try, by name: a body that is refused is then told without a search for what to offer.
 pub returns-then-here-step-clause-at : goal.returns-then-here-step-clause-at
-returns-then-here-step-clause-at g c = first_of (assumption, search (tests, rules), grind (arith, common_steps), grind (arith, elements))
+returns-then-here-step-clause-at g c = first_of (assumption, grind (arith, common_steps))
 
 pub returns-then-here-step-clause-looks : goal.returns-then-here-step-clause-looks
 returns-then-here-step-clause-looks g c = first_of (assumption, search (tests, rules), grind (arith, common_steps), grind (arith, elements))

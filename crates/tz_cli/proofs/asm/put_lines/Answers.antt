@@ -1,3 +1,4 @@
+use Rattle.std.proofs.lemmas.Grind.{common_steps}
 use Rattle.std.proofs.Common.{◌≡◌, ◌∙◌, arith, List, ℕ, Ok, Err}
 use Rattle.tz_text.proofs.Sending.{sent_failed, sent_line}
 use Rattle.tz_cli.proofs.asm.put_lines.Goals as goal
@@ -10,3 +11,7 @@ lines-preserved g c = record {
   sent = sent_line _ _ _ _ _ _ _ _ _ _ c.lines.invariant.sent c.cut_line.ensures.parts c.in_default.ensures.put;
   later = let l = c.in_default.ensures.cause.later in omega (arith, l, c.lines.invariant.later);
 }
+
+-- The first call that the prover tries finds nothing here, after long: the one that does is named.
+pub returns-clause-put : goal.returns-clause-put
+returns-clause-put g c = grind (arith, common_steps)

@@ -1,3 +1,4 @@
+use Rattle.std.proofs.lemmas.Grind.{common_steps}
 use Rattle.std.proofs.Common.{◌∙◌, ◌+◌, ◌*◌, ◌-◌, arith, length, sym, ap}
 use Rattle.tz_elf.specs.Placement.{placed_in}
 use Rattle.tz_elf.specs.ElfImage.{headers_from, loads_from}
@@ -44,3 +45,7 @@ loop-index-preserved c =
 pub returns-clause-ok : goal.returns-clause-ok
 returns-clause-ok c =
     c.loop-index.invariant.segments ∙ loads_from-none (placed_in c.args.regions.now c.args.usable.now) c.args.file.now _ c.half_field-index-end.result c.loop-index.index _ _ c.loop-index-test.false
+
+-- The first call that the prover tries finds nothing here, after long: the one that does is named.
+pub read_program_header-header-requires : goal.read_program_header-header-requires
+read_program_header-header-requires c = grind (arith, common_steps)

@@ -4,4 +4,4 @@ use Rattle.tz_elf.proofs.elf.read_program_header.Goals as goal
 
 -- What the tactics try, by name: a body that is refused is then told without a search for what to offer.
 pub returns : goal.returns
-returns c = first_of (assumption, search (tests, rules), grind (arith, common_steps), grind (arith, elements))
+returns c = first_of (assumption, grind (arith, elements))

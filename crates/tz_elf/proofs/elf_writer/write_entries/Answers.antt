@@ -1,3 +1,4 @@
+use Rattle.std.proofs.lemmas.Grind.{common_steps}
 use Rattle.std.proofs.Common.{◌∙◌, ℕ, arith, ap, length, refl}
 use Rattle.tz_model.specs.Image.{SegmentValue}
 use Rattle.tz_elf.proofs.Counting.{lengths-bytes_in}
@@ -32,3 +33,10 @@ loop-segment-preserved c =
 pub returns : goal.returns
 returns c =
     written-all _ c.loop-segment.file.items _ c.loop-segment.invariant.file (entries_bytes-none c.args.segments.now c.loop-segment.segment-index c.loop-segment.offset c.loop-segment-test.false)
+
+-- The first call that the prover tries finds nothing here, after long: the one that does is named.
+pub overflow_add-offset-in-loop-segment : goal.overflow_add-offset-in-loop-segment
+overflow_add-offset-in-loop-segment c = grind (arith, common_steps)
+
+pub overflow_cast-size : goal.overflow_cast-size
+overflow_cast-size c = grind (arith, common_steps)

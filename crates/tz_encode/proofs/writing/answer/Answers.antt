@@ -32,4 +32,14 @@ pub returns-then-not-is_number : goal.returns-then-not-is_number
 returns-then-not-is_number c = first_of (assumption, search (tests, rules), grind (arith, common_steps), grind (arith, elements))
 
 pub returns : goal.returns
-returns c = first_of (assumption, search (tests, rules), grind (arith, common_steps), grind (arith, elements))
+returns c = first_of (assumption, grind (arith, common_steps))
+
+-- The first call that the prover tries finds nothing here, after long: the one that does is named.
+pub put-second_half-requires : goal.put-second_half-requires
+put-second_half-requires c = grind (arith, common_steps)
+
+pub put-first_half-requires : goal.put-first_half-requires
+put-first_half-requires c = grind (arith, common_steps)
+
+pub number_taken-requires : goal.number_taken-requires
+number_taken-requires c = grind (arith, common_steps)

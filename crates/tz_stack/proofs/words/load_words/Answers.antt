@@ -16,8 +16,8 @@ loop-index-preserved g c =
     let l = c.loop-index in
     record {
       read = l.invariant.read
-        ∙ reads_more g.P.Frames.answer c.args.side c.args.privileged (g.P.Frames.held c.args.port.now) l.addr g.row.N l.index l.words c.in-Ok.word (omega arith) l.invariant.long
-        (sym c.in-Ok.is ∙ c.load_word.ensures.read ∙ ap (λ h. word_read g.P.Frames.answer c.args.side c.args.privileged h l.addr) l.invariant.kept);
+          ∙ reads_more g.P.Frames.answer c.args.side c.args.privileged (g.P.Frames.held c.args.port.now) l.addr g.row.N l.index l.words c.in-Ok.word (omega arith) l.invariant.long
+          (sym c.in-Ok.is ∙ c.load_word.ensures.read ∙ ap (λ h. word_read g.P.Frames.answer c.args.side c.args.privileged h l.addr) l.invariant.kept);
       long = search rules;
       kept = c.load_word.ensures.kept ∙ l.invariant.kept;
       room = c.load_word.ensures.room ∙ l.invariant.room;

@@ -7,3 +7,12 @@ use Rattle.tz_core.proofs.running.Machine.make_step.Goals as goal
 pub returns : goal.returns
 unfolding ended
 returns c = first_of (assumption, search (tests, rules), grind (arith, common_steps), grind (arith, elements))
+
+-- The first call that the prover tries finds nothing here, after long: the one that does is named.
+pub returns-then-self : goal.returns-then-self
+unfolding ended
+returns-then-self c = grind (arith, common_steps)
+
+pub returns-then-takes : goal.returns-then-takes
+unfolding ended
+returns-then-takes c = grind (arith, common_steps)
