@@ -1,3 +1,4 @@
 pub mod Masks
 pub mod Places
 pub mod Signed
+pub mod Back

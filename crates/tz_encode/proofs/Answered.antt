@@ -6,8 +6,8 @@ use Rattle.std.proofs.lemmas.Bool.{and_parts, and_from, cond-true, cond-false, c
 use Rattle.std.proofs.lemmas.Bool.Decides.{Decides-int_eq}
 use Rattle.std.proofs.Math.Nat.{mod-eq_of_lt}
 use Rattle.std.proofs.lemmas.List.{length-take-le}
-use Rattle.tz_fields.specs.Values.{values_of}
-use Rattle.tz_fields.proofs.Back.{same_values}
+use Rattle.tz_bits.specs.Values.{values_of}
+use Rattle.tz_bits.proofs.Back.{same_values}
 use Rattle.tz_table.specs.Patterns.{in_cube}
 use Rattle.tz_table.specs.Rows.{TableRow}
 use Rattle.tz_table.specs.declared.instruction.Insn.{Insn}

@@ -9,7 +9,7 @@ use Rattle.tz_table.specs.Terms.{signed_by, plus_or_minus, imm_shift_of, imm5_of
 use Rattle.tz_table.specs.Limits.{is_listed}
 use Rattle.tz_table.specs.declared.units.Shift.{Shift}
 use Rattle.tz_table.specs.declared.units.Shift.TheVariants as shifts
-use Rattle.tz_fields.specs.Values.{bool_number, shift_number}
+use Rattle.tz_bits.specs.Values.{bool_number, shift_number}
 use Rattle.tz_encode.specs.Limits.{entry}
 use Rattle.tz_encode.specs.Numbers.{unsigned_by, far, number_for, value_at, stands_for}
 use Rattle.tz_encode.specs.declared.coding.Coding.{Coding}

@@ -1,6 +1,6 @@
 -- What has to be shown of a row and its slots.
 use Rattle.std.specs.Prelude.{◌≡◌, ℕ, ◌<◌, ◌≤◌, ◌&&◌, Bool, true, List, [], ◌∷◌, ◌++◌, length, ℤ, pos}
-use Rattle.tz_fields.specs.Values.{values_of}
+use Rattle.tz_bits.specs.Values.{values_of}
 use Rattle.tz_table.specs.Patterns.{in_cube}
 use Rattle.tz_table.specs.Rows.{TableRow, holds}
 use Rattle.tz_encode.specs.Codes.{InRow}

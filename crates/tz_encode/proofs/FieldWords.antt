@@ -3,7 +3,7 @@ use Rattle.std.proofs.Common.{◌≡◌, ℕ, zero, suc, ◌+◌, ◌*◌, ◌/�
 use Rattle.std.specs.Prelude.{ℤ, pos, ◌==◌, if◌then◌else◌}
 use Rattle.std.proofs.lemmas.Bool.{cases_Bool, cond-true, cond-false, eqb-true}
 use Rattle.tz_table.specs.declared.units.Shift.TheVariants as shifts
-use Rattle.tz_fields.specs.Values.{bool_number, flags_number, shift_number, size_number}
+use Rattle.tz_bits.specs.Values.{bool_number, flags_number, shift_number, size_number}
 use Rattle.tz_table.specs.Fields.{bits}
 use Rattle.tz_table.specs.Terms.{is_one, flags_of, shift_of, size_of, plus_or_minus, imm5_of, imm_shift_of, imm_amount_of}
 

@@ -2,7 +2,7 @@
 use Rattle.std.proofs.Common.{◌≡◌, ℕ, Bool, false, ◌||◌, [], ◌∷◌, refl, ◌∙◌, arith}
 use Rattle.std.specs.Prelude.{pos, nat_abs, ◌==◌}
 use Rattle.std.proofs.lemmas.Bool.{or_parts, or_right}
-use Rattle.tz_fields.specs.Values.{size_number}
+use Rattle.tz_bits.specs.Values.{size_number}
 use Rattle.tz_table.specs.Fields.{bits}
 use Rattle.tz_table.specs.Limits.{plain, not_pc, can_store}
 use Rattle.tz_table.specs.Terms.{size_of}

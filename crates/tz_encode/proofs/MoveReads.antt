@@ -3,7 +3,7 @@ use Rattle.std.proofs.Common.{◌≡◌, ℕ, ◌/◌, ◌%◌, ◌<◌, Bool, t
 use Rattle.std.specs.Prelude.{ℤ, pos, nat_abs, ◌==◌}
 use Rattle.std.specs.Ordering.{int_eq}
 use Rattle.std.proofs.lemmas.Bool.{cases_Bool, and_parts, and_from, and_cases, both_ways, or_cases, or_left, or_right, eqb-true, eq-eqb, agree_below}
-use Rattle.tz_fields.specs.Values.{shift_number}
+use Rattle.tz_bits.specs.Values.{shift_number}
 use Rattle.tz_table.specs.Fields.{bits}
 use Rattle.tz_table.specs.Limits.{plain, can_move}
 use Rattle.tz_table.specs.Terms.{imm5_of, imm_shift_of, imm_amount_of}

@@ -2,7 +2,7 @@
 use Rattle.std.proofs.Common.{◌≡◌, ℕ, zero, suc, ◌+◌, ◌*◌, ◌<◌, true, false, not, ◌&&◌, ◌||◌, [], ◌∷◌, refl, sym, ◌∙◌, ap, arith}
 use Rattle.std.specs.Prelude.{ℤ, pos, nat_abs, ◌==◌, nat_le, count_ones, if◌then◌else◌}
 use Rattle.std.proofs.lemmas.Bool.{eqb-true, or_parts}
-use Rattle.tz_fields.specs.Values.{address_number, address_first, address_second, address_third}
+use Rattle.tz_bits.specs.Values.{address_number, address_first, address_second, address_third}
 use Rattle.tz_table.specs.Fields.{bits}
 use Rattle.tz_table.specs.Patterns.{second}
 use Rattle.tz_table.specs.Terms.{indexed}

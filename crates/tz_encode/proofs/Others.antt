@@ -5,7 +5,7 @@ use Rattle.std.specs.Ordering.{int_eq}
 use Rattle.std.proofs.lemmas.Bool.{and_parts, cases_Bool, cond-true, cond-false, eqb-true, eqb-false, ltb-true}
 use Rattle.tz_table.specs.Fields.{bits}
 use Rattle.tz_table.specs.Limits.{is_listed, not_zero}
-use Rattle.tz_fields.specs.Values.{bool_number}
+use Rattle.tz_bits.specs.Values.{bool_number}
 use Rattle.tz_encode.specs.Limits.{number_at, limit_holds}
 use Rattle.tz_encode.specs.Numbers.{value_at, takes}
 use Rattle.tz_encode.specs.Slots.{gathered, parts_in}

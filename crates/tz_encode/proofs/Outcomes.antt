@@ -5,8 +5,8 @@ use Rattle.tz_encode.proofs.Padding.{all_agree}
 use Rattle.tz_encode.specs.Encoded.{EncodedIn, LastBlame, code_of, meaning_of}
 use Rattle.tz_encode.specs.Search.{Found}
 use Rattle.tz_encode.specs.declared.error.EncodeError.TheVariants.{NoForm, Range}
-use Rattle.tz_fields.specs.Values.{names_of, values_of}
-use Rattle.tz_fields.specs.declared.names.FieldName.{FieldName}
+use Rattle.tz_bits.specs.Values.{names_of, values_of}
+use Rattle.tz_bits.specs.declared.names.FieldName.{FieldName}
 use Rattle.tz_encode.specs.Codes.{Blames, IsCode, Reaches, seconds}
 use Rattle.tz_table.proofs.Apart.{decode_row}
 use Rattle.tz_table.specs.Rows.{TableRow}

@@ -2,7 +2,7 @@
 use Rattle.std.proofs.Common.{◌≡◌, ℕ, ◌+◌, ◌-◌, ◌≤◌, ◌++◌, List, [], ◌∷◌, get_or, length, take, drop, replicate, ℤ, pos, nat_abs, refl, ap, sym, ◌∙◌, arith}
 use Rattle.std.proofs.lemmas.List.{take-append-drop, take-take}
 use Rattle.std.specs.Prelude.{◌==◌, ◌||◌, if◌then◌else◌}
-use Rattle.tz_fields.specs.Values.{names_of, values_of}
+use Rattle.tz_bits.specs.Values.{names_of, values_of}
 use Rattle.tz_table.specs.declared.instruction.Address.TheVariants as addresses
 use Rattle.tz_table.specs.declared.instruction.Insn.{Insn}
 use Rattle.tz_table.specs.declared.instruction.Insn.TheVariants as insns

@@ -3,7 +3,7 @@ use Rattle.std.proofs.Common.{◌≡◌, ℕ, zero, suc, ◌<◌, ◌≤◌, Lis
 use Rattle.std.proofs.lemmas.List.{take-take}
 use Rattle.std.proofs.lemmas.Option.{slice_get_cases}
 use Rattle.tz_encode.specs.Encoded.{HasCode, HasForm}
-use Rattle.tz_fields.specs.Values.{values_of}
+use Rattle.tz_bits.specs.Values.{values_of}
 use Rattle.tz_encode.specs.Codes.{IsCode, Reaches}
 use Rattle.tz_table.proofs.Data.{count_of_rows}
 use Rattle.tz_table.specs.Rows.{TableRow, row_of, rows_of, same_width}

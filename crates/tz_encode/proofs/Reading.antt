@@ -4,7 +4,7 @@ use Rattle.std.proofs.Common.{◌≡◌, ℕ, zero, suc, ◌<◌, true, false, n
 use Rattle.std.specs.Prelude.{ℤ, pos}
 use Rattle.std.specs.List.{list_all}
 use Rattle.std.proofs.lemmas.Bool.{and_from, cond-true, cond-false, cases_Bool, both_ways}
-use Rattle.tz_fields.specs.Values.{values_of}
+use Rattle.tz_bits.specs.Values.{values_of}
 use Rattle.tz_table.specs.Patterns.{Field, has, in_cube, has_any}
 use Rattle.tz_table.specs.Rows.{TableRow, holds, keeps}
 use Rattle.tz_table.specs.declared.units.Width.{Width}

@@ -2,7 +2,7 @@
 use Rattle.std.proofs.Common.{◌≡◌, ℕ, ◌+◌, ◌-◌, ◌/◌, ◌%◌, ◌<◌, Bool, true, false, not, ◌&&◌, ◌||◌, refl, sym, ◌∙◌, ap, inl, inr, arith}
 use Rattle.std.specs.Prelude.{◌==◌, nat_lt, nat_le, if◌then◌else◌}
 use Rattle.std.proofs.lemmas.Bool.{cases_Bool, and_left, and_right, eq-eqb, eqb-true, ne_eqb, eqb-false, leb-true, leb-false, agree_below_at}
-use Rattle.tz_fields.specs.Values.{bool_number}
+use Rattle.tz_bits.specs.Values.{bool_number}
 use Rattle.tz_table.specs.Fields.{bits}
 use Rattle.tz_encode.proofs.Tautologies.{always_2}
 use Rattle.tz_table.specs.Limits.{plain, not_pc, can_store_exclusive}

@@ -3,7 +3,7 @@
 use Rattle.std.proofs.Common.{◌≡◌, ℕ, true, false, ◌&&◌, [], ◌∷◌, refl, sym, ◌∙◌, ap, subst}
 use Rattle.std.specs.Prelude.{pos, ◌==◌, if◌then◌else◌}
 use Rattle.std.proofs.lemmas.Bool.{and_parts, and_from, eq-eqb, eqb-true}
-use Rattle.tz_fields.specs.Values.{values_of}
+use Rattle.tz_bits.specs.Values.{values_of}
 use Rattle.tz_table.specs.Fields.{bits}
 use Rattle.tz_table.specs.Limits.{plain, plain2, plain2_same}
 use Rattle.tz_table.specs.LoadRows.{pld_imm12, pld_negative, pld_index}

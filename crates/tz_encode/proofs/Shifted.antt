@@ -5,7 +5,7 @@ use Rattle.std.specs.Ordering.{int_eq}
 use Rattle.std.proofs.lemmas.Bool.{agree_below, agree_below_at, and_parts, or_cases, cases_Bool, both_ways, not-true, eqb-true, eqb-false, eq-eqb, ltb-true, cond-true, cond-false}
 use Rattle.tz_table.specs.Fields.{bits}
 use Rattle.tz_table.specs.Terms.{imm_shift_of, imm_amount_of, imm5_of}
-use Rattle.tz_fields.specs.Values.{shift_number}
+use Rattle.tz_bits.specs.Values.{shift_number}
 use Rattle.tz_encode.specs.Limits.{number_at, limit_holds}
 use Rattle.tz_encode.specs.Numbers.{amount_number, number_for, value_at, stands_for, takes, take_all, values_in}
 use Rattle.tz_encode.specs.Slots.{gathered, held_by, parts_in}

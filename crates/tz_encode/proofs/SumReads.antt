@@ -2,7 +2,7 @@
 use Rattle.std.proofs.Common.{◌≡◌, ℕ, ◌<◌, Bool, true, false, not, ◌&&◌, ◌||◌, [], ◌∷◌, refl, sym, ◌∙◌, ap, subst, inl, inr, arith}
 use Rattle.std.specs.Prelude.{pos, nat_abs, nat_le, ◌==◌, if◌then◌else◌}
 use Rattle.std.proofs.lemmas.Bool.{cases_Bool, or_right, eqb-true}
-use Rattle.tz_fields.specs.Values.{shift_number}
+use Rattle.tz_bits.specs.Values.{shift_number}
 use Rattle.tz_table.specs.Fields.{bits}
 use Rattle.tz_table.specs.Limits.{plain, not_pc, copies_zero, can_add_register, can_add_constant, can_add}
 use Rattle.tz_table.specs.Terms.{imm5_of, imm12_of, imm_shift_of, imm_amount_of}

@@ -10,8 +10,8 @@ use Rattle.std.proofs.lemmas.Slice.Eq.{slice_eq-Decides}
 use Rattle.tz_encode.proofs.Places.{same_width_is, same_width_not}
 use Rattle.tz_encode.specs.Encoded.{At, EncodedIn, FirstCode, HasCode, code_of}
 use Rattle.tz_encode.specs.Told.{first_from, halves, is_code, least_code, code_where, first_code, code_with}
-use Rattle.tz_fields.proofs.Back.{same_values}
-use Rattle.tz_fields.specs.Values.{values_of}
+use Rattle.tz_bits.proofs.Back.{same_values}
+use Rattle.tz_bits.specs.Values.{values_of}
 use Rattle.tz_encode.specs.Codes.{InRow, IsCode, IsLeastCode, seconds}
 use Rattle.tz_table.specs.Rows.{TableRow, holds, same_width}
 use Rattle.tz_table.specs.Table.{rows}

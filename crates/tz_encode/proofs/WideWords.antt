@@ -2,7 +2,7 @@
 use Rattle.std.proofs.Common.{◌≡◌, ℕ, zero, suc, ◌+◌, ◌-◌, ◌*◌, ◌%◌, ◌<◌, ◌^◌, false, List, [], ◌∷◌, refl, ◌∙◌, ap, arith}
 use Rattle.std.specs.Prelude.{ℤ, pos, ◌==◌}
 use Rattle.std.proofs.lemmas.Bool.{eqb-false}
-use Rattle.tz_fields.specs.Values.{size_number, address_number, address_first, address_second, address_third}
+use Rattle.tz_bits.specs.Values.{size_number, address_number, address_first, address_second, address_third}
 use Rattle.tz_table.specs.Fields.{bits}
 use Rattle.tz_table.specs.Terms.{size_of, indexed, far_offset}
 use Rattle.tz_encode.proofs.FieldWords.{size_word}

@@ -1,6 +1,6 @@
 -- The codes of an instruction in a row, and what is to blame where there is none.
 use Rattle.std.specs.Prelude.{◌≡◌, ℕ, suc, ◌+◌, ◌*◌, ◌<◌, ◌≤◌, true, take, Result, Ok, Err}
-use Rattle.tz_fields.specs.Values.{values_of}
+use Rattle.tz_bits.specs.Values.{values_of}
 use Rattle.tz_table.specs.Rows.{TableRow, holds}
 use Rattle.tz_table.specs.declared.instruction.Insn.{Insn}
 use Rattle.tz_table.specs.declared.units.Width.{Width}

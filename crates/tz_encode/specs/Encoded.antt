@@ -2,7 +2,7 @@
 use Rattle.std.specs.Prelude.{◌≡◌, ℕ, ◌+◌, ◌<◌, List, Option, Some, None, slice_get, Result, Ok, Err}
 use Rattle.tz_encode.specs.declared.error.EncodeError.{EncodeError}
 use Rattle.tz_encode.specs.declared.error.EncodeError.TheVariants.{NoForm, Range}
-use Rattle.tz_fields.specs.Values.{names_of}
+use Rattle.tz_bits.specs.Values.{names_of}
 use Rattle.tz_encode.specs.Codes.{Blames, IsCode, IsLeastCode, Reaches}
 use Rattle.tz_table.specs.Rows.{TableRow}
 use Rattle.tz_table.specs.Table.{decode_of}

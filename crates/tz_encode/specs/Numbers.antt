@@ -4,7 +4,7 @@ use Rattle.std.specs.Ordering.{int_eq}
 use Rattle.tz_table.specs.Fields.{bits}
 use Rattle.tz_table.specs.Limits.{is_listed}
 use Rattle.tz_table.specs.Terms.{signed_by, plus_or_minus, imm_shift_of, imm_amount_of, imm5_of}
-use Rattle.tz_fields.specs.Values.{bool_number, shift_number}
+use Rattle.tz_bits.specs.Values.{bool_number, shift_number}
 use Rattle.tz_encode.specs.Slots.{parts_in, gathered, held_by, placed}
 use Rattle.tz_encode.specs.Limits.{entry, number_at, limit_holds}
 use Rattle.tz_encode.specs.declared.coding.Coding.{Coding}

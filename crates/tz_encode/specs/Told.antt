@@ -4,7 +4,7 @@ use Rattle.std.specs.Cmp.Lexicographic.{pointwise}
 use Rattle.std.specs.Option.{option_or}
 use Rattle.std.specs.Ordering.{int_eq}
 use Rattle.tz_encode.specs.Encoded.{code_of}
-use Rattle.tz_fields.specs.Values.{values_of}
+use Rattle.tz_bits.specs.Values.{values_of}
 use Rattle.tz_encode.specs.Codes.{seconds}
 use Rattle.tz_table.specs.Rows.{TableRow, holds, same_width}
 use Rattle.tz_table.specs.Table.{rows}

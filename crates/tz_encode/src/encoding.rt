@@ -8,7 +8,7 @@ ghost use Rattle.tz_table.specs.declared.decoded.Decoded.TheVariants.{One};
 
 use crate::error::EncodeError;
 use crate::search::find;
-use tz_fields::{field_name, values};
+use tz_bits::{field_name, values};
 use tz_table::{Code, Insn, Width};
 
 /// Two halfwords as a code of the width: a narrow code has no second one.

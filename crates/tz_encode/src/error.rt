@@ -1,6 +1,6 @@
 //! Why an instruction has no code of a width.
 
-use tz_fields::FieldName;
+use tz_bits::FieldName;
 
 /// Why there is no code.
 #[derive(Clone, Copy, PartialEq, Eq, Debug)]

@@ -2,7 +2,7 @@
 //! none.
 //!
 //! It follows the instruction table of `tz_table`, by which a code means its instruction again. A row has
-//! eight slots, in the order of the values that `tz_fields` gives of an instruction after the variant. A slot
+//! eight slots, in the order of the values that `tz_bits` gives of an instruction after the variant. A slot
 //! says which bits of a code hold the field, how they stand for its value, and which values the row takes
 //! beside the fields before it. From slots alone `answer` has the code of an instruction, or the first field
 //! that no code has. `shapes` has the slots of each row. That they are the row's is proved row by row: the
@@ -32,5 +32,5 @@ pub use search::find;
 pub use shapes::{SHAPES, slots_at};
 pub use slot::{Half, Part, Parts, Slot};
 pub use trying::try_row;
-pub use tz_fields::FieldName;
+pub use tz_bits::FieldName;
 pub use writing::answer;

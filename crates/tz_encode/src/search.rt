@@ -5,7 +5,7 @@
 
 ghost use Rattle.std.specs.Prelude.{◌≡◌, ◌<◌, ◌+◌, length, slice_get, Some, Err};
 ghost use Rattle.tz_encode.specs.Search.{Found};
-ghost use Rattle.tz_fields.specs.Values.{values_of};
+ghost use Rattle.tz_bits.specs.Values.{values_of};
 ghost use Rattle.tz_table.specs.Rows.{TableRow, same_width};
 ghost use Rattle.tz_table.specs.Table.{rows};
 ghost use Rattle.tz_table.specs.declared.instruction.Insn.{Insn};

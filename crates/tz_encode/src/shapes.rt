@@ -1,7 +1,7 @@
 //! The slots of each row of the instruction table.
 //!
 //! A line has the eight slots of its row: the four fields of the form, then the four numbers, as
-//! `tz_fields` orders them. `_` is a field that is 0, and `(= 2)` one that is 2. `(First 3 4; Plain)`
+//! `tz_bits` orders them. `_` is a field that is 0, and `(= 2)` one that is 2. `(First 3 4; Plain)`
 //! stands for bits 6:3 of the first halfword, of which the limit comes behind `;`. A field of several
 //! parts has `half low width shift` for each, the highest bits of its number first.
 

@@ -1,7 +1,7 @@
 //! What one row of the instruction table gives for an instruction.
 
 ghost use Rattle.std.specs.Prelude.{◌≡◌, ◌≤◌, length, slice_get, Some, Err};
-ghost use Rattle.tz_fields.specs.Values.{values_of};
+ghost use Rattle.tz_bits.specs.Values.{values_of};
 ghost use Rattle.tz_encode.specs.Codes.{Tried};
 ghost use Rattle.tz_table.specs.Rows.{TableRow};
 ghost use Rattle.tz_table.specs.Table.{rows};
@@ -12,7 +12,7 @@ use crate::writing::answer;
 use tz_table::row_at;
 
 /// The halfwords of the least code that the row at `index` has of the instruction with these values, as
-/// `tz_fields` gives them; of a narrow row the second is 0. Else the place of the first value that no code
+/// `tz_bits` gives them; of a narrow row the second is 0. Else the place of the first value that no code
 /// of the row has together with those before it: 0 is the variant. That is the place at and past the end
 /// of the table, too.
 pub fn try_row(index: usize, values: &[i32; 9]) -> Result<(u16, u16), usize>

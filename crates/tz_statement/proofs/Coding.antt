@@ -8,7 +8,7 @@ use Rattle.std.specs.Ordering.{int_eq}
 use Rattle.tz_encode.proofs.Outcomes.{again, encoded_code}
 use Rattle.tz_encode.specs.Encoded.{EncodedIn, FirstCode, code_of, meaning_of}
 use Rattle.tz_encode.specs.Search.{Found}
-use Rattle.tz_fields.specs.Values.{values_of}
+use Rattle.tz_bits.specs.Values.{values_of}
 use Rattle.tz_table.specs.Table.{rows}
 use Rattle.tz_table.specs.declared.decoded.Decoded.{Decoded}
 use Rattle.tz_table.specs.declared.decoded.Decoded.TheVariants.{One, NoCoprocessor, Undefined}

@@ -2,7 +2,7 @@
 use Rattle.std.proofs.Common.{◌≡◌, ℕ, ◌+◌, ◌*◌, ◌<◌, Bool, true, false, ◌&&◌, List, [], ◌∷◌, Option, Some, None, Result, Ok, is_none, inl, inr, ap, sym, ◌∙◌, subst, arith, ℤ}
 use Rattle.std.proofs.lemmas.Bool.{cases_order}
 use Rattle.tz_encode.specs.Encoded.{At, EncodedIn, FirstCode, code_of}
-use Rattle.tz_fields.proofs.Back.{same_values}
+use Rattle.tz_bits.proofs.Back.{same_values}
 use Rattle.tz_encode.specs.Codes.{IsLeastCode, seconds}
 use Rattle.tz_syntax.specs.Rows.{TextRow}
 use Rattle.tz_table.specs.Rows.{TableRow}

@@ -5,7 +5,7 @@ use Rattle.tz_syntax.specs.Tokens.{TokenValue}
 use Rattle.tz_encode.specs.Encoded.{At, EncodedIn, FirstCode, code_of}
 use Rattle.tz_encode.specs.Told.{first_code, code_with}
 use Rattle.tz_encode.proofs.Told.{IsTold, means_some, told_of}
-use Rattle.tz_fields.specs.Values.{values_of}
+use Rattle.tz_bits.specs.Values.{values_of}
 use Rattle.tz_syntax.specs.Rows.{TextRow}
 use Rattle.tz_table.specs.Table.{rows}
 use Rattle.tz_table.specs.declared.instruction.Insn.{Insn}

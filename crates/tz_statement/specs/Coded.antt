@@ -5,7 +5,7 @@ use Rattle.std.specs.List.{list_any}
 use Rattle.std.specs.Ordering.{int_eq}
 use Rattle.tz_syntax.specs.Tokens.{TokenValue}
 use Rattle.tz_encode.specs.Encoded.{EncodedIn, meaning_of}
-use Rattle.tz_fields.specs.Values.{values_of}
+use Rattle.tz_bits.specs.Values.{values_of}
 use Rattle.tz_syntax.specs.Rows.{TextRow}
 use Rattle.tz_table.specs.Table.{rows}
 use Rattle.tz_table.specs.declared.decoded.Decoded.{Decoded}

@@ -51,7 +51,7 @@ fn means(code: Code, values: &[i32; 9]) -> bool
     ensures { result ≡ means code values.now }
 {
     match decode(code.first, code.second.unwrap_or(0)) {
-        Decoded::One(insn, _) => tz_fields::values(&insn) == *values,
+        Decoded::One(insn, _) => tz_bits::values(&insn) == *values,
         _ => false,
     }
 }

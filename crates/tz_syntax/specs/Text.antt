@@ -1,7 +1,7 @@
 -- The text of an instruction: that of the first row that fits.
 use Rattle.std.specs.Prelude.{ℕ, List, [], ◌++◌, Option, Some, None, ℤ}
 use Rattle.std.specs.List.{find}
-use Rattle.tz_fields.specs.Values.{values_of}
+use Rattle.tz_bits.specs.Values.{values_of}
 use Rattle.tz_table.specs.declared.instruction.Insn.{Insn}
 use Rattle.tz_table.specs.declared.units.Width.{Width}
 use Rattle.tz_syntax.specs.DataTexts.{constants, registers, other_data}

@@ -9,7 +9,7 @@ use crate::pieces::push_pieces;
 use crate::row::Row;
 use crate::search::row_of;
 use arrayvec::ArrayString;
-use tz_fields::values;
+use tz_bits::values;
 use tz_table::{Insn, Width};
 
 /// What a row prints.

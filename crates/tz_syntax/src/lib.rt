@@ -2,7 +2,7 @@
 //! a text, with the tokens of a line of source: words, numbers and marks.
 //!
 //! `instruction_text` gives exactly what the definition `text_of` says, and `push_instruction` appends it to
-//! a line that is lent. A row names its mnemonic and, piece by piece, which of the nine values of `tz_fields`
+//! a line that is lent. A row names its mnemonic and, piece by piece, which of the nine values of `tz_bits`
 //! stands where, so the same row also tells the values of a text. Nothing here knows a code or a state.
 //!
 //! What the lines of a text are, what a line's tokens are, and which lines aren't lists of tokens, is said by

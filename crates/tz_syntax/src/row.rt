@@ -1,6 +1,6 @@
 //! Rows of text: which instructions have them, and of which pieces their text is.
 //!
-//! A place is that of one of the nine values of an instruction, as `tz_fields` gives them: 0 is the form,
+//! A place is that of one of the nine values of an instruction, as `tz_bits` gives them: 0 is the form,
 //! 1 to 4 are its words, 5 to 8 its numbers.
 
 use tz_table::Width;

@@ -2,7 +2,7 @@
 use Rattle.std.proofs.Common.{◌≡◌, ◌≢◌, ℕ, Bool, true, false, refl, ap, subst, arith, List, [], ◌∷◌, length, length-append, inl, inr, nat_lt, find, ℤ}
 use Rattle.std.specs.List.{list_all, list_any}
 use Rattle.std.proofs.lemmas.Bool.{and_parts, cases_Bool, cond_both, ltb-true, or_cases}
-use Rattle.tz_fields.specs.Values.{values_of}
+use Rattle.tz_bits.specs.Values.{values_of}
 use Rattle.tz_table.specs.Patterns.{in_cube}
 use Rattle.tz_table.specs.Rows.{RefusedCodes, TableRow, holds, refused, scan}
 use Rattle.tz_table.specs.Table.{decode_of, refusals, rows}

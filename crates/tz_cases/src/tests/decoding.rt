@@ -1,8 +1,8 @@
 //! Codes against GNU binutils, by their numbers, and codes that are no instruction.
 
 use crate::tests::codes::CODES;
+use tz_bits::values;
 use tz_decode::{Decoded, decode, needs_second};
-use tz_fields::values;
 use tz_table::Width;
 
 /// The halfword of four digits that a word is.

@@ -1,6 +1,6 @@
 //! An addition and a load, field by field.
 
-use tz_fields::{FieldName, field_name, values};
+use tz_bits::{FieldName, field_name, values};
 use tz_table::{Address, DataOp, Flags, Insn, Shift, Size};
 
 #[test]

@@ -1,7 +1,7 @@
 use Rattle.std.proofs.Common.{◌≡◌, Err}
 use Rattle.tz_encode.proofs.search.find.Given as goal
 use Rattle.tz_encode.specs.Search.{Found}
-use Rattle.tz_fields.specs.Values.{values_of}
+use Rattle.tz_bits.specs.Values.{values_of}
 use Rattle.tz_table.specs.Table.{rows}
 use Rattle.tz_table.specs.declared.instruction.Insn.{Insn}
 

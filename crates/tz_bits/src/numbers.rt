@@ -1,7 +1,7 @@
 //! The numbers of an instruction: its registers, constants and offsets.
 
 ghost use Rattle.std.specs.Prelude.{[], ◌∷◌, ◌≡◌, ◌≤◌, drop, pos};
-ghost use Rattle.tz_fields.specs.Values.{values_of};
+ghost use Rattle.tz_bits.specs.Values.{values_of};
 ghost use Rattle.tz_table.specs.Forms.{form_of};
 
 use crate::kinds::{address_first, address_second, address_third};

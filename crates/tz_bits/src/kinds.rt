@@ -3,7 +3,7 @@
 
 ghost use Rattle.std.specs.Prelude.{◌≡◌, pos};
 ghost use Rattle.tz_table.specs.Forms.{data_number as data_number_of, field_number as field_number_of, extend_number as extend_number_of, reverse_number as reverse_number_of, multiply_number as multiply_number_of, long_number as long_number_of, barrier_number as barrier_number_of};
-ghost use Rattle.tz_fields.specs.Values.{address_first as address_first_of, address_number as address_number_of, address_second as address_second_of, address_third as address_third_of, flags_number as flags_number_of, shift_number as shift_number_of, size_number as size_number_of};
+ghost use Rattle.tz_bits.specs.Values.{address_first as address_first_of, address_number as address_number_of, address_second as address_second_of, address_third as address_third_of, flags_number as flags_number_of, shift_number as shift_number_of, size_number as size_number_of};
 
 use tz_table::{
     Address, BarrierOp, DataOp, ExtendOp, FieldOp, Flags, LongOp, MultiplyOp, ReverseOp, Shift,

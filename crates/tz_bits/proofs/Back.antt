@@ -1,7 +1,7 @@
 -- An instruction from its nine numbers: so no two instructions have the same.
 use Rattle.std.specs.Prelude.{ℕ, ◌==◌, ◌-◌, nat_lt, if◌then◌else◌, Bool, true, false, ℤ, pos, negsuc, List, [], ◌∷◌, ◌≡◌, refl}
 use Rattle.std.proofs.Common.{sym, ◌∙◌, ap}
-use Rattle.tz_fields.specs.Values.{bool_number, flags_number, shift_number, size_number, address_number, address_first, address_second, address_third, values_of}
+use Rattle.tz_bits.specs.Values.{bool_number, flags_number, shift_number, size_number, address_number, address_first, address_second, address_third, values_of}
 use Rattle.tz_table.specs.declared.instruction.Insn.{Insn}
 use Rattle.tz_table.specs.declared.instruction.Insn.TheVariants as insns
 use Rattle.tz_table.specs.declared.instruction.Address.{Address}

@@ -1,6 +1,6 @@
 use Rattle.std.proofs.Common.{arith, rules, tests}
 use Rattle.std.proofs.lemmas.Grind.{common_steps, elements}
-use Rattle.tz_fields.proofs.kinds.address_first.Goals as goal
+use Rattle.tz_bits.proofs.kinds.address_number.Goals as goal
 
 -- What the tactics try, by name: a body that is refused is then told without a search for what to offer.
 pub returns-in-Index : goal.returns-in-Index

@@ -3,22 +3,14 @@
 //!
 //! Decoding's tests and encoding speak of instructions by these numbers, since they say all of an
 //! instruction: no two instructions have the same nine. Nothing here knows a code.
-#![tactic(auto)]
 
 ghost use Rattle.std.specs.Prelude.{◌≡◌};
-ghost use Rattle.tz_fields.specs.Values.{values_of};
+ghost use Rattle.tz_bits.specs.Values.{values_of};
 ghost use Rattle.tz_table.specs.declared.instruction.Insn.{Insn};
-
-use tz_table::Insn;
-
-mod forms;
-mod kinds;
-mod names;
-mod numbers;
 
 use crate::forms::{form_number, form_words};
 use crate::numbers::numbers;
-pub use names::{FieldName, field_name};
+use tz_table::Insn;
 
 /// The nine numbers of an instruction: the number of its variant with its operation, its four fields of a named
 /// kind or of yes and no, and its four numbers, in the order of its fields and with those of an address in the

@@ -13,8 +13,8 @@ use Rattle.tz_table.specs.declared.units.Shift.{Shift}
 use Rattle.tz_table.specs.declared.units.Shift.TheVariants as shifts
 use Rattle.tz_table.specs.declared.units.Size.{Size}
 use Rattle.tz_table.specs.declared.units.Size.TheVariants as sizes
-use Rattle.tz_fields.specs.declared.names.FieldName.{FieldName}
-use Rattle.tz_fields.specs.declared.names.FieldName.TheVariants as names
+use Rattle.tz_bits.specs.declared.names.FieldName.{FieldName}
+use Rattle.tz_bits.specs.declared.names.FieldName.TheVariants as names
 
 abbrev pub bool_number : Bool → ℕ
 bool_number false = 0

@@ -2,7 +2,7 @@
 //! or of yes and no.
 
 ghost use Rattle.std.specs.Prelude.{◌≡◌, ◌≤◌, pos, drop, take};
-ghost use Rattle.tz_fields.specs.Values.{values_of};
+ghost use Rattle.tz_bits.specs.Values.{values_of};
 ghost use Rattle.tz_table.specs.Forms.{form_of};
 
 use crate::kinds::{

@@ -1,8 +1,8 @@
 //! The names of an instruction's fields, and which of them stands in which place of its numbers.
 
 ghost use Rattle.std.specs.Prelude.{◌∷◌, ◌≡◌, ◌≤◌, slice_get};
-ghost use Rattle.tz_fields.specs.Values.{address_names, names_of, pair_names};
-ghost use Rattle.tz_fields.specs.declared.names.FieldName.TheVariants as names;
+ghost use Rattle.tz_bits.specs.Values.{address_names, names_of, pair_names};
+ghost use Rattle.tz_bits.specs.declared.names.FieldName.TheVariants as names;
 ghost use Rattle.tz_table.specs.Forms.{form_of};
 
 use tz_table::{Address, Insn};
