@@ -6,7 +6,7 @@ use Rattle.tz_table.specs.declared.units.Side.{Side}
 use Rattle.tz_table.specs.declared.units.Side.TheVariants.{Secure, NonSecure}
 use Rattle.tz_model.specs.declared.report.Slot.{Slot}
 use Rattle.tz_state.specs.Slots.{ExceptionsValue, is_banked, index_of, side_at}
-use Rattle.tz_entry.specs.Leave.{is_side}
+use Rattle.tz_frames.specs.Leave.{is_side}
 
 -- the numbers, one by one
 banked_one : (n : ℕ) → is_banked n ≡ true → (n ≡ 3) ⊎ ((n ≡ 4) ⊎ ((n ≡ 6) ⊎ ((n ≡ 11) ⊎ ((n ≡ 14) ⊎ (n ≡ 15)))))

@@ -6,8 +6,8 @@ use Rattle.tz_model.specs.declared.report.Slot.{Slot}
 use Rattle.tz_regs.specs.declared.parts.Core.{Core}
 use Rattle.tz_state.specs.Slots.{ExceptionsValue}
 use Rattle.tz_frames.specs.Looks.{Looking}
-use Rattle.tz_entry.specs.declared.leaving.Returning.{Returning}
-use Rattle.tz_entry.specs.Leave.{returning_by, slot_returning, noted, freed, unhandled, leaves, leaves_as, leaves_noting}
+use Rattle.tz_frames.specs.declared.leaving.Returning.{Returning}
+use Rattle.tz_frames.specs.Leave.{returning_by, slot_returning, noted, freed, unhandled, leaves, leaves_as, leaves_noting}
 
 pub leaves_told : {H : Type 0} → (look : Looking H) (profile : Profile) (c : Core) (e : ExceptionsValue) (h : H) (value : ℕ) (r : Returning) (n : Option Fault) (s : Slot) (left : Core) (freed_of : ExceptionsValue)
     → r ≡ returning_by c.run.side value → n ≡ noted c e value → s ≡ slot_returning c r → left ≡ unhandled e r c → freed_of ≡ freed e s

@@ -2,7 +2,7 @@
 use Rattle.std.proofs.Common.{◌≡◌, ℕ, zero, suc, ◌-◌, ◌≢◌, refl, arith}
 use Rattle.tz_model.specs.declared.board.Profile.{Profile}
 use Rattle.tz_frames.specs.Looks.{Looking}
-use Rattle.tz_entry.specs.Enter.{Work, choosing, goes_on, locked_up, tries}
+use Rattle.tz_frames.specs.Enter.{Work, choosing, goes_on, locked_up, tries}
 
 pub tries_more : {H : Type 0} → (look : Looking H) (profile : Profile) (n : ℕ) (w : Work H) → n ≢ 0 → tries look profile n w ≡ goes_on (tries look profile (n - 1)) (choosing look profile w).work (choosing look profile w).choice
 unfolding tries

@@ -3,17 +3,16 @@
 
 ghost use Rattle.std.specs.Prelude.{◌≡◌, ◌≤◌, ◌+◌, true, false};
 ghost use Rattle.tz_state.specs.Slots.{exists};
-ghost use Rattle.tz_entry.specs.declared.entering.Entered.TheVariants as entered;
-ghost use Rattle.tz_entry.specs.Enter.{Work, falls, callee_process, callee_privileged, raised_choice, stacked, taking, choosing, tries, with_lock};
-ghost use Rattle.tz_entry.specs.Stack.{pushed_additional};
+ghost use Rattle.tz_frames.specs.declared.entering.Entered.TheVariants as entered;
+ghost use Rattle.tz_frames.specs.Enter.{Work, falls, callee_process, callee_privileged, raised_choice, stacked, taking, choosing, tries, with_lock};
+ghost use Rattle.tz_frames.specs.Stack.{pushed_additional};
 ghost use Rattle.tz_excret.specs.Room.{need};
 
 use crate::choice::chosen;
 use crate::raise::raise_frame_fault;
 use crate::sides::is_secure;
 use crate::vector::take_vector;
-use tz_entry::{Choice, Entered, Entering};
-use tz_frames::Frames;
+use tz_frames::{Choice, Entered, Entering, Frames};
 use tz_model::{Profile, Side, Slot};
 use tz_nvic::Exceptions;
 use tz_regs::Core;
@@ -92,7 +91,7 @@ fn take_stacked<P: Frames>(
 }
 
 /// Takes an exception, with the additional frame where it is due. The slot exists.
-#[tactic(auto, unfolding(tz_entry::specs::Enter::taking))]
+#[tactic(auto, unfolding(tz_frames::specs::Enter::taking))]
 fn take<P: Frames>(
     core: &mut Core,
     exceptions: &mut Exceptions,
@@ -116,7 +115,7 @@ fn take<P: Frames>(
 }
 
 /// Takes the exception that comes first; without one the core locks.
-#[tactic(auto, unfolding(tz_entry::specs::Enter::choosing))]
+#[tactic(auto, unfolding(tz_frames::specs::Enter::choosing))]
 fn choose<P: Frames>(
     core: &mut Core,
     exceptions: &mut Exceptions,

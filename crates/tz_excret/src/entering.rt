@@ -1,14 +1,13 @@
 //! Entry from running code (DDI0553, `ExceptionEntry`).
 
 ghost use Rattle.std.specs.Prelude.{◌≡◌, ◌≤◌, ◌+◌};
-ghost use Rattle.tz_entry.specs.Enter.{interrupted, enters};
+ghost use Rattle.tz_frames.specs.Enter.{interrupted, enters};
 ghost use Rattle.tz_excret.specs.Room.{need};
 
 use crate::choices::{lock, make_choices};
 use crate::raise::raise_frame_fault;
 use crate::sides::is_secure;
-use tz_entry::{Entered, Entering};
-use tz_frames::Frames;
+use tz_frames::{Entered, Entering, Frames};
 use tz_model::Profile;
 use tz_nvic::Exceptions;
 use tz_regs::Core;
@@ -38,7 +37,7 @@ fn interrupted(core: &Core) -> Entering
 /// `Taken` tells the exception, and whether a vector of a Secure exception was read. `Lockup` where a fault of the
 /// entry can't be taken, even as HardFault, where the vector of NMI or HardFault fails, or where no exception pends:
 /// then the core is locked.
-#[tactic(auto, unfolding(tz_entry::specs::Enter::enters))]
+#[tactic(auto, unfolding(tz_frames::specs::Enter::enters))]
 pub fn enter<P: Frames>(
     core: &mut Core,
     exceptions: &mut Exceptions,

@@ -2,12 +2,11 @@
 
 ghost use Rattle.std.specs.Prelude.{◌≡◌, ◌≤◌};
 ghost use Rattle.tz_regs.specs.Special.{apsr_from};
-ghost use Rattle.tz_entry.specs.Registers.{number_in, general_of, resumed_registers};
-ghost use Rattle.tz_entry.specs.Leave.{has_callee, returns_to_process, returns_privileged, return_sp, unstacked, frames_size, sp_above, resumed, modes_agree};
+ghost use Rattle.tz_frames.specs.Registers.{number_in, general_of, resumed_registers};
+ghost use Rattle.tz_frames.specs.Leave.{has_callee, returns_to_process, returns_privileged, return_sp, unstacked, frames_size, sp_above, resumed, modes_agree};
 
 use crate::sides::side_by;
-use tz_entry::{Basic, Callee, Returning, Unstacked};
-use tz_frames::Frames;
+use tz_frames::{Basic, Callee, Frames, Returning, Unstacked};
 use tz_regs::{Apsr, Core, Registers};
 use tz_stack::{StackFault, pop_additional, pop_basic, set_side_sp};
 
@@ -46,7 +45,7 @@ fn return_sp(core: &Core, returning: &Returning) -> u32
 ///
 /// `Access` with the fault of the first word that can't be read, `Signature` where the additional frame doesn't begin
 /// with the integrity signature.
-#[tactic(auto, unfolding(tz_entry::specs::Leave::unstacked))]
+#[tactic(auto, unfolding(tz_frames::specs::Leave::unstacked))]
 pub(crate) fn unstack<P: Frames>(
     core: &Core,
     port: &mut P,

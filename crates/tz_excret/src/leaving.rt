@@ -1,9 +1,9 @@
 //! Return from an exception (DDI0553, `ExceptionReturn`, `TailChain`).
 
 ghost use Rattle.std.specs.Prelude.{◌≡◌, ◌≤◌, ◌+◌};
-ghost use Rattle.tz_entry.specs.Status.{faulted, frame_faulted};
-ghost use Rattle.tz_entry.specs.Enter.{with_lock};
-ghost use Rattle.tz_entry.specs.Leave.{left_of, chaining, chained, chained_raised, resumes, goes_back, leaves, unstacked};
+ghost use Rattle.tz_frames.specs.Status.{faulted, frame_faulted};
+ghost use Rattle.tz_frames.specs.Enter.{with_lock};
+ghost use Rattle.tz_frames.specs.Leave.{left_of, chaining, chained, chained_raised, resumes, goes_back, leaves, unstacked};
 
 use crate::choice::takes;
 use crate::choices::make_choices;
@@ -12,8 +12,7 @@ use crate::noted::{noted, returning_by, slot_returning};
 use crate::raise::{raise_fault_of, raise_frame_fault};
 use crate::release::{free, unhandle};
 use crate::sides::side_by;
-use tz_entry::{Entered, Entering, Left, Returning, Unstacked};
-use tz_frames::Frames;
+use tz_frames::{Entered, Entering, Frames, Left, Returning, Unstacked};
 use tz_model::{Fault, Profile, Side};
 use tz_nvic::Exceptions;
 use tz_regs::Core;
@@ -45,7 +44,7 @@ fn left_of(entered: Entered) -> Left
 }
 
 /// Takes the exception that comes first in place of the one that returns.
-#[tactic(auto, unfolding(tz_entry::specs::Leave::chained))]
+#[tactic(auto, unfolding(tz_frames::specs::Leave::chained))]
 fn chain<P: Frames>(
     core: &mut Core,
     exceptions: &mut Exceptions,
@@ -115,7 +114,7 @@ fn resume_by<P: Frames>(
 }
 
 /// Another exception that can be taken comes first, or the code that was interrupted goes on.
-#[tactic(auto, unfolding(tz_entry::specs::Leave::goes_back))]
+#[tactic(auto, unfolding(tz_frames::specs::Leave::goes_back))]
 fn go_back<P: Frames>(
     core: &mut Core,
     exceptions: &mut Exceptions,
@@ -145,7 +144,7 @@ fn go_back<P: Frames>(
 /// fault of this return, is taken in its place. `Lockup` where a fault can't be taken, even as HardFault, or where
 /// the vector of NMI or HardFault fails: then the core is locked. Each tells whether a frame of a Secure stack or a
 /// vector of a Secure exception was read.
-#[tactic(auto, unfolding(tz_entry::specs::Leave::leaves))]
+#[tactic(auto, unfolding(tz_frames::specs::Leave::leaves))]
 pub fn leave<P: Frames>(
     core: &mut Core,
     exceptions: &mut Exceptions,

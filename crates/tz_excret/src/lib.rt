@@ -1,7 +1,7 @@
 //! Exceptions as they are raised, taken and left (DDI0553, chapter B3): what a fault sets and pends, entry and
 //! return, over any `Frames`.
 //!
-//! Each call is its definition in `tz_entry`. Nothing here reaches memory but through the frames.
+//! Each call is its definition in `tz_frames`. Nothing here reaches memory but through the frames.
 #![tactic(auto)]
 
 mod choice;
@@ -21,4 +21,4 @@ pub use entering::enter;
 pub use leaving::leave;
 pub use noted::is_exc_return;
 pub use raise::raise_fault;
-pub use tz_entry::{Entered, Left};
+pub use tz_frames::{Entered, Left};

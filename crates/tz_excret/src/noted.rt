@@ -2,10 +2,10 @@
 
 ghost use Rattle.std.specs.Prelude.{◌≡◌, true, ◌||◌};
 ghost use Rattle.tz_state.specs.Slots.{exists, at, index_of, side_at, is_banked};
-ghost use Rattle.tz_entry.specs.Leave.{is_exc_return, is_set, returning_by, slot_returning, is_well_formed, is_forged, is_side, is_returnable, noted};
+ghost use Rattle.tz_frames.specs.Leave.{is_exc_return, is_set, returning_by, slot_returning, is_well_formed, is_forged, is_side, is_returnable, noted};
 
 use crate::sides::{is_secure, side_by};
-use tz_entry::Returning;
+use tz_frames::Returning;
 use tz_model::{Fault, Side, Slot};
 use tz_nvic::Exceptions;
 use tz_regs::Core;

@@ -3,10 +3,10 @@
 ghost use Rattle.std.specs.Prelude.{◌≡◌, true};
 ghost use Rattle.tz_state.specs.Slots.{exists};
 ghost use Rattle.tz_state.specs.Escalation.{hard_side};
-ghost use Rattle.tz_entry.specs.Status.{exception_of, frame_exception, raised, faulted, frame_faulted};
+ghost use Rattle.tz_frames.specs.Status.{exception_of, frame_exception, raised, faulted, frame_faulted};
 
 use crate::status::{set_frame_status, set_hfsr, set_status};
-use tz_entry::StackFault;
+use tz_frames::StackFault;
 use tz_model::{Fault, Side, Slot};
 use tz_nvic::Exceptions;
 use tz_prio::{Taken, escalate};

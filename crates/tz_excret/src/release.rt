@@ -3,10 +3,10 @@
 ghost use Rattle.std.specs.Prelude.{◌≡◌, true};
 ghost use Rattle.tz_state.specs.Slots.{exists};
 ghost use Rattle.tz_state.specs.Execution.{raw_priority};
-ghost use Rattle.tz_entry.specs.Leave.{is_urgent, urgent_slot, freed, keeps_faultmask, unmasked, unhandled};
+ghost use Rattle.tz_frames.specs.Leave.{is_urgent, urgent_slot, freed, keeps_faultmask, unmasked, unhandled};
 
 use crate::sides::{set_spsel, side_by};
-use tz_entry::Returning;
+use tz_frames::Returning;
 use tz_model::{Side, Slot};
 use tz_nvic::Exceptions;
 use tz_regs::{Core, Masks};

@@ -2,8 +2,8 @@
 
 ghost use Rattle.std.specs.Prelude.{◌≡◌};
 ghost use Rattle.tz_regs.specs.Banks.{stacks_of, with_stacks};
-ghost use Rattle.tz_entry.specs.Enter.{is_secure};
-ghost use Rattle.tz_entry.specs.Leave.{side_by};
+ghost use Rattle.tz_frames.specs.Enter.{is_secure};
+ghost use Rattle.tz_frames.specs.Leave.{side_by};
 
 use tz_model::Side;
 use tz_regs::Core;

@@ -1,9 +1,9 @@
 //! The status bits and the addresses that faults set.
 
 ghost use Rattle.std.specs.Prelude.{◌≡◌};
-ghost use Rattle.tz_entry.specs.Status.{with_ufsr, with_mmfsr, with_mmfar, with_bfsr, with_bfar, with_hfsr, with_sfsr, with_sfar, status_after, frame_bit, word_status, frame_status};
+ghost use Rattle.tz_frames.specs.Status.{with_ufsr, with_mmfsr, with_mmfar, with_bfsr, with_bfar, with_hfsr, with_sfsr, with_sfar, status_after, frame_bit, word_status, frame_status};
 
-use tz_entry::StackFault;
+use tz_frames::StackFault;
 use tz_model::{Fault, Side};
 use tz_regs::Status;
 

@@ -6,15 +6,14 @@ ghost use Rattle.tz_state.specs.SlotChanges.{pended};
 ghost use Rattle.tz_state.specs.Escalation.{hard_side};
 ghost use Rattle.tz_state.specs.Priority.{hard_priority};
 ghost use Rattle.tz_state.specs.Execution.{execution};
-ghost use Rattle.tz_entry.specs.Status.{slot as slot_of, with_hfsr, with_status};
-ghost use Rattle.tz_entry.specs.Registers.{taken_registers, scratch_cleared, all_cleared};
-ghost use Rattle.tz_entry.specs.Enter.{Work, exc_return, dcrs_of, handling, is_last_resort, vector_choice, can_harden, vectored};
+ghost use Rattle.tz_frames.specs.Status.{slot as slot_of, with_hfsr, with_status};
+ghost use Rattle.tz_frames.specs.Registers.{taken_registers, scratch_cleared, all_cleared};
+ghost use Rattle.tz_frames.specs.Enter.{Work, exc_return, dcrs_of, handling, is_last_resort, vector_choice, can_harden, vectored};
 
 use crate::raise::hard_side;
 use crate::sides::{is_secure, set_spsel};
 use crate::status::set_hfsr;
-use tz_entry::{Choice, Entering};
-use tz_frames::Frames;
+use tz_frames::{Choice, Entering, Frames};
 use tz_model::{Profile, Side, Slot};
 use tz_nvic::Exceptions;
 use tz_prio::can_take;
@@ -159,7 +158,7 @@ fn fail_vector(core: &mut Core, exceptions: &mut Exceptions, slot: Slot) -> Choi
 }
 
 /// Reads the vector of an exception, and takes it. The slot exists.
-#[tactic(auto, unfolding(tz_entry::specs::Enter::vectored, tz_entry::specs::Enter::vector_failed))]
+#[tactic(auto, unfolding(tz_frames::specs::Enter::vectored, tz_frames::specs::Enter::vector_failed))]
 pub(crate) fn take_vector<P: Frames>(
     core: &mut Core,
     exceptions: &mut Exceptions,

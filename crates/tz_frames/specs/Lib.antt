@@ -1,3 +1,9 @@
 pub mod Looks
 pub mod Machine
 pub mod Tables
+pub mod Status
+pub mod Stack
+pub mod Gate
+pub mod Registers
+pub mod Enter
+pub mod Leave

@@ -1,13 +1,35 @@
-//! Frames: how entries and returns of exceptions, and the return of a call, reach stacks and vector tables.
+//! Frames: how entries and returns of exceptions, and the return of a call, reach stacks and vector tables; and the
+//! definitions of entries, returns and the calls between the sides: frames, what a fault sets and pends, how an
+//! exception is taken, and how one is left.
 //!
 //! `Frames` is what they are written over. `BusFrames` is the machine's: its words go through the checks of the
-//! bus. `TableFrames` is a double, for tests.
+//! bus. `TableFrames` is a double, for tests. The definitions of entries stand in `specs/`, over whatever frames and
+//! ports they reach; bodies that meet them stand in crates above. The one call of their own is a law.
 #![tactic(auto)]
 
+ghost use Rattle.std.specs.Prelude.{◌≡◌, ℕ, Bool, true};
+ghost use Rattle.tz_model.specs.declared.board.Profile.{Profile};
+ghost use Rattle.tz_regs.specs.declared.parts.Core.{Core};
+ghost use Rattle.tz_frames.specs.Registers.{taken_registers};
+ghost use Rattle.tz_table.specs.declared.units.Side.TheVariants.{NonSecure};
+ghost use Rattle.tz_regs.specs.declared.parts.Registers.{Registers};
+ghost use Rattle.std.specs.Prelude.{replicate};
+
 mod double;
+mod entering;
+mod frame;
 mod frames;
+mod leaving;
 mod machine;
 
 pub use double::TableFrames;
+pub use entering::{Choice, Entered, Entering};
+pub use frame::{Basic, Callee, StackFault};
 pub use frames::Frames;
+pub use leaving::{Left, Returning, Unstacked};
 pub use machine::BusFrames;
+
+/// A Non-secure exception that interrupts Secure code finds zeros in R0 to R12, whatever stood there.
+pub fn hides_registers()
+    ensures { (profile : Profile) (r : Registers) → (taken_registers profile NonSecure true r).general ≡ replicate 13 0 }
+{}

@@ -1,7 +1,7 @@
 //! SG and BXNS.
 
 ghost use Rattle.std.specs.Prelude.{◌≡◌};
-ghost use Rattle.tz_entry.specs.Gate.{gateway_entered, branched_ns};
+ghost use Rattle.tz_frames.specs.Gate.{gateway_entered, branched_ns};
 
 use tz_model::Side;
 use tz_regs::Core;

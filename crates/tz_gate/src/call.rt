@@ -1,7 +1,7 @@
 //! BLXNS.
 
 ghost use Rattle.std.specs.Prelude.{◌≡◌, ◌≤◌, ◌+◌};
-ghost use Rattle.tz_entry.specs.Gate.{call_base, called_ns, calls_ns};
+ghost use Rattle.tz_frames.specs.Gate.{call_base, called_ns, calls_ns};
 
 use tz_model::{Fault, Port, Side, Size};
 use tz_regs::Core;

@@ -1,7 +1,7 @@
 //! FNC_RETURN.
 
 ghost use Rattle.std.specs.Prelude.{◌≡◌, ◌<◌, ◌^◌, MatchResult, OnErr, Ok, Err};
-ghost use Rattle.tz_entry.specs.Gate.{is_fnc_return, return_base, numbers_agree, came_back, function_returned};
+ghost use Rattle.tz_frames.specs.Gate.{is_fnc_return, return_base, numbers_agree, came_back, function_returned};
 
 use tz_frames::Frames;
 use tz_model::{Fault, Side};

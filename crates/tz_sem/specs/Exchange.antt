@@ -8,8 +8,8 @@ use Rattle.tz_regs.specs.Registers.{is_handler}
 use Rattle.tz_state.specs.Access.{Reached, reached_in, access}
 use Rattle.tz_state.specs.State.{State, with_core, with_registers}
 use Rattle.tz_frames.specs.Machine.{framed}
-use Rattle.tz_entry.specs.Gate.{Called, branched_ns, calls_ns, is_fnc_return, function_returned}
-use Rattle.tz_entry.specs.Leave.{is_exc_return}
+use Rattle.tz_frames.specs.Gate.{Called, branched_ns, calls_ns, is_fnc_return, function_returned}
+use Rattle.tz_frames.specs.Leave.{is_exc_return}
 use Rattle.tz_sem.specs.declared.ending.Cause.{Cause}
 use Rattle.tz_sem.specs.declared.ending.Cause.TheVariants.{Went, Returned, Called as Calls, CameBack}
 use Rattle.tz_sem.specs.declared.ending.Course.{Course}

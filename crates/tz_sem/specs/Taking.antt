@@ -11,13 +11,13 @@ use Rattle.tz_state.specs.Slots.{ExceptionsValue}
 use Rattle.tz_state.specs.State.{Bus, State, is_privileged_in, with_run}
 use Rattle.tz_exec.specs.Exec.{released}
 use Rattle.tz_frames.specs.Machine.{Framed, framed}
-use Rattle.tz_entry.specs.declared.entering.Entered.{Entered}
-use Rattle.tz_entry.specs.declared.entering.Entered.TheVariants as entered
-use Rattle.tz_entry.specs.declared.leaving.Left.{Left}
-use Rattle.tz_entry.specs.declared.leaving.Left.TheVariants as left
-use Rattle.tz_entry.specs.Status.{Raised, faulted}
-use Rattle.tz_entry.specs.Enter.{Done, enters}
-use Rattle.tz_entry.specs.Leave.{Leaving, leaves}
+use Rattle.tz_frames.specs.declared.entering.Entered.{Entered}
+use Rattle.tz_frames.specs.declared.entering.Entered.TheVariants as entered
+use Rattle.tz_frames.specs.declared.leaving.Left.{Left}
+use Rattle.tz_frames.specs.declared.leaving.Left.TheVariants as left
+use Rattle.tz_frames.specs.Status.{Raised, faulted}
+use Rattle.tz_frames.specs.Enter.{Done, enters}
+use Rattle.tz_frames.specs.Leave.{Leaving, leaves}
 use Rattle.tz_sem.specs.declared.ending.Cause.TheVariants.{Went, Resumed, Taken}
 use Rattle.tz_sem.specs.declared.ending.Course.{Course}
 use Rattle.tz_sem.specs.Ended.{Passed}

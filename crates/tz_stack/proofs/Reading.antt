@@ -4,8 +4,8 @@ use Rattle.std.proofs.lemmas.List.{take_more_set, take_all, append-nil}
 use Rattle.tz_table.specs.declared.units.Side.{Side}
 use Rattle.tz_model.specs.Words.{wrap}
 use Rattle.tz_frames.specs.Looks.{Looking}
-use Rattle.tz_entry.specs.declared.frame.StackFault.{StackFault}
-use Rattle.tz_entry.specs.Stack.{word_read, with_first, reads}
+use Rattle.tz_frames.specs.declared.frame.StackFault.{StackFault}
+use Rattle.tz_frames.specs.Stack.{word_read, with_first, reads}
 
 -- words before those that are still read
 abbrev pub behind : List ℕ → Result (List ℕ) StackFault → Result (List ℕ) StackFault

@@ -11,4 +11,4 @@ mod words;
 
 pub use pop::{pop_additional, pop_basic};
 pub use push::{push_additional, push_basic, set_side_sp};
-pub use tz_entry::{Basic, Callee, StackFault};
+pub use tz_frames::{Basic, Callee, StackFault};

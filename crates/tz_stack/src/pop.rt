@@ -2,12 +2,11 @@
 
 ghost use Rattle.std.specs.Prelude.{◌≡◌};
 ghost use Rattle.tz_table.specs.declared.units.Side.TheVariants.{Secure};
-ghost use Rattle.tz_entry.specs.Stack.{reads, callee_read, popped_basic, popped_additional};
+ghost use Rattle.tz_frames.specs.Stack.{reads, callee_read, popped_basic, popped_additional};
 
 use crate::push::SIGNATURE;
 use crate::words::{load_word, load_words};
-use tz_entry::{Basic, Callee, StackFault};
-use tz_frames::Frames;
+use tz_frames::{Basic, Callee, Frames, StackFault};
 use tz_model::Side;
 
 /// Reads a basic frame of a side at an address, with this privilege (DDI0553, `PopStack`).

@@ -3,12 +3,11 @@
 ghost use Rattle.std.specs.Prelude.{◌≡◌, ◌≤◌, ◌+◌, ◌*◌, ◌/◌, ◌%◌, ◌^◌};
 ghost use Rattle.std.specs.Result.{result_err};
 ghost use Rattle.tz_regs.specs.Banks.{stacks_of};
-ghost use Rattle.tz_entry.specs.Registers.{psr_word, retpsr_of};
-ghost use Rattle.tz_entry.specs.Stack.{limit_of, with_side_sp, basic_base, pushed_basic, pushed_additional};
+ghost use Rattle.tz_frames.specs.Registers.{psr_word, retpsr_of};
+ghost use Rattle.tz_frames.specs.Stack.{limit_of, with_side_sp, basic_base, pushed_basic, pushed_additional};
 
 use crate::words::store_words;
-use tz_entry::StackFault;
-use tz_frames::Frames;
+use tz_frames::{Frames, StackFault};
 use tz_model::Side;
 use tz_regs::{Core, Registers};
 
@@ -67,7 +66,7 @@ fn retpsr_of(registers: &Registers, sp: u32) -> u32
 /// `Limit` with its side where that would be below the limit of the stack: nothing is written, and the stack pointer
 /// becomes the limit. `Access` with the fault of the first word that can't be written: the stack pointer becomes the
 /// base of the frame, and the words before stand.
-#[tactic(auto, unfolding(tz_entry::specs::Stack::pushed_basic))]
+#[tactic(auto, unfolding(tz_frames::specs::Stack::pushed_basic))]
 pub fn push_basic<P: Frames>(core: &mut Core, port: &mut P, back: u32) -> Result<(), StackFault>
     requires { 8 ≤ P.room port.old }
     ensures pushed { pushed_basic P.answer core.old (P.held port.old) back ≡ record { core = core.new; held = P.held port.new; fault = result_err result } }
@@ -107,7 +106,7 @@ pub fn push_basic<P: Frames>(core: &mut Core, port: &mut P, back: u32) -> Result
 /// signature, zero and R4 to R11, from 40 bytes below its stack pointer up (DDI0553, `PushCalleeStack`).
 ///
 /// Fails as `push_basic` does, with the limit of that stack.
-#[tactic(auto, unfolding(tz_entry::specs::Stack::pushed_additional))]
+#[tactic(auto, unfolding(tz_frames::specs::Stack::pushed_additional))]
 pub fn push_additional<P: Frames>(
     core: &mut Core,
     port: &mut P,

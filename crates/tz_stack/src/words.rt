@@ -2,14 +2,13 @@
 
 ghost use Rattle.std.specs.Prelude.{◌≡◌, ◌≤◌, ◌+◌, length};
 ghost use Rattle.std.specs.Result.{result_err};
-ghost use Rattle.tz_entry.specs.Stack.{written, word_read, reads};
+ghost use Rattle.tz_frames.specs.Stack.{written, word_read, reads};
 
-use tz_entry::StackFault;
-use tz_frames::Frames;
+use tz_frames::{Frames, StackFault};
 use tz_model::{Fault, Side};
 
 /// Writes words from an address up. Where one can't be written, those before it stand.
-#[tactic(auto, unfolding(tz_entry::specs::Stack::written))]
+#[tactic(auto, unfolding(tz_frames::specs::Stack::written))]
 pub(crate) fn store_words<P: Frames>(
     port: &mut P,
     base: u32,

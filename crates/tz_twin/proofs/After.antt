@@ -11,7 +11,7 @@ use Rattle.tz_model.specs.Words.{wrap, even_of}
 use Rattle.tz_regs.specs.declared.parts.Registers.{Registers}
 use Rattle.tz_state.specs.Memory.{Memory, every, word_at}
 use Rattle.tz_state.specs.Attribution.{MapState, is_open}
-use Rattle.tz_entry.specs.Registers.{no_flags, saved_of, scratch_cleared, all_cleared}
+use Rattle.tz_frames.specs.Registers.{no_flags, saved_of, scratch_cleared, all_cleared}
 use Rattle.tz_sem.specs.declared.ending.Cause.TheVariants.{Taken}
 use Rattle.tz_sem.specs.Ended.{kind_of}
 use Rattle.tz_twin.specs.Seen.{open_bytes, Public, Handed, Nothing, Saved, Whole, handed, handed_by, Crossing, Seen, Hidden, Shown}

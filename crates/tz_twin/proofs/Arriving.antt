@@ -17,21 +17,21 @@ use Rattle.tz_state.specs.Slots.{ExceptionsValue}
 use Rattle.tz_state.specs.Execution.{takes_first}
 use Rattle.tz_state.specs.State.{State, with_core, side_of}
 use Rattle.tz_frames.specs.Machine.{Framed, frame_verdict, looked, framed}
-use Rattle.tz_entry.specs.declared.frame.StackFault.{StackFault}
-use Rattle.tz_entry.specs.declared.frame.StackFault.TheVariants.{Signature}
-use Rattle.tz_entry.specs.declared.frame.Basic.{Basic}
-use Rattle.tz_entry.specs.declared.frame.Callee.{Callee}
-use Rattle.tz_entry.specs.declared.entering.Entered.{Entered}
-use Rattle.tz_entry.specs.declared.entering.Entered.TheVariants as entered
-use Rattle.tz_entry.specs.declared.leaving.Returning.{Returning}
-use Rattle.tz_entry.specs.declared.leaving.Unstacked.{Unstacked}
-use Rattle.tz_entry.specs.declared.leaving.Left.{Left}
-use Rattle.tz_entry.specs.declared.leaving.Left.TheVariants as left
-use Rattle.tz_entry.specs.Status.{Raised, faulted, frame_faulted}
-use Rattle.tz_entry.specs.Stack.{signature, word_answer, word_read, reads, callee_read, signed, popped_additional, popped_basic}
-use Rattle.tz_entry.specs.Enter.{enters, tries}
-use Rattle.tz_entry.specs.Leave.{returning_by, side_by, noted, slot_returning, freed, unhandled, chaining, Leaving, left_of, chained, chained_raised, returns_to_process, returns_privileged, return_sp, with_callee, unstacked, modes_agree, resumes, goes_back, leaves_noting, leaves}
-use Rattle.tz_entry.specs.Gate.{return_base, numbers_agree, came_back, after_second, after_first, function_returned}
+use Rattle.tz_frames.specs.declared.frame.StackFault.{StackFault}
+use Rattle.tz_frames.specs.declared.frame.StackFault.TheVariants.{Signature}
+use Rattle.tz_frames.specs.declared.frame.Basic.{Basic}
+use Rattle.tz_frames.specs.declared.frame.Callee.{Callee}
+use Rattle.tz_frames.specs.declared.entering.Entered.{Entered}
+use Rattle.tz_frames.specs.declared.entering.Entered.TheVariants as entered
+use Rattle.tz_frames.specs.declared.leaving.Returning.{Returning}
+use Rattle.tz_frames.specs.declared.leaving.Unstacked.{Unstacked}
+use Rattle.tz_frames.specs.declared.leaving.Left.{Left}
+use Rattle.tz_frames.specs.declared.leaving.Left.TheVariants as left
+use Rattle.tz_frames.specs.Status.{Raised, faulted, frame_faulted}
+use Rattle.tz_frames.specs.Stack.{signature, word_answer, word_read, reads, callee_read, signed, popped_additional, popped_basic}
+use Rattle.tz_frames.specs.Enter.{enters, tries}
+use Rattle.tz_frames.specs.Leave.{returning_by, side_by, noted, slot_returning, freed, unhandled, chaining, Leaving, left_of, chained, chained_raised, returns_to_process, returns_privileged, return_sp, with_callee, unstacked, modes_agree, resumes, goes_back, leaves_noting, leaves}
+use Rattle.tz_frames.specs.Gate.{return_base, numbers_agree, came_back, after_second, after_first, function_returned}
 use Rattle.tz_sem.specs.declared.ending.Cause.TheVariants as causes
 use Rattle.tz_sem.specs.declared.ending.Course.{Course}
 use Rattle.tz_sem.specs.Ended.{Passed}

@@ -16,15 +16,15 @@ use Rattle.tz_state.specs.Escalation.{hard_side}
 use Rattle.tz_state.specs.State.{map_in}
 use Rattle.tz_frames.specs.Looks.{Vector}
 use Rattle.tz_frames.specs.Machine.{Framed, framed}
-use Rattle.tz_entry.specs.declared.frame.StackFault.{StackFault}
-use Rattle.tz_entry.specs.declared.entering.Entering.{Entering}
-use Rattle.tz_entry.specs.declared.entering.Choice.{Choice}
-use Rattle.tz_entry.specs.declared.entering.Choice.TheVariants as choices
-use Rattle.tz_entry.specs.declared.entering.Entered.{Entered}
-use Rattle.tz_entry.specs.declared.entering.Entered.TheVariants as entered
-use Rattle.tz_entry.specs.Status.{slot, Raised, frame_faulted}
-use Rattle.tz_entry.specs.Stack.{pushed_basic, pushed_additional}
-use Rattle.tz_entry.specs.Enter.{Work, Chosen, Done, is_secure, handling, vectored_by, vectored, vector_failed, looking_at, falls, callee_process, callee_privileged, stacked, taking, choosing_from, choosing, with_lock, locked_up, goes_on, tries, interrupted, begins_raised, begins, enters}
+use Rattle.tz_frames.specs.declared.frame.StackFault.{StackFault}
+use Rattle.tz_frames.specs.declared.entering.Entering.{Entering}
+use Rattle.tz_frames.specs.declared.entering.Choice.{Choice}
+use Rattle.tz_frames.specs.declared.entering.Choice.TheVariants as choices
+use Rattle.tz_frames.specs.declared.entering.Entered.{Entered}
+use Rattle.tz_frames.specs.declared.entering.Entered.TheVariants as entered
+use Rattle.tz_frames.specs.Status.{slot, Raised, frame_faulted}
+use Rattle.tz_frames.specs.Stack.{pushed_basic, pushed_additional}
+use Rattle.tz_frames.specs.Enter.{Work, Chosen, Done, is_secure, handling, vectored_by, vectored, vector_failed, looking_at, falls, callee_process, callee_privileged, stacked, taking, choosing_from, choosing, with_lock, locked_up, goes_on, tries, interrupted, begins_raised, begins, enters}
 use Rattle.tz_twin.proofs.Slots.{quiet}
 use Rattle.tz_twin.proofs.Spared.{KeptBy, kept_from, kept_all, kept_then, flags_quiet, frame_faulted_kept, frame_faulted_side}
 use Rattle.tz_twin.proofs.OwnFrames.{OwnFrameSome, basic_own}

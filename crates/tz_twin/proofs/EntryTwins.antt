@@ -23,14 +23,14 @@ use Rattle.tz_state.specs.Access.{may_touch, is_let, verdict}
 use Rattle.tz_state.specs.State.{Bus, State}
 use Rattle.tz_frames.specs.Looks.{Vector}
 use Rattle.tz_frames.specs.Machine.{Framed, frame_verdict, vector_at, vector_verdict, looked, framed_write, framed}
-use Rattle.tz_entry.specs.declared.frame.StackFault.{StackFault}
-use Rattle.tz_entry.specs.declared.entering.Entering.{Entering}
-use Rattle.tz_entry.specs.declared.entering.Choice.{Choice}
-use Rattle.tz_entry.specs.declared.entering.Choice.TheVariants as choices
-use Rattle.tz_entry.specs.declared.entering.Entered.TheVariants as entered
-use Rattle.tz_entry.specs.Status.{Raised, frame_faulted}
-use Rattle.tz_entry.specs.Stack.{limit_of, with_sp, after_store, written, Pushed, access_fault, pushed_with, pushed, basic_base, basic_words, pushed_basic}
-use Rattle.tz_entry.specs.Enter.{Work, Chosen, Done, vectored_by, vectored, vector_failed, looking_at, falls, taking, choosing_from, choosing, goes_on, tries, interrupted, begins_raised, begins, after_basic, enters}
+use Rattle.tz_frames.specs.declared.frame.StackFault.{StackFault}
+use Rattle.tz_frames.specs.declared.entering.Entering.{Entering}
+use Rattle.tz_frames.specs.declared.entering.Choice.{Choice}
+use Rattle.tz_frames.specs.declared.entering.Choice.TheVariants as choices
+use Rattle.tz_frames.specs.declared.entering.Entered.TheVariants as entered
+use Rattle.tz_frames.specs.Status.{Raised, frame_faulted}
+use Rattle.tz_frames.specs.Stack.{limit_of, with_sp, after_store, written, Pushed, access_fault, pushed_with, pushed, basic_base, basic_words, pushed_basic}
+use Rattle.tz_frames.specs.Enter.{Work, Chosen, Done, vectored_by, vectored, vector_failed, looking_at, falls, taking, choosing_from, choosing, goes_on, tries, interrupted, begins_raised, begins, after_basic, enters}
 use Rattle.tz_twin.proofs.Bytes.{SameOpen, value_same, write_same}
 use Rattle.tz_twin.proofs.Split.{Open, Rest, open_of, rest_of, open_map, join_bus, join, Same}
 use Rattle.tz_twin.proofs.OwnFrames.{OwnFrameSome, basic_own}

@@ -12,9 +12,9 @@ use Rattle.tz_state.specs.declared.taken.Taken.TheVariants.{AsIs, Hard, Lockup}
 use Rattle.tz_state.specs.Slots.{ExceptionsValue}
 use Rattle.tz_state.specs.SlotChanges.{pended}
 use Rattle.tz_state.specs.Escalation.{escalated}
-use Rattle.tz_entry.specs.declared.frame.StackFault.{StackFault}
-use Rattle.tz_entry.specs.declared.frame.StackFault.TheVariants.{Limit, Access, Signature as Unsigned}
-use Rattle.tz_entry.specs.Status.{with_hfsr, status_after, frame_bit, word_status, frame_status, slot, exception_of, frame_exception, with_status, raised_as, raised, faulted, frame_faulted}
+use Rattle.tz_frames.specs.declared.frame.StackFault.{StackFault}
+use Rattle.tz_frames.specs.declared.frame.StackFault.TheVariants.{Limit, Access, Signature as Unsigned}
+use Rattle.tz_frames.specs.Status.{with_hfsr, status_after, frame_bit, word_status, frame_status, slot, exception_of, frame_exception, with_status, raised_as, raised, faulted, frame_faulted}
 use Rattle.tz_twin.proofs.Split.{Open, Rest, join, Same}
 use Rattle.tz_twin.proofs.Faults.{is_own}
 use Rattle.tz_twin.proofs.Spared.{is_own_frame}

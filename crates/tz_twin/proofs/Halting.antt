@@ -21,14 +21,14 @@ use Rattle.tz_state.specs.Escalation.{escalated}
 use Rattle.tz_state.specs.State.{Bus, State, map_in, side_of, with_core}
 use Rattle.tz_frames.specs.Looks.{SecureLoad}
 use Rattle.tz_frames.specs.Machine.{Framed, framed}
-use Rattle.tz_entry.specs.declared.entering.Entered.{Entered}
-use Rattle.tz_entry.specs.declared.entering.Entered.TheVariants as entered
-use Rattle.tz_entry.specs.declared.leaving.Left.{Left}
-use Rattle.tz_entry.specs.declared.leaving.Left.TheVariants as left
-use Rattle.tz_entry.specs.Status.{status_after, exception_of, Raised, with_status, raised_as, faulted}
-use Rattle.tz_entry.specs.Enter.{is_secure, enters}
-use Rattle.tz_entry.specs.Leave.{returning_by, leaves}
-use Rattle.tz_entry.specs.Gate.{return_base, numbers_agree, came_back, after_second, after_first, function_returned}
+use Rattle.tz_frames.specs.declared.entering.Entered.{Entered}
+use Rattle.tz_frames.specs.declared.entering.Entered.TheVariants as entered
+use Rattle.tz_frames.specs.declared.leaving.Left.{Left}
+use Rattle.tz_frames.specs.declared.leaving.Left.TheVariants as left
+use Rattle.tz_frames.specs.Status.{status_after, exception_of, Raised, with_status, raised_as, faulted}
+use Rattle.tz_frames.specs.Enter.{is_secure, enters}
+use Rattle.tz_frames.specs.Leave.{returning_by, leaves}
+use Rattle.tz_frames.specs.Gate.{return_base, numbers_agree, came_back, after_second, after_first, function_returned}
 use Rattle.tz_sem.specs.declared.ending.Cause.TheVariants as causes
 use Rattle.tz_sem.specs.declared.ending.Course.{Course}
 use Rattle.tz_sem.specs.Ended.{Passed, Ended, with_stores}

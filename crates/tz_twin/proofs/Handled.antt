@@ -28,22 +28,22 @@ use Rattle.tz_state.specs.Access.{may_touch}
 use Rattle.tz_state.specs.State.{Bus, map_in}
 use Rattle.tz_frames.specs.Looks.{FrameStore}
 use Rattle.tz_frames.specs.Machine.{Framed, frame_verdict, vector_at, vector_verdict, looked, framed_write, framed}
-use Rattle.tz_entry.specs.declared.frame.StackFault.{StackFault}
-use Rattle.tz_entry.specs.declared.frame.StackFault.TheVariants.{Limit, Access, Signature as Unsigned}
-use Rattle.tz_entry.specs.declared.entering.Entering.{Entering}
-use Rattle.tz_entry.specs.declared.entering.Choice.{Choice}
-use Rattle.tz_entry.specs.declared.entering.Choice.TheVariants as choices
-use Rattle.tz_entry.specs.declared.entering.Entered.{Entered}
-use Rattle.tz_entry.specs.declared.entering.Entered.TheVariants as entered
-use Rattle.tz_entry.specs.declared.leaving.Returning.{Returning}
-use Rattle.tz_entry.specs.declared.leaving.Unstacked.{Unstacked}
-use Rattle.tz_entry.specs.declared.leaving.Left.{Left}
-use Rattle.tz_entry.specs.declared.leaving.Left.TheVariants as lefts
-use Rattle.tz_entry.specs.Registers.{no_flags, scratch_cleared, all_cleared}
-use Rattle.tz_entry.specs.Status.{with_ufsr, with_mmfsr, with_mmfar, status_after, word_status, frame_status, frame_bit, exception_of, frame_exception, Raised, with_status, raised_as, faulted, frame_faulted}
-use Rattle.tz_entry.specs.Stack.{Pushed, limit_of, with_side_sp, after_store, written, pushed_with, pushed, basic_base, basic_words, pushed_basic, callee_words, pushed_additional}
-use Rattle.tz_entry.specs.Enter.{Work, Chosen, Done, is_secure, exc_return, dcrs_of, handling, can_harden, vector_choice, vectored_by, vectored, vector_failed, looking_at, falls, fallen, callee_process, callee_privileged, raised_choice, after_raise, stacked_by, stacked, taking, choosing_from, choosing, locked_up, goes_on, tries, interrupted, begins_raised, begins, enters}
-use Rattle.tz_entry.specs.Leave.{returning_by, side_by, noted, slot_returning, freed, unhandled, chaining, Leaving, left_of, chained, chained_raised, unstacked, modes_agree, resumes, goes_back, leaves_noting, leaves}
+use Rattle.tz_frames.specs.declared.frame.StackFault.{StackFault}
+use Rattle.tz_frames.specs.declared.frame.StackFault.TheVariants.{Limit, Access, Signature as Unsigned}
+use Rattle.tz_frames.specs.declared.entering.Entering.{Entering}
+use Rattle.tz_frames.specs.declared.entering.Choice.{Choice}
+use Rattle.tz_frames.specs.declared.entering.Choice.TheVariants as choices
+use Rattle.tz_frames.specs.declared.entering.Entered.{Entered}
+use Rattle.tz_frames.specs.declared.entering.Entered.TheVariants as entered
+use Rattle.tz_frames.specs.declared.leaving.Returning.{Returning}
+use Rattle.tz_frames.specs.declared.leaving.Unstacked.{Unstacked}
+use Rattle.tz_frames.specs.declared.leaving.Left.{Left}
+use Rattle.tz_frames.specs.declared.leaving.Left.TheVariants as lefts
+use Rattle.tz_frames.specs.Registers.{no_flags, scratch_cleared, all_cleared}
+use Rattle.tz_frames.specs.Status.{with_ufsr, with_mmfsr, with_mmfar, status_after, word_status, frame_status, frame_bit, exception_of, frame_exception, Raised, with_status, raised_as, faulted, frame_faulted}
+use Rattle.tz_frames.specs.Stack.{Pushed, limit_of, with_side_sp, after_store, written, pushed_with, pushed, basic_base, basic_words, pushed_basic, callee_words, pushed_additional}
+use Rattle.tz_frames.specs.Enter.{Work, Chosen, Done, is_secure, exc_return, dcrs_of, handling, can_harden, vector_choice, vectored_by, vectored, vector_failed, looking_at, falls, fallen, callee_process, callee_privileged, raised_choice, after_raise, stacked_by, stacked, taking, choosing_from, choosing, locked_up, goes_on, tries, interrupted, begins_raised, begins, enters}
+use Rattle.tz_frames.specs.Leave.{returning_by, side_by, noted, slot_returning, freed, unhandled, chaining, Leaving, left_of, chained, chained_raised, unstacked, modes_agree, resumes, goes_back, leaves_noting, leaves}
 
 -- what a Non-secure handler finds, from the registers `r` of the code before it, which was Secure or not, and from the
 -- table that VTOR of the Non-secure side names

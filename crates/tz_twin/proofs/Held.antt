@@ -18,16 +18,16 @@ use Rattle.tz_state.specs.Execution.{takes_first}
 use Rattle.tz_state.specs.State.{Bus, with_memory}
 use Rattle.tz_frames.specs.Looks.{Look, Vector, SecureLoad, FrameLoad, FrameStore}
 use Rattle.tz_frames.specs.Machine.{Framed, frame_verdict, looked, framed_write, framed}
-use Rattle.tz_entry.specs.declared.frame.StackFault.{StackFault}
-use Rattle.tz_entry.specs.declared.entering.Entering.{Entering}
-use Rattle.tz_entry.specs.declared.entering.Choice.{Choice}
-use Rattle.tz_entry.specs.declared.entering.Choice.TheVariants as choices
-use Rattle.tz_entry.specs.declared.leaving.Returning.{Returning}
-use Rattle.tz_entry.specs.declared.leaving.Unstacked.{Unstacked}
-use Rattle.tz_entry.specs.Status.{Raised, faulted, frame_faulted}
-use Rattle.tz_entry.specs.Stack.{Pushed, limit_of, with_side_sp, after_store, written, pushed_with, pushed, basic_base, basic_words, pushed_basic, callee_words, pushed_additional}
-use Rattle.tz_entry.specs.Enter.{Work, Chosen, Done, vectored_by, vectored, vector_failed, looking_at, falls, fallen, callee_process, callee_privileged, stacked_by, stacked, taking, choosing_from, choosing, locked_up, goes_on, tries, interrupted, begins_raised, begins, enters}
-use Rattle.tz_entry.specs.Leave.{returning_by, noted, slot_returning, freed, unhandled, chaining, side_by, Leaving, chained, chained_raised, unstacked, modes_agree, resumes, goes_back, leaves_noting, leaves}
+use Rattle.tz_frames.specs.declared.frame.StackFault.{StackFault}
+use Rattle.tz_frames.specs.declared.entering.Entering.{Entering}
+use Rattle.tz_frames.specs.declared.entering.Choice.{Choice}
+use Rattle.tz_frames.specs.declared.entering.Choice.TheVariants as choices
+use Rattle.tz_frames.specs.declared.leaving.Returning.{Returning}
+use Rattle.tz_frames.specs.declared.leaving.Unstacked.{Unstacked}
+use Rattle.tz_frames.specs.Status.{Raised, faulted, frame_faulted}
+use Rattle.tz_frames.specs.Stack.{Pushed, limit_of, with_side_sp, after_store, written, pushed_with, pushed, basic_base, basic_words, pushed_basic, callee_words, pushed_additional}
+use Rattle.tz_frames.specs.Enter.{Work, Chosen, Done, vectored_by, vectored, vector_failed, looking_at, falls, fallen, callee_process, callee_privileged, stacked_by, stacked, taking, choosing_from, choosing, locked_up, goes_on, tries, interrupted, begins_raised, begins, enters}
+use Rattle.tz_frames.specs.Leave.{returning_by, noted, slot_returning, freed, unhandled, chaining, side_by, Leaving, chained, chained_raised, unstacked, modes_agree, resumes, goes_back, leaves_noting, leaves}
 
 -- of a bus the memory alone is another
 abbrev pub BusKept : Framed → Framed → Type 0

@@ -13,13 +13,13 @@ use Rattle.tz_state.specs.Memory.{Memory}
 use Rattle.tz_state.specs.Slots.{ExceptionsValue}
 use Rattle.tz_state.specs.State.{Bus, State, map_of, with_memory}
 use Rattle.tz_frames.specs.Machine.{framed}
-use Rattle.tz_entry.specs.declared.entering.Entered.{Entered}
-use Rattle.tz_entry.specs.declared.entering.Entered.TheVariants as entered
-use Rattle.tz_entry.specs.declared.leaving.Left.{Left}
-use Rattle.tz_entry.specs.declared.leaving.Left.TheVariants as left
-use Rattle.tz_entry.specs.Status.{Raised, faulted}
-use Rattle.tz_entry.specs.Enter.{enters}
-use Rattle.tz_entry.specs.Leave.{leaves}
+use Rattle.tz_frames.specs.declared.entering.Entered.{Entered}
+use Rattle.tz_frames.specs.declared.entering.Entered.TheVariants as entered
+use Rattle.tz_frames.specs.declared.leaving.Left.{Left}
+use Rattle.tz_frames.specs.declared.leaving.Left.TheVariants as left
+use Rattle.tz_frames.specs.Status.{Raised, faulted}
+use Rattle.tz_frames.specs.Enter.{enters}
+use Rattle.tz_frames.specs.Leave.{leaves}
 use Rattle.tz_sem.specs.declared.ending.Course.{Course}
 use Rattle.tz_sem.specs.Ended.{Passed}
 use Rattle.tz_sem.specs.Taking.{state_of, locks, framed_in, taken_by, preempted, goes_on_at, passed_by, after_raise, faults, left_by, returns}

@@ -15,8 +15,8 @@ use Rattle.tz_regs.specs.Registers.{is_handler}
 use Rattle.tz_regs.specs.ItState.{it_advanced}
 use Rattle.tz_state.specs.Slots.{ExceptionsValue}
 use Rattle.tz_sem.specs.declared.ending.Ending.{Ending}
-use Rattle.tz_entry.specs.Gate.{is_fnc_return}
-use Rattle.tz_entry.specs.Leave.{is_exc_return}
+use Rattle.tz_frames.specs.Gate.{is_fnc_return}
+use Rattle.tz_frames.specs.Leave.{is_exc_return}
 use Rattle.tz_sem.specs.declared.ending.Cause.TheVariants.{Went, Returned}
 use Rattle.tz_sem.specs.declared.ending.Course.{Course}
 use Rattle.tz_sem.specs.Ended.{Passed, Ended, with_stores}

@@ -20,8 +20,8 @@ use Rattle.tz_state.specs.Access.{is_crooked, may_touch, is_let, is_private, tak
 use Rattle.tz_state.specs.State.{Bus, map_in}
 use Rattle.tz_frames.specs.Looks.{FrameStore}
 use Rattle.tz_frames.specs.Machine.{Framed, framer, in_map_alone, frame_verdict, looked, framed_write, framed}
-use Rattle.tz_entry.specs.declared.frame.StackFault.{StackFault}
-use Rattle.tz_entry.specs.Stack.{limit_of, with_side_sp, after_store, written, word_answer, word_read, with_first, reads, Pushed, access_fault, pushed_with, pushed, basic_base, basic_words, pushed_basic, basic_read, popped_basic}
+use Rattle.tz_frames.specs.declared.frame.StackFault.{StackFault}
+use Rattle.tz_frames.specs.Stack.{limit_of, with_side_sp, after_store, written, word_answer, word_read, with_first, reads, Pushed, access_fault, pushed_with, pushed, basic_base, basic_words, pushed_basic, basic_read, popped_basic}
 use Rattle.tz_twin.specs.Integrity.{KeepsBytes}
 use Rattle.tz_twin.proofs.Bytes.{keeps_nothing_changed, keeps_then, write_kept}
 use Rattle.tz_twin.proofs.Slots.{quiet}

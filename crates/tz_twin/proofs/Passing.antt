@@ -10,13 +10,13 @@ use Rattle.tz_regs.specs.declared.parts.Registers.{Registers}
 use Rattle.tz_regs.specs.ItState.{it_advanced}
 use Rattle.tz_state.specs.State.{State, is_privileged_in}
 use Rattle.tz_frames.specs.Machine.{Framed}
-use Rattle.tz_entry.specs.declared.entering.Entered.{Entered}
-use Rattle.tz_entry.specs.declared.entering.Entered.TheVariants as entered
-use Rattle.tz_entry.specs.declared.leaving.Left.{Left}
-use Rattle.tz_entry.specs.declared.leaving.Left.TheVariants as left
-use Rattle.tz_entry.specs.Status.{Raised, faulted}
-use Rattle.tz_entry.specs.Enter.{Done}
-use Rattle.tz_entry.specs.Leave.{Leaving}
+use Rattle.tz_frames.specs.declared.entering.Entered.{Entered}
+use Rattle.tz_frames.specs.declared.entering.Entered.TheVariants as entered
+use Rattle.tz_frames.specs.declared.leaving.Left.{Left}
+use Rattle.tz_frames.specs.declared.leaving.Left.TheVariants as left
+use Rattle.tz_frames.specs.Status.{Raised, faulted}
+use Rattle.tz_frames.specs.Enter.{Done}
+use Rattle.tz_frames.specs.Leave.{Leaving}
 use Rattle.tz_sem.specs.declared.ending.Cause.{Cause}
 use Rattle.tz_sem.specs.declared.ending.Cause.TheVariants as causes
 use Rattle.tz_sem.specs.declared.ending.Course.{Course}

@@ -12,18 +12,18 @@ use Rattle.tz_state.specs.SlotChanges.{deactivated}
 use Rattle.tz_state.specs.Execution.{raw_priority, takes_first}
 use Rattle.tz_state.specs.State.{map_in}
 use Rattle.tz_frames.specs.Machine.{Framed, framed}
-use Rattle.tz_entry.specs.declared.frame.StackFault.{StackFault}
-use Rattle.tz_entry.specs.declared.frame.Basic.{Basic}
-use Rattle.tz_entry.specs.declared.entering.Entered.{Entered}
-use Rattle.tz_entry.specs.declared.entering.Entered.TheVariants as entered
-use Rattle.tz_entry.specs.declared.leaving.Returning.{Returning}
-use Rattle.tz_entry.specs.declared.leaving.Unstacked.{Unstacked}
-use Rattle.tz_entry.specs.declared.leaving.Left.{Left}
-use Rattle.tz_entry.specs.declared.leaving.Left.TheVariants as lefts
-use Rattle.tz_entry.specs.Status.{Raised, faulted, frame_faulted}
-use Rattle.tz_entry.specs.Stack.{popped_basic}
-use Rattle.tz_entry.specs.Enter.{Work, with_lock, tries}
-use Rattle.tz_entry.specs.Leave.{returning_by, side_by, slot_returning, is_well_formed, is_forged, is_returnable, noted, is_urgent, urgent_slot, freed, unhandled, chaining, Leaving, left_of, chained, chained_raised, returns_privileged, return_sp, with_basic, unstacked, resumed, modes_agree, resumes, goes_back, leaves_noting, leaves}
+use Rattle.tz_frames.specs.declared.frame.StackFault.{StackFault}
+use Rattle.tz_frames.specs.declared.frame.Basic.{Basic}
+use Rattle.tz_frames.specs.declared.entering.Entered.{Entered}
+use Rattle.tz_frames.specs.declared.entering.Entered.TheVariants as entered
+use Rattle.tz_frames.specs.declared.leaving.Returning.{Returning}
+use Rattle.tz_frames.specs.declared.leaving.Unstacked.{Unstacked}
+use Rattle.tz_frames.specs.declared.leaving.Left.{Left}
+use Rattle.tz_frames.specs.declared.leaving.Left.TheVariants as lefts
+use Rattle.tz_frames.specs.Status.{Raised, faulted, frame_faulted}
+use Rattle.tz_frames.specs.Stack.{popped_basic}
+use Rattle.tz_frames.specs.Enter.{Work, with_lock, tries}
+use Rattle.tz_frames.specs.Leave.{returning_by, side_by, slot_returning, is_well_formed, is_forged, is_returnable, noted, is_urgent, urgent_slot, freed, unhandled, chaining, Leaving, left_of, chained, chained_raised, returns_privileged, return_sp, with_basic, unstacked, resumed, modes_agree, resumes, goes_back, leaves_noting, leaves}
 use Rattle.tz_twin.proofs.Slots.{Quiet, quiet}
 use Rattle.tz_twin.proofs.Faults.{is_own, OwnSome, own_some}
 use Rattle.tz_twin.proofs.Spared.{KeptBy, kept_from, flags_quiet, faulted_kept, faulted_side, is_own_frame, frame_faulted_kept, frame_faulted_side}

@@ -14,17 +14,17 @@ use Rattle.tz_state.specs.Access.{is_let, verdict}
 use Rattle.tz_state.specs.Execution.{takes_first}
 use Rattle.tz_state.specs.State.{State}
 use Rattle.tz_frames.specs.Machine.{Framed, frame_verdict, looked, framed}
-use Rattle.tz_entry.specs.declared.frame.StackFault.{StackFault}
-use Rattle.tz_entry.specs.declared.frame.Basic.{Basic}
-use Rattle.tz_entry.specs.declared.entering.Entered.{Entered}
-use Rattle.tz_entry.specs.declared.entering.Entered.TheVariants as entered
-use Rattle.tz_entry.specs.declared.leaving.Returning.{Returning}
-use Rattle.tz_entry.specs.declared.leaving.Unstacked.{Unstacked}
-use Rattle.tz_entry.specs.declared.leaving.Left.TheVariants as lefts
-use Rattle.tz_entry.specs.Status.{Raised, faulted, frame_faulted}
-use Rattle.tz_entry.specs.Stack.{word_answer, word_read, with_first, reads, basic_read, popped_basic}
-use Rattle.tz_entry.specs.Enter.{Done, tries}
-use Rattle.tz_entry.specs.Leave.{returning_by, slot_returning, noted, freed, unhandled, chaining, Leaving, left_of, leaving_by, chained, chained_raised, returns_privileged, return_sp, with_basic, unstacked, resumed, modes_agree, resumes, goes_back, leaves_noting, leaves}
+use Rattle.tz_frames.specs.declared.frame.StackFault.{StackFault}
+use Rattle.tz_frames.specs.declared.frame.Basic.{Basic}
+use Rattle.tz_frames.specs.declared.entering.Entered.{Entered}
+use Rattle.tz_frames.specs.declared.entering.Entered.TheVariants as entered
+use Rattle.tz_frames.specs.declared.leaving.Returning.{Returning}
+use Rattle.tz_frames.specs.declared.leaving.Unstacked.{Unstacked}
+use Rattle.tz_frames.specs.declared.leaving.Left.TheVariants as lefts
+use Rattle.tz_frames.specs.Status.{Raised, faulted, frame_faulted}
+use Rattle.tz_frames.specs.Stack.{word_answer, word_read, with_first, reads, basic_read, popped_basic}
+use Rattle.tz_frames.specs.Enter.{Done, tries}
+use Rattle.tz_frames.specs.Leave.{returning_by, slot_returning, noted, freed, unhandled, chaining, Leaving, left_of, leaving_by, chained, chained_raised, returns_privileged, return_sp, with_basic, unstacked, resumed, modes_agree, resumes, goes_back, leaves_noting, leaves}
 use Rattle.tz_twin.proofs.Bytes.{value_same}
 use Rattle.tz_twin.proofs.Split.{Open, Rest, open_of, open_map, join, Same}
 use Rattle.tz_twin.proofs.Faults.{OwnSome}

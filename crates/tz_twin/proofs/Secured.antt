@@ -51,8 +51,8 @@ use Rattle.tz_state.specs.Registers.{SystemState, after_read, written}
 use Rattle.tz_state.specs.Views.{narrow_of, narrow_written, sized_written, found_at, found_read, found_written}
 use Rattle.tz_model.specs.declared.report.Sleep.{Sleep as Sleeping}
 use Rattle.tz_model.specs.declared.report.Sleep.TheVariants.{Awake, Wfi, Wfe}
-use Rattle.tz_entry.specs.Gate.{call_base, call_stores, called_ns, after_call, is_fnc_return}
-use Rattle.tz_entry.specs.Leave.{is_exc_return}
+use Rattle.tz_frames.specs.Gate.{call_base, call_stores, called_ns, after_call, is_fnc_return}
+use Rattle.tz_frames.specs.Leave.{is_exc_return}
 use Rattle.tz_sem.specs.declared.ending.Cause.TheVariants.{Went, Returned}
 use Rattle.tz_sem.specs.declared.ending.Course.{Course}
 use Rattle.tz_sem.specs.Taking.{faults}

@@ -13,9 +13,9 @@ use Rattle.tz_state.specs.declared.taken.Taken.{Taken}
 use Rattle.tz_state.specs.declared.taken.Taken.TheVariants.{AsIs, Hard, Lockup}
 use Rattle.tz_state.specs.Slots.{ExceptionsValue, at, with_slot, index_of}
 use Rattle.tz_state.specs.Escalation.{escalated}
-use Rattle.tz_entry.specs.declared.frame.StackFault.{StackFault}
-use Rattle.tz_entry.specs.declared.frame.StackFault.TheVariants.{Limit, Access, Signature as Unsigned}
-use Rattle.tz_entry.specs.Status.{status_after, word_status, frame_status, slot, exception_of, frame_exception, with_status, raised_as, raised, faulted, frame_faulted}
+use Rattle.tz_frames.specs.declared.frame.StackFault.{StackFault}
+use Rattle.tz_frames.specs.declared.frame.StackFault.TheVariants.{Limit, Access, Signature as Unsigned}
+use Rattle.tz_frames.specs.Status.{status_after, word_status, frame_status, slot, exception_of, frame_exception, with_status, raised_as, raised, faulted, frame_faulted}
 use Rattle.tz_twin.specs.Integrity.{KeepsBytes, KeepsExceptions}
 use Rattle.tz_twin.proofs.Bytes.{keeps_nothing_changed, keeps_then}
 use Rattle.tz_twin.proofs.Slots.{Quiet, quiet, quiet_then, slot_quiet}

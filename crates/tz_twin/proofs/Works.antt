@@ -1,14 +1,14 @@
 -- Two entries or two returns beside each other, that began in twins: what both work on, and how both end.
 use Rattle.std.proofs.Common.{◌≡◌, ℕ, Bool, true, false}
 use Rattle.tz_frames.specs.Machine.{Framed}
-use Rattle.tz_entry.specs.declared.entering.Entering.{Entering}
-use Rattle.tz_entry.specs.declared.entering.Entered.{Entered}
-use Rattle.tz_entry.specs.declared.entering.Entered.TheVariants as entered
-use Rattle.tz_entry.specs.declared.leaving.Left.{Left}
-use Rattle.tz_entry.specs.declared.leaving.Left.TheVariants as left
-use Rattle.tz_entry.specs.Status.{Raised}
-use Rattle.tz_entry.specs.Enter.{Work, Done}
-use Rattle.tz_entry.specs.Leave.{Leaving}
+use Rattle.tz_frames.specs.declared.entering.Entering.{Entering}
+use Rattle.tz_frames.specs.declared.entering.Entered.{Entered}
+use Rattle.tz_frames.specs.declared.entering.Entered.TheVariants as entered
+use Rattle.tz_frames.specs.declared.leaving.Left.{Left}
+use Rattle.tz_frames.specs.declared.leaving.Left.TheVariants as left
+use Rattle.tz_frames.specs.Status.{Raised}
+use Rattle.tz_frames.specs.Enter.{Work, Done}
+use Rattle.tz_frames.specs.Leave.{Leaving}
 use Rattle.tz_twin.proofs.Split.{Open, Rest, join_bus, join, Same}
 use Rattle.tz_twin.proofs.EntrySpares.{entered_touched}
 use Rattle.tz_twin.proofs.ReturnSpares.{left_touched}

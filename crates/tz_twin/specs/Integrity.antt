@@ -12,7 +12,7 @@ use Rattle.tz_state.specs.Slots.{ExceptionsValue, at, side_at}
 use Rattle.tz_state.specs.Timers.{counted_down}
 use Rattle.tz_state.specs.State.{State, map_of, side_of}
 use Rattle.tz_state.specs.Fetch.{wide, sg_half, gateway_fetch}
-use Rattle.tz_entry.specs.Stack.{signature}
+use Rattle.tz_frames.specs.Stack.{signature}
 use Rattle.tz_sem.specs.declared.ending.Cause.{Cause}
 use Rattle.tz_sem.specs.declared.ending.Cause.TheVariants.{CameBack, Resumed, Taken}
 use Rattle.tz_sem.specs.Ended.{Ended}

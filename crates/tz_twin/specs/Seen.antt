@@ -18,8 +18,8 @@ use Rattle.tz_state.specs.Attribution.{SauState, MapState, is_open}
 use Rattle.tz_state.specs.Protection.{MpuState}
 use Rattle.tz_state.specs.Slots.{ExceptionsValue}
 use Rattle.tz_state.specs.State.{State, map_of, side_of}
-use Rattle.tz_entry.specs.Gate.{fnc_return}
-use Rattle.tz_entry.specs.Registers.{saved_of}
+use Rattle.tz_frames.specs.Gate.{fnc_return}
+use Rattle.tz_frames.specs.Registers.{saved_of}
 use Rattle.tz_sem.specs.Step.{Stepped, step}
 use Rattle.tz_sem.specs.Run.{Events}
 

@@ -1,6 +1,6 @@
 use Rattle.std.proofs.Common.{false, ap, sym, ◌∙◌}
-use Rattle.tz_entry.specs.Status.{Raised}
-use Rattle.tz_entry.specs.Leave.{chained_raised}
+use Rattle.tz_frames.specs.Status.{Raised}
+use Rattle.tz_frames.specs.Leave.{chained_raised}
 use Rattle.tz_excret.proofs.Leaves.{leaves_told}
 use Rattle.tz_excret.proofs.leaving.leave.Goals as goal
 

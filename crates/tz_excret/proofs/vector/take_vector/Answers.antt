@@ -1,7 +1,7 @@
 use Rattle.std.proofs.Common.{arith, rules, tests}
 use Rattle.std.proofs.lemmas.Grind.{common_steps, elements}
-use Rattle.tz_entry.specs.Enter.{vectored}
-use Rattle.tz_entry.specs.Enter.{vector_failed}
+use Rattle.tz_frames.specs.Enter.{vectored}
+use Rattle.tz_frames.specs.Enter.{vector_failed}
 use Rattle.tz_excret.proofs.vector.take_vector.Goals as goal
 
 -- What the tactics try, by name: a body that is refused is then told without a search for what to offer.

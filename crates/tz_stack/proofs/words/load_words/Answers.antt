@@ -1,5 +1,5 @@
 use Rattle.std.proofs.Common.{ap, sym, ◌∙◌, arith, rules}
-use Rattle.tz_entry.specs.Stack.{word_read}
+use Rattle.tz_frames.specs.Stack.{word_read}
 use Rattle.tz_stack.proofs.Reading.{reads_fail, reads_more, reads_done}
 use Rattle.tz_stack.proofs.words.load_words.Goals as goal
 

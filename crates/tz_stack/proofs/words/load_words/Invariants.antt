@@ -1,5 +1,5 @@
 use Rattle.std.proofs.Common.{◌≡◌, ◌-◌, length, take}
-use Rattle.tz_entry.specs.Stack.{reads}
+use Rattle.tz_frames.specs.Stack.{reads}
 use Rattle.tz_stack.proofs.Reading.{behind}
 use Rattle.tz_stack.proofs.words.load_words.Given as goal
 

@@ -1,5 +1,5 @@
 use Rattle.std.proofs.Common.{◌≡◌, ◌≤◌, ◌+◌, drop}
-use Rattle.tz_entry.specs.Stack.{written}
+use Rattle.tz_frames.specs.Stack.{written}
 use Rattle.tz_stack.proofs.words.store_words.Given as goal
 
 abbrev pub invariant-loop-word : goal.invariant-loop-word

@@ -18,15 +18,15 @@ use Rattle.tz_state.specs.Priority.{hard_priority, chosen}
 use Rattle.tz_state.specs.Execution.{execution}
 use Rattle.tz_state.specs.Escalation.{hard_side}
 use Rattle.tz_frames.specs.Looks.{Looking, Vector}
-use Rattle.tz_entry.specs.declared.frame.StackFault.{StackFault}
-use Rattle.tz_entry.specs.declared.entering.Entering.{Entering}
-use Rattle.tz_entry.specs.declared.entering.Choice.{Choice}
-use Rattle.tz_entry.specs.declared.entering.Choice.TheVariants as choices
-use Rattle.tz_entry.specs.declared.entering.Entered.{Entered}
-use Rattle.tz_entry.specs.declared.entering.Entered.TheVariants as entered
-use Rattle.tz_entry.specs.Status.{Raised, slot, with_hfsr, with_status, frame_faulted}
-use Rattle.tz_entry.specs.Registers.{taken_registers}
-use Rattle.tz_entry.specs.Stack.{Pushed, pushed_basic, pushed_additional}
+use Rattle.tz_frames.specs.declared.frame.StackFault.{StackFault}
+use Rattle.tz_frames.specs.declared.entering.Entering.{Entering}
+use Rattle.tz_frames.specs.declared.entering.Choice.{Choice}
+use Rattle.tz_frames.specs.declared.entering.Choice.TheVariants as choices
+use Rattle.tz_frames.specs.declared.entering.Entered.{Entered}
+use Rattle.tz_frames.specs.declared.entering.Entered.TheVariants as entered
+use Rattle.tz_frames.specs.Status.{Raised, slot, with_hfsr, with_status, frame_faulted}
+use Rattle.tz_frames.specs.Registers.{taken_registers}
+use Rattle.tz_frames.specs.Stack.{Pushed, pushed_basic, pushed_additional}
 
 -- what an entry works on
 pub record Work (H : Type 0) : Type 0 where

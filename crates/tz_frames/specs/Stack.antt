@@ -10,11 +10,11 @@ use Rattle.tz_regs.specs.declared.parts.Stacks.{Stacks}
 use Rattle.tz_regs.specs.Banks.{stacks_of, with_stacks}
 use Rattle.tz_regs.specs.Registers.{is_privileged, uses_process, sp_of}
 use Rattle.tz_frames.specs.Looks.{Looking, FrameLoad, FrameStore}
-use Rattle.tz_entry.specs.declared.frame.StackFault.{StackFault}
-use Rattle.tz_entry.specs.declared.frame.StackFault.TheVariants.{Limit, Access, Signature}
-use Rattle.tz_entry.specs.declared.frame.Basic.{Basic}
-use Rattle.tz_entry.specs.declared.frame.Callee.{Callee}
-use Rattle.tz_entry.specs.Registers.{retpsr_of}
+use Rattle.tz_frames.specs.declared.frame.StackFault.{StackFault}
+use Rattle.tz_frames.specs.declared.frame.StackFault.TheVariants.{Limit, Access, Signature}
+use Rattle.tz_frames.specs.declared.frame.Basic.{Basic}
+use Rattle.tz_frames.specs.declared.frame.Callee.{Callee}
+use Rattle.tz_frames.specs.Registers.{retpsr_of}
 
 -- ---- stack pointers
 

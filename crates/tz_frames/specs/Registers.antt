@@ -9,8 +9,8 @@ use Rattle.tz_model.specs.Words.{even_of}
 use Rattle.tz_regs.specs.declared.parts.Apsr.{Apsr}
 use Rattle.tz_regs.specs.declared.parts.Registers.{Registers}
 use Rattle.tz_regs.specs.Special.{number_of, apsr_word, apsr_from}
-use Rattle.tz_entry.specs.declared.frame.Basic.{Basic}
-use Rattle.tz_entry.specs.declared.frame.Callee.{Callee}
+use Rattle.tz_frames.specs.declared.frame.Basic.{Basic}
+use Rattle.tz_frames.specs.declared.frame.Callee.{Callee}
 
 -- ---- where an exception is taken
 

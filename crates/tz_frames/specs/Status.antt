@@ -14,8 +14,8 @@ use Rattle.tz_state.specs.Slots.{ExceptionsValue}
 use Rattle.tz_state.specs.SlotChanges.{pended}
 use Rattle.tz_state.specs.Escalation.{hard_side, escalated}
 use Rattle.tz_state.specs.FaultRegisters.{own_status, with_own_status}
-use Rattle.tz_entry.specs.declared.frame.StackFault.{StackFault}
-use Rattle.tz_entry.specs.declared.frame.StackFault.TheVariants.{Limit, Access, Signature as Unsigned}
+use Rattle.tz_frames.specs.declared.frame.StackFault.{StackFault}
+use Rattle.tz_frames.specs.declared.frame.StackFault.TheVariants.{Limit, Access, Signature as Unsigned}
 
 -- ---- status bits and addresses
 

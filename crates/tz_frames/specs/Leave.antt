@@ -17,20 +17,20 @@ use Rattle.tz_state.specs.Slots.{ExceptionsValue, at, exists, index_of, side_at,
 use Rattle.tz_state.specs.SlotChanges.{deactivated}
 use Rattle.tz_state.specs.Execution.{raw_priority, takes_first}
 use Rattle.tz_frames.specs.Looks.{Looking}
-use Rattle.tz_entry.specs.declared.frame.StackFault.{StackFault}
-use Rattle.tz_entry.specs.declared.frame.Basic.{Basic}
-use Rattle.tz_entry.specs.declared.frame.Callee.{Callee}
-use Rattle.tz_entry.specs.declared.entering.Entering.{Entering}
-use Rattle.tz_entry.specs.declared.entering.Entered.{Entered}
-use Rattle.tz_entry.specs.declared.entering.Entered.TheVariants as entered
-use Rattle.tz_entry.specs.declared.leaving.Returning.{Returning}
-use Rattle.tz_entry.specs.declared.leaving.Unstacked.{Unstacked}
-use Rattle.tz_entry.specs.declared.leaving.Left.{Left}
-use Rattle.tz_entry.specs.declared.leaving.Left.TheVariants as lefts
-use Rattle.tz_entry.specs.Status.{Raised, slot, faulted, frame_faulted}
-use Rattle.tz_entry.specs.Registers.{number_in, resumed_registers}
-use Rattle.tz_entry.specs.Stack.{with_side_sp, popped_additional, popped_basic}
-use Rattle.tz_entry.specs.Enter.{Work, Done, is_secure, with_lock, chooses}
+use Rattle.tz_frames.specs.declared.frame.StackFault.{StackFault}
+use Rattle.tz_frames.specs.declared.frame.Basic.{Basic}
+use Rattle.tz_frames.specs.declared.frame.Callee.{Callee}
+use Rattle.tz_frames.specs.declared.entering.Entering.{Entering}
+use Rattle.tz_frames.specs.declared.entering.Entered.{Entered}
+use Rattle.tz_frames.specs.declared.entering.Entered.TheVariants as entered
+use Rattle.tz_frames.specs.declared.leaving.Returning.{Returning}
+use Rattle.tz_frames.specs.declared.leaving.Unstacked.{Unstacked}
+use Rattle.tz_frames.specs.declared.leaving.Left.{Left}
+use Rattle.tz_frames.specs.declared.leaving.Left.TheVariants as lefts
+use Rattle.tz_frames.specs.Status.{Raised, slot, faulted, frame_faulted}
+use Rattle.tz_frames.specs.Registers.{number_in, resumed_registers}
+use Rattle.tz_frames.specs.Stack.{with_side_sp, popped_additional, popped_basic}
+use Rattle.tz_frames.specs.Enter.{Work, Done, is_secure, with_lock, chooses}
 
 -- ---- the value
 

@@ -1,6 +1,0 @@
-pub mod Status
-pub mod Stack
-pub mod Gate
-pub mod Registers
-pub mod Enter
-pub mod Leave
