@@ -2,7 +2,7 @@
 use Rattle.std.proofs.Common.{◌≡◌, ℕ, ◌+◌, ◌-◌, ◌*◌, ◌/◌, ◌%◌, ◌^◌, ◌<◌, ◌≤◌, arith, ◌∙◌, ap, sym}
 use Rattle.std.proofs.lemmas.Nat.{pow-add, pow_pos, shr_split, mod_below, mul-add-lt, shl_whole, div_below}
 use Rattle.tz_table.specs.Fields.{bits}
-use Rattle.tz_exec.specs.Operations.{field_placed}
+use Rattle.tz_sem.specs.Operations.{field_placed}
 
 -- the low k bits, the bits above them, and a field moved to its place
 low_part : (n k : ℕ) → bits n 0 k ≡ n % 2 ^ k

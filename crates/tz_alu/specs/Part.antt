@@ -5,7 +5,7 @@ use Rattle.tz_model.specs.declared.report.Fault.{Fault}
 use Rattle.tz_model.specs.declared.report.Outcome.{Outcome}
 use Rattle.tz_regs.specs.declared.parts.Registers.{Registers}
 use Rattle.tz_regs.specs.declared.parts.Stacks.{Stacks}
-use Rattle.tz_exec.specs.Local.{Local, Finished, left_by}
+use Rattle.tz_sem.specs.Local.{Local, Finished, left_by}
 
 -- whose code it is, its CCR, the registers and its stacks
 abbrev pub part : Side → ℕ → Registers → Stacks → Local

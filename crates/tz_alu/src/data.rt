@@ -4,15 +4,15 @@ ghost use Rattle.std.specs.Prelude.{◌≡◌, ℕ, Bool, ◌&&◌, ◌==◌, na
 ghost use Rattle.tz_bits.specs.Shifts.{shifted, carry_after};
 ghost use Rattle.tz_bits.specs.Constants.{imm_of};
 ghost use Rattle.tz_regs.specs.Registers.{limit_of};
-ghost use Rattle.tz_exec.specs.Alu.{places as places_of, is_comparison as compares, is_limited as limits, concluded, operated, finish_constant, finish_register, finish_shift, finish_add_wide};
+ghost use Rattle.tz_sem.specs.Alu.{places as places_of, is_comparison as compares, is_limited as limits, concluded, operated, finish_constant, finish_register, finish_shift, finish_add_wide};
 ghost use Rattle.tz_alu.specs.Part.{part, left};
 
 use crate::operations::compute;
 use crate::results::{put, set_flags};
 use tz_bits::{expand_imm_c, shift_c};
-use tz_exec::Computed;
 use tz_model::{DataOp, Fault, Flags, Outcome, Shift, Side};
 use tz_regs::{Registers, Stacks};
+use tz_sem::Computed;
 
 /// The places of a shift; RRX moves by one.
 fn places(kind: Shift, amount: u8) -> u32

@@ -1,7 +1,7 @@
 //! The choice of the form by the instruction.
 
 ghost use Rattle.std.specs.Prelude.{◌≡◌};
-ghost use Rattle.tz_exec.specs.Alu.{finish_alu};
+ghost use Rattle.tz_sem.specs.Alu.{finish_alu};
 ghost use Rattle.tz_alu.specs.Part.{part, left};
 
 use crate::data::{add_wide, shift_by_register, with_constant, with_register};

@@ -1,14 +1,14 @@
 //! Data processing: what its instructions make of the registers, the flags and the stack pointer (DDI0553,
 //! chapter C2).
 //!
-//! `execute` is proved to do what `tz_exec`'s `specs/Alu.antt` says. Each form works on the registers and on
+//! `execute` is proved to do what `tz_sem`'s `specs/Alu.antt` says. Each form works on the registers and on
 //! the stacks of the side that runs it, and sees nothing else of the core. The operations on words stand
 //! apart, and know no register.
 #![tactic(auto)]
 
 ghost use Rattle.std.specs.Prelude.{◌≡◌};
-ghost use Rattle.tz_exec.specs.Local.{local_of, finished_in};
-ghost use Rattle.tz_exec.specs.Alu.{finish_alu};
+ghost use Rattle.tz_sem.specs.Local.{local_of, finished_in};
+ghost use Rattle.tz_sem.specs.Alu.{finish_alu};
 
 mod data;
 mod dispatch;

@@ -2,7 +2,7 @@
 
 ghost use Rattle.std.specs.Prelude.{◌≡◌, ℕ};
 ghost use Rattle.tz_table.specs.declared.units.Side.{Side};
-ghost use Rattle.tz_exec.specs.Alu.{traps_division as traps, finish_multiply, finish_multiply_long, finish_divide};
+ghost use Rattle.tz_sem.specs.Alu.{traps_division as traps, finish_multiply, finish_multiply_long, finish_divide};
 ghost use Rattle.tz_alu.specs.Part.{part, left};
 
 use crate::products::{divide, multiply, multiply_long};

@@ -1,11 +1,11 @@
 //! Logical operations and sums, saturation, bit fields, extensions and reversals.
 
 ghost use Rattle.std.specs.Prelude.{◌≡◌, ◌+◌, ◌≤◌, true, false};
-ghost use Rattle.tz_exec.specs.Operations.{inverse_of, logical as logical_of, added, computed, saturated, field_placed, field_result, extended, reversed};
+ghost use Rattle.tz_sem.specs.Operations.{inverse_of, logical as logical_of, added, computed, saturated, field_placed, field_result, extended, reversed};
 
 use tz_bits::{add_with_carry, bit_field, shift_c, sign_extend};
-use tz_exec::Computed;
 use tz_model::{DataOp, ExtendOp, FieldOp, ReverseOp, Shift};
+use tz_sem::Computed;
 
 /// `NOT(word)`.
 fn inverse(word: u32) -> u32

@@ -1,7 +1,7 @@
 //! Products and quotients.
 
 ghost use Rattle.std.specs.Prelude.{◌≡◌, ◌+◌, ◌*◌, ◌^◌, ◌<◌, ◌*ℤ◌, true};
-ghost use Rattle.tz_exec.specs.Operations.{signed_value, low_bits, multiplied, long_product, multiplied_long, quotient, divided};
+ghost use Rattle.tz_sem.specs.Operations.{signed_value, low_bits, multiplied, long_product, multiplied_long, quotient, divided};
 
 use tz_model::{LongOp, MultiplyOp};
 

@@ -2,11 +2,11 @@
 
 ghost use Rattle.std.specs.Prelude.{◌≡◌, if◌then◌else◌};
 ghost use Rattle.tz_regs.specs.Registers.{told_by, with_reg, with_reg_stacks};
-ghost use Rattle.tz_exec.specs.Alu.{flags_by, sets_flags};
+ghost use Rattle.tz_sem.specs.Alu.{flags_by, sets_flags};
 
-use tz_exec::Computed;
 use tz_model::Flags;
 use tz_regs::{Registers, Stacks};
+use tz_sem::Computed;
 
 /// Writes R0 to R12, SP or LR. SP isn't compared with its limit.
 pub(crate) fn put(registers: &mut Registers, own: &mut Stacks, rd: u8, value: u32)

@@ -3,7 +3,7 @@
 
 ghost use Rattle.std.specs.Prelude.{◌≡◌, ℕ, IsTrue};
 ghost use Rattle.tz_table.specs.declared.units.Side.{Side};
-ghost use Rattle.tz_exec.specs.Alu.{is_width as has_width, is_field as has_field, finish_adr, finish_move_wide, finish_saturate, finish_bit_field, finish_extend, finish_reverse};
+ghost use Rattle.tz_sem.specs.Alu.{is_width as has_width, is_field as has_field, finish_adr, finish_move_wide, finish_saturate, finish_bit_field, finish_extend, finish_reverse};
 ghost use Rattle.tz_alu.specs.Part.{part, left};
 
 use crate::data::shift;

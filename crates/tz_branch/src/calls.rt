@@ -2,8 +2,8 @@
 
 ghost use Rattle.std.specs.Prelude.{◌≡◌, ◌+◌};
 ghost use Rattle.tz_model.specs.Words.{even_of};
-ghost use Rattle.tz_exec.specs.Local.{local_of, finished_in};
-ghost use Rattle.tz_exec.specs.Branch.{finish_link, links, call_ns, finish_call, finish_it};
+ghost use Rattle.tz_sem.specs.Local.{local_of, finished_in};
+ghost use Rattle.tz_sem.specs.Branch.{finish_link, links, call_ns, finish_call, finish_it};
 
 use crate::jumps::{reg, target};
 use tz_model::{Fault, Outcome, Side};
@@ -17,7 +17,7 @@ fn odd(addr: u32) -> u32
 }
 
 /// BL.
-#[tactic(auto, using(tz_exec::proofs::Local::registers_put))]
+#[tactic(auto, using(tz_sem::proofs::Local::registers_put))]
 pub fn branch_link(core: &mut Core, offset: i32) -> Result<Outcome, Fault>
     ensures { finished_in core.old (finish_link offset (local_of core.old)) ≡ (core.new, result) }
 {
@@ -27,7 +27,7 @@ pub fn branch_link(core: &mut Core, offset: i32) -> Result<Outcome, Fault>
 }
 
 /// BLX, of two bytes.
-#[tactic(auto, using(tz_exec::proofs::Local::registers_put))]
+#[tactic(auto, using(tz_sem::proofs::Local::registers_put))]
 fn link(core: &mut Core, to: u32) -> Result<Outcome, Fault>
     ensures { finished_in core.old (links (local_of core.old) to) ≡ (core.new, result) }
 {
@@ -37,7 +37,7 @@ fn link(core: &mut Core, to: u32) -> Result<Outcome, Fault>
 }
 
 /// BLXNS.
-#[tactic(auto, using(tz_exec::proofs::Local::core_kept))]
+#[tactic(auto, using(tz_sem::proofs::Local::core_kept))]
 fn call_ns(core: &mut Core, to: u32) -> Result<Outcome, Fault>
     ensures { finished_in core.old (call_ns core.old.run.side (local_of core.old) to) ≡ (core.new, result) }
 {
@@ -69,7 +69,7 @@ pub fn call_exchange(core: &mut Core, rm: u8, ns: bool) -> Result<Outcome, Fault
 }
 
 /// IT.
-#[tactic(auto, using(tz_exec::proofs::Local::registers_put))]
+#[tactic(auto, using(tz_sem::proofs::Local::registers_put))]
 pub fn if_then(core: &mut Core, cond: u8, mask: u8) -> Result<Outcome, Fault>
     ensures { finished_in core.old (finish_it cond mask (local_of core.old)) ≡ (core.new, result) }
 {

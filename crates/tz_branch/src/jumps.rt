@@ -2,9 +2,9 @@
 
 ghost use Rattle.std.specs.Prelude.{◌≡◌, [], ◌∷◌, slice_index};
 ghost use Rattle.tz_model.specs.Words.{wrap, word_of};
-ghost use Rattle.tz_exec.specs.Local.{reg, local_of, finished_in};
-ghost use Rattle.tz_exec.specs.Branch.{target_at, taken_if, finish_zero, finish_exchange, entry_of, finish_table};
-ghost use Rattle.tz_exec.specs.Exec.{over};
+ghost use Rattle.tz_sem.specs.Local.{reg, local_of, finished_in};
+ghost use Rattle.tz_sem.specs.Branch.{target_at, taken_if, finish_zero, finish_exchange, entry_of, finish_table};
+ghost use Rattle.tz_sem.specs.Exec.{over};
 
 use tz_model::{Fault, Outcome, Port, Side, Size};
 use tz_regs::Core;
@@ -27,7 +27,7 @@ pub fn target(core: &Core, offset: i32) -> u32
 }
 
 /// A branch that is taken or not.
-#[tactic(auto, using(tz_exec::proofs::Local::core_kept))]
+#[tactic(auto, using(tz_sem::proofs::Local::core_kept))]
 pub fn branch_if(core: &Core, taken: bool, offset: i32) -> Result<Outcome, Fault>
     ensures { finished_in core.now (taken_if taken offset (local_of core.now)) ≡ (core.now, result) }
 {
@@ -46,7 +46,7 @@ pub fn branch_zero(core: &Core, nonzero: bool, rn: u8, offset: i32) -> Result<Ou
 }
 
 /// BX and BXNS.
-#[tactic(auto, using(tz_exec::proofs::Local::core_kept))]
+#[tactic(auto, using(tz_sem::proofs::Local::core_kept))]
 pub fn exchange(core: &Core, rm: u8, ns: bool) -> Result<Outcome, Fault>
     ensures { finished_in core.now (finish_exchange rm ns (local_of core.now)) ≡ (core.now, result) }
 {
@@ -80,7 +80,7 @@ fn load_entry<P: Port>(core: &Core, port: &mut P, half: bool, rn: u8, rm: u8) ->
 }
 
 /// TBB and TBH.
-#[tactic(auto, using(tz_exec::proofs::Local::core_kept), unfolding(tz_model::specs::Ports::answers))]
+#[tactic(auto, using(tz_sem::proofs::Local::core_kept), unfolding(tz_model::specs::Ports::answers))]
 pub fn table_branch<P: Port>(
     core: &Core,
     port: &mut P,

@@ -5,9 +5,9 @@
 #![tactic(auto)]
 
 ghost use Rattle.std.specs.Prelude.{◌≡◌, []};
-ghost use Rattle.tz_exec.specs.Local.{local_of, finished_in};
-ghost use Rattle.tz_exec.specs.Branch.{plan_branch, finish_branch};
-ghost use Rattle.tz_exec.specs.Exec.{branch_over};
+ghost use Rattle.tz_sem.specs.Local.{local_of, finished_in};
+ghost use Rattle.tz_sem.specs.Branch.{plan_branch, finish_branch};
+ghost use Rattle.tz_sem.specs.Exec.{branch_over};
 
 mod calls;
 mod jumps;

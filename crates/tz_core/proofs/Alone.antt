@@ -4,9 +4,9 @@ use Rattle.tz_table.specs.declared.instruction.Insn.{Insn}
 use Rattle.tz_model.specs.Ports.{answers}
 use Rattle.tz_state.specs.Access.{reached_in, access}
 use Rattle.tz_state.specs.State.{State}
-use Rattle.tz_exec.specs.Local.{Finished, local_of, finished_in}
-use Rattle.tz_exec.specs.Branch.{plan_branch, finish_branch}
-use Rattle.tz_exec.specs.Exec.{ported, after_accesses, branch_over, through, alone}
+use Rattle.tz_sem.specs.Local.{Finished, local_of, finished_in}
+use Rattle.tz_sem.specs.Branch.{plan_branch, finish_branch}
+use Rattle.tz_sem.specs.Exec.{ported, after_accesses, branch_over, through, alone}
 
 left_alone : (s : State) (f : Finished) → through s (ported (reached_in s) (finished_in s.core f)) ≡ alone s (finished_in s.core f)
 left_alone s (Ok f) = refl

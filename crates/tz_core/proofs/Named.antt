@@ -7,7 +7,7 @@ use Rattle.tz_regs.specs.declared.parts.SideMasks.{SideMasks}
 use Rattle.tz_regs.specs.Banks.{secure_after, stacks_of}
 use Rattle.tz_regs.specs.Registers.{with_reg, with_reg_stacks}
 use Rattle.tz_regs.specs.Special.{named_of, with_named}
-use Rattle.tz_exec.specs.Local.{local_of, with_local, put}
+use Rattle.tz_sem.specs.Local.{local_of, with_local, put}
 
 masks_kept : (side : Side) (m : SideMasks) → secure_after side m m ≡ m
 masks_kept Secure m = refl

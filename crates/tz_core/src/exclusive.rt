@@ -2,9 +2,9 @@
 
 ghost use Rattle.std.specs.Prelude.{◌≡◌};
 ghost use Rattle.arrayvec.specs.ArrayVec.{array_vec_len};
-ghost use Rattle.tz_exec.specs.Local.{local_of, with_local, put};
-ghost use Rattle.tz_exec.specs.LoadStore.{offset_at};
-ghost use Rattle.tz_exec.specs.Exec.{marked, loads_stores, stores_exclusive, exclusivity, exclusively};
+ghost use Rattle.tz_sem.specs.Local.{local_of, with_local, put};
+ghost use Rattle.tz_sem.specs.LoadStore.{offset_at};
+ghost use Rattle.tz_sem.specs.Exec.{marked, loads_stores, stores_exclusive, exclusivity, exclusively};
 
 use crate::changes::Stores;
 use crate::port::CorePort;

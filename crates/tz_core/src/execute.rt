@@ -10,10 +10,10 @@ use tz_model::{Fault, Insn, Outcome};
 use tz_prio::execution_priority;
 
 impl Machine {
-    ghost use Rattle.tz_exec.specs.declared.family.Family.TheVariants.{Alu, LoadStore, Branch, System};
-    ghost use Rattle.tz_exec.specs.Local.{local_of};
-    ghost use Rattle.tz_exec.specs.Branch.{plan_branch};
-    ghost use Rattle.tz_exec.specs.Exec.{executed_by, executed};
+    ghost use Rattle.tz_sem.specs.declared.family.Family.TheVariants.{Alu, LoadStore, Branch, System};
+    ghost use Rattle.tz_sem.specs.Local.{local_of};
+    ghost use Rattle.tz_sem.specs.Branch.{plan_branch};
+    ghost use Rattle.tz_sem.specs.Exec.{executed_by, executed};
 
     /// Data processing.
     fn data(&mut self, insn: &Insn) -> Result<Outcome, Fault>

@@ -1,7 +1,7 @@
 //! What may stand in an IT block, and what runs there whatever the condition.
 
 ghost use Rattle.std.specs.Prelude.{◌≡◌};
-ghost use Rattle.tz_exec.specs.ItRules.{is_plain_move, is_barred, writes_pc, is_misplaced, is_secure_only, ignores_condition, is_passed_over};
+ghost use Rattle.tz_sem.specs.ItRules.{is_plain_move, is_barred, writes_pc, is_misplaced, is_secure_only, ignores_condition, is_passed_over};
 
 use tz_model::{DataOp, Flags, Insn, Shift, Side};
 use tz_regs::Registers;

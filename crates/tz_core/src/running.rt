@@ -68,7 +68,7 @@ fn sleep_of(event: bool) -> Sleep
 impl Machine {
     ghost use Rattle.std.specs.Prelude.{[], true, if◌then◌else◌};
     ghost use Rattle.tz_state.specs.State.{side_of};
-    ghost use Rattle.tz_exec.specs.Exec.{executed};
+    ghost use Rattle.tz_sem.specs.Exec.{executed};
     ghost use Rattle.tz_model.specs.Codes.{meaning_of};
     ghost use Rattle.tz_sem.specs.Step.{past, goes_next, skips, goes_on, concludes, executes, faulting, placed, decoded, enters, looks, unready, course_in, instructs, idles, by_sleep, takes, ended, step};
     ghost use Rattle.tz_twin.specs.Integrity.{LeavesSecure, EntersSecure};

@@ -58,7 +58,7 @@ pub(crate) fn frames_over<'a>(bus: &'a mut Bus, core: &Core, negative: bool) -> 
 impl Machine {
     ghost use Rattle.std.specs.Prelude.{Some, None, true};
     ghost use Rattle.tz_sem.specs.declared.ending.Cause.TheVariants.{Resumed};
-    ghost use Rattle.tz_exec.specs.Exec.{released};
+    ghost use Rattle.tz_sem.specs.Exec.{released};
     ghost use Rattle.tz_sem.specs.Taking.{locks, taken, preempted, faults, returns};
 
     /// Locks the machine, by a fault or because it was locked.

@@ -5,8 +5,8 @@ use Rattle.tz_table.specs.declared.units.Side.TheVariants.{Secure, NonSecure}
 use Rattle.tz_regs.specs.declared.parts.Core.{Core}
 use Rattle.tz_regs.specs.declared.parts.Stacks.{Stacks}
 use Rattle.tz_regs.specs.Banks.{of_side, secure_after, nonsecure_after}
-use Rattle.tz_exec.specs.Local.{Local, put, local_of, with_local}
-use Rattle.tz_exec.specs.LoadStore.{filled}
+use Rattle.tz_sem.specs.Local.{Local, put, local_of, with_local}
+use Rattle.tz_sem.specs.LoadStore.{filled}
 
 stacks_left : (side : Side) (own s ns : Stacks) → of_side side (secure_after side own s) (nonsecure_after side own ns) ≡ own
 stacks_left Secure own s ns = refl

@@ -7,8 +7,8 @@ use Rattle.tz_table.specs.declared.units.Size.TheVariants.{Word}
 use Rattle.tz_model.specs.declared.report.Fault.{Fault}
 use Rattle.tz_model.specs.Ports.{Access, Load, Store, Answering, answers, with_read}
 use Rattle.tz_model.specs.Words.{wrap}
-use Rattle.tz_exec.specs.Local.{Local, reg}
-use Rattle.tz_exec.specs.LoadStore.{word_loads, word_stores}
+use Rattle.tz_sem.specs.Local.{Local, reg}
+use Rattle.tz_sem.specs.LoadStore.{word_loads, word_stores}
 
 -- the words of later accesses, behind those read before
 abbrev pub read_on : {H : Type 0} → List ℕ → H × Result (List ℕ) Fault → H × Result (List ℕ) Fault

@@ -1,8 +1,8 @@
 //! Where loads and stores go, and the limit that a base keeps.
 
 ghost use Rattle.std.specs.Prelude.{◌≡◌};
-ghost use Rattle.tz_exec.specs.Local.{reg, local_of};
-ghost use Rattle.tz_exec.specs.LoadStore.{below_limit, literal_at, offset_at, place_of, refusal_of};
+ghost use Rattle.tz_sem.specs.Local.{reg, local_of};
+ghost use Rattle.tz_sem.specs.LoadStore.{below_limit, literal_at, offset_at, place_of, refusal_of};
 
 use tz_bits::shift_c;
 use tz_model::{Address, Fault, Shift};

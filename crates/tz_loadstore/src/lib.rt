@@ -2,13 +2,13 @@
 //! (DDI0553, chapter C2).
 //!
 //! An instruction makes its accesses over any port, and leaves the registers of the running code. `execute`
-//! is proved to do what `tz_exec`'s `specs/LoadStore.antt` says: what refuses the instruction, its accesses,
+//! is proved to do what `tz_sem`'s `specs/LoadStore.antt` says: what refuses the instruction, its accesses,
 //! and then its registers, in this order. The exclusive monitor isn't known here: a store exclusive is one
 //! that the monitor lets through.
 #![tactic(auto)]
 
 ghost use Rattle.std.specs.Prelude.{◌≡◌, ◌≤◌, ◌+◌};
-ghost use Rattle.tz_exec.specs.Exec.{load_store_over};
+ghost use Rattle.tz_sem.specs.Exec.{load_store_over};
 
 mod addresses;
 mod lists;
@@ -29,7 +29,7 @@ use tz_regs::Core;
 /// Faults: `StackLimit` of the running side where the base would get below the limit of SP, before any
 /// access; else the fault of the first access that fails; `Undef` for the instructions of other families.
 /// At a fault the core is as it was, whatever was loaded before, and the stores before it stand.
-#[tactic(auto, using(tz_exec::proofs::Local::core_kept), unfolding(tz_model::specs::Ports::answers))]
+#[tactic(auto, using(tz_sem::proofs::Local::core_kept), unfolding(tz_model::specs::Ports::answers))]
 pub fn execute<P: Port>(insn: &Insn, core: &mut Core, port: &mut P) -> Result<Outcome, Fault>
     requires { 14 ≤ P.room port.old }
     ensures executes { load_store_over P.answer insn.now core.old (P.held port.old) ≡ record { core = core.new; held = P.held port.new; outcome = result } }

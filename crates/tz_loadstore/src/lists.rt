@@ -2,7 +2,7 @@
 
 ghost use Rattle.std.specs.Prelude.{◌≡◌, ◌≤◌, length, filter};
 ghost use Rattle.arrayvec.specs.ArrayVec.{array_vec_len};
-ghost use Rattle.tz_exec.specs.LoadStore.{is_listed, listed};
+ghost use Rattle.tz_sem.specs.LoadStore.{is_listed, listed};
 
 use arrayvec::ArrayVec;
 
@@ -37,7 +37,7 @@ fn listed_among(list: u16, some: &[u8]) -> ArrayVec<u8, 14>
 }
 
 /// The registers of a list beside PC, the lowest first.
-#[tactic(auto, unfolding(tz_exec::specs::LoadStore::listed))]
+#[tactic(auto, unfolding(tz_sem::specs::LoadStore::listed))]
 pub(crate) fn listed(list: u16) -> ArrayVec<u8, 14>
     ensures items { result.items ≡ listed list }
     ensures few { array_vec_len result ≤ 14 }

@@ -4,9 +4,9 @@ ghost use Rattle.std.specs.Prelude.{◌≡◌, ◌≤◌, ◌+◌, length, repli
 ghost use Rattle.arrayvec.specs.ArrayVec.{array_vec_len};
 ghost use Rattle.tz_table.specs.declared.instruction.Insn.TheVariants.{LoadMany, StoreMany};
 ghost use Rattle.tz_model.specs.Ports.{answers};
-ghost use Rattle.tz_exec.specs.Exec.{load_store_over};
-ghost use Rattle.tz_exec.specs.Local.{local_of, with_local, finished_in};
-ghost use Rattle.tz_exec.specs.LoadStore.{past_words, lowest, word_loads, word_stores, refusal_past, based_past, filled, filled_all, listed, words_loaded};
+ghost use Rattle.tz_sem.specs.Exec.{load_store_over};
+ghost use Rattle.tz_sem.specs.Local.{local_of, with_local, finished_in};
+ghost use Rattle.tz_sem.specs.LoadStore.{past_words, lowest, word_loads, word_stores, refusal_past, based_past, filled, filled_all, listed, words_loaded};
 
 use crate::addresses::{below_limit, reg};
 use crate::lists::{is_listed, listed};
@@ -51,7 +51,7 @@ fn refusal_past(core: &Core, back: bool, rn: u8, value: u32) -> Option<Fault>
 }
 
 /// Gives the base its new value where it is written back.
-#[tactic(auto, using(tz_exec::proofs::Local::core_kept))]
+#[tactic(auto, using(tz_sem::proofs::Local::core_kept))]
 fn write_back_past(core: &mut Core, back: bool, rn: u8, value: u32)
     ensures { core.new ≡ with_local core.old (based_past back rn value (local_of core.old)) }
 {

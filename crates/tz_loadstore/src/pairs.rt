@@ -2,7 +2,7 @@
 
 ghost use Rattle.std.specs.Prelude.{◌≡◌, ◌≤◌, ◌+◌};
 ghost use Rattle.tz_table.specs.declared.instruction.Insn.TheVariants.{LoadPair, StorePair};
-ghost use Rattle.tz_exec.specs.Exec.{load_store_over};
+ghost use Rattle.tz_sem.specs.Exec.{load_store_over};
 
 use crate::addresses::{place, refusal, reg};
 use crate::results::{finish_pair, write_back};

@@ -1,8 +1,8 @@
 //! What loads and stores leave in registers.
 
 ghost use Rattle.std.specs.Prelude.{◌≡◌, Ok};
-ghost use Rattle.tz_exec.specs.Local.{put, local_of, with_local, finished_in};
-ghost use Rattle.tz_exec.specs.LoadStore.{based, extended_to, loaded, offset_at};
+ghost use Rattle.tz_sem.specs.Local.{put, local_of, with_local, finished_in};
+ghost use Rattle.tz_sem.specs.LoadStore.{based, extended_to, loaded, offset_at};
 
 use crate::addresses::at_offset;
 use tz_bits::sign_extend;
@@ -30,7 +30,7 @@ fn move_base(core: &mut Core, rn: u8, offset: i32)
 }
 
 /// Gives the base its new value.
-#[tactic(auto, using(tz_exec::proofs::Local::core_kept))]
+#[tactic(auto, using(tz_sem::proofs::Local::core_kept))]
 pub(crate) fn write_back(core: &mut Core, address: &Address)
     ensures { core.new ≡ with_local core.old (based address.now (local_of core.old)) }
 {

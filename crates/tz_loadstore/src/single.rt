@@ -3,8 +3,8 @@
 ghost use Rattle.std.specs.Prelude.{◌≡◌, ◌≢◌, ◌≤◌, ◌+◌, [], ◌∷◌, slice_index, true, false};
 ghost use Rattle.tz_table.specs.declared.instruction.Insn.TheVariants.{Load, Store, StoreRelease};
 ghost use Rattle.tz_model.specs.Ports.{Load as Read, Store as Write};
-ghost use Rattle.tz_exec.specs.Exec.{load_store_over, over};
-ghost use Rattle.tz_exec.specs.Local.{reg, gives, local_of};
+ghost use Rattle.tz_sem.specs.Exec.{load_store_over, over};
+ghost use Rattle.tz_sem.specs.Local.{reg, gives, local_of};
 
 use crate::addresses::{place, refusal, reg};
 use crate::results::{extend, finish_load, put, write_back};
@@ -85,7 +85,7 @@ pub(crate) fn load_aligned<P: Port>(
 }
 
 /// A store that releases: it has to be aligned.
-#[tactic(auto, using(tz_exec::proofs::Local::core_kept), unfolding(tz_model::specs::Ports::answers))]
+#[tactic(auto, using(tz_sem::proofs::Local::core_kept), unfolding(tz_model::specs::Ports::answers))]
 pub(crate) fn store_release<P: Port>(
     core: &Core,
     port: &mut P,

@@ -29,8 +29,8 @@ use Rattle.tz_state.specs.State.{State, map_of, is_privileged_in, priority_in, i
 use Rattle.tz_state.specs.Due.{begun}
 use Rattle.tz_state.specs.Execution.{takes_first, wakes}
 use Rattle.tz_state.specs.Fetch.{fetch, is_own_fetch, wide, sg_half}
-use Rattle.tz_exec.specs.ItRules.{is_misplaced, is_passed_over, ignores_condition}
-use Rattle.tz_exec.specs.Exec.{Executed, executed}
+use Rattle.tz_sem.specs.ItRules.{is_misplaced, is_passed_over, ignores_condition}
+use Rattle.tz_sem.specs.Exec.{Executed, executed}
 use Rattle.tz_frames.specs.Gate.{gateway_entered}
 use Rattle.tz_frames.specs.Enter.{is_secure}
 use Rattle.tz_sem.specs.declared.ending.Cause.TheVariants.{Went}

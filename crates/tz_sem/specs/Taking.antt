@@ -9,7 +9,7 @@ use Rattle.tz_regs.specs.declared.parts.Core.{Core}
 use Rattle.tz_regs.specs.ItState.{it_advanced}
 use Rattle.tz_state.specs.Slots.{ExceptionsValue}
 use Rattle.tz_state.specs.State.{Bus, State, is_privileged_in, with_run}
-use Rattle.tz_exec.specs.Exec.{released}
+use Rattle.tz_sem.specs.Exec.{released}
 use Rattle.tz_frames.specs.Machine.{Framed, framed}
 use Rattle.tz_frames.specs.declared.entering.Entered.{Entered}
 use Rattle.tz_frames.specs.declared.entering.Entered.TheVariants as entered

@@ -1,7 +1,7 @@
 //! System instructions: special registers, masks, hints, barriers, TT, and the exceptions that code raises
 //! (DDI0553, chapter C2).
 //!
-//! Each function does one form, as `tz_exec`'s `specs/System.antt` defines it. Registers and masks are
+//! Each function does one form, as `tz_sem`'s `specs/System.antt` defines it. Registers and masks are
 //! written by `tz_regs` alone. Of the bus TT asks its word, and CLREX clears the monitor; nothing else of the
 //! machine is known here.
 #![tactic(auto)]
@@ -11,9 +11,9 @@ ghost use Rattle.tz_table.specs.declared.instruction.Insn.TheVariants.{Barrier};
 ghost use Rattle.tz_regs.specs.Registers.{reg_of};
 ghost use Rattle.tz_regs.specs.Special.{named_of};
 ghost use Rattle.tz_state.specs.Target.{target_word};
-ghost use Rattle.tz_exec.specs.Exec.{cleared_by, system_over};
-ghost use Rattle.tz_exec.specs.Local.{finished_named};
-ghost use Rattle.tz_exec.specs.System.{passes, waits_for_event, finish_hint, finish_read, finish_write, asked, finish_test, finish_lazy};
+ghost use Rattle.tz_sem.specs.Exec.{cleared_by, system_over};
+ghost use Rattle.tz_sem.specs.Local.{finished_named};
+ghost use Rattle.tz_sem.specs.System.{passes, waits_for_event, finish_hint, finish_read, finish_write, asked, finish_test, finish_lazy};
 
 use tz_access::Bus;
 use tz_model::{Fault, Outcome};

@@ -25,15 +25,15 @@ use Rattle.tz_state.specs.Access.{is_aligned, Reached, reached_in}
 use Rattle.tz_state.specs.State.{priority_in, asker_in, is_held}
 use Rattle.tz_state.specs.declared.asker.Asker.{Asker}
 use Rattle.tz_state.specs.Target.{target_word}
-use Rattle.tz_exec.specs.declared.family.Family.{Family}
-use Rattle.tz_exec.specs.declared.family.Family.TheVariants.{Alu, LoadStore, Branch, System}
-use Rattle.tz_exec.specs.Local.{Local, Finished, FinishedNamed, local_of, put, finished_in, finished_named}
-use Rattle.tz_exec.specs.Alu.{finish_alu}
-use Rattle.tz_exec.specs.LoadStore.{refusal, plan_load_store, finish_load_store}
-use Rattle.tz_exec.specs.Branch.{plan_branch, finish_branch}
-use Rattle.tz_exec.specs.System.{finish_system, clears_monitor, probe_of}
-use Rattle.tz_exec.specs.ItRules.{is_misplaced, is_passed_over, ignores_condition}
-use Rattle.tz_exec.specs.Exec.{Ported, ported, unless_refused, after_accesses, probed, cleared_by, Executed, alone, beside, through, Exclusivity, Free, Marks, Takes, exclusivity, marked_by, marked, loads_stores, stores_exclusive, exclusively, family_of, executed_by, executed}
+use Rattle.tz_sem.specs.declared.family.Family.{Family}
+use Rattle.tz_sem.specs.declared.family.Family.TheVariants.{Alu, LoadStore, Branch, System}
+use Rattle.tz_sem.specs.Local.{Local, Finished, FinishedNamed, local_of, put, finished_in, finished_named}
+use Rattle.tz_sem.specs.Alu.{finish_alu}
+use Rattle.tz_sem.specs.LoadStore.{refusal, plan_load_store, finish_load_store}
+use Rattle.tz_sem.specs.Branch.{plan_branch, finish_branch}
+use Rattle.tz_sem.specs.System.{finish_system, clears_monitor, probe_of}
+use Rattle.tz_sem.specs.ItRules.{is_misplaced, is_passed_over, ignores_condition}
+use Rattle.tz_sem.specs.Exec.{Ported, ported, unless_refused, after_accesses, probed, cleared_by, Executed, alone, beside, through, Exclusivity, Free, Marks, Takes, exclusivity, marked_by, marked, loads_stores, stores_exclusive, exclusively, family_of, executed_by, executed}
 use Rattle.tz_sem.specs.declared.ending.Course.{Course}
 use Rattle.tz_sem.specs.Step.{is_call, executes, placed, decoded}
 use Rattle.tz_twin.proofs.Split.{Open, Rest, join_bus, join, Same}

@@ -23,12 +23,12 @@ use Rattle.tz_state.specs.declared.request.Request.{Request}
 use Rattle.tz_state.specs.State.{Bus, map_in}
 use Rattle.tz_state.specs.Memory.{every}
 use Rattle.tz_state.specs.Access.{Reached, is_crooked, may_touch, is_let, is_private, takes, verdict, request_by, loaded, read_by, write_by, access}
-use Rattle.tz_exec.specs.Operations.{computed}
-use Rattle.tz_exec.specs.Local.{Local, reg}
-use Rattle.tz_exec.specs.Alu.{constant_of, shifted_value, shifted_carry, flagged, is_comparison, is_limited, delivered, operated, is_width, is_field, traps_division, finish_alu}
-use Rattle.tz_exec.specs.LoadStore.{below_limit, is_listed, refusal_of, refusal_past, refusal, loaded as loaded_into, finish_load_store}
-use Rattle.tz_exec.specs.Branch.{taken_if, exchange_ns, finish_branch, call_ns}
-use Rattle.tz_exec.specs.System.{waits_for_event, finish_hint, finish_write, finish_lazy, finish_test, finish_system}
+use Rattle.tz_sem.specs.Operations.{computed}
+use Rattle.tz_sem.specs.Local.{Local, reg}
+use Rattle.tz_sem.specs.Alu.{constant_of, shifted_value, shifted_carry, flagged, is_comparison, is_limited, delivered, operated, is_width, is_field, traps_division, finish_alu}
+use Rattle.tz_sem.specs.LoadStore.{below_limit, is_listed, refusal_of, refusal_past, refusal, loaded as loaded_into, finish_load_store}
+use Rattle.tz_sem.specs.Branch.{taken_if, exchange_ns, finish_branch, call_ns}
+use Rattle.tz_sem.specs.System.{waits_for_event, finish_hint, finish_write, finish_lazy, finish_test, finish_system}
 
 -- a fault that names no Secure side
 unfoldable pub is_own : Fault → Bool

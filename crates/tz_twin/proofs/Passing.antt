@@ -23,7 +23,7 @@ use Rattle.tz_sem.specs.declared.ending.Course.{Course}
 use Rattle.tz_sem.specs.Ended.{Passed, with_stores}
 use Rattle.tz_sem.specs.Taking.{state_of, locks, taken_by, after_entry, preempted, goes_on_at, passed_by, after_raise, faults, left_by, after_return, returns}
 use Rattle.tz_sem.specs.Exchange.{comes_back}
-use Rattle.tz_exec.specs.Exec.{released}
+use Rattle.tz_sem.specs.Exec.{released}
 use Rattle.tz_twin.specs.Seen.{public_of, Seen, Shown}
 use Rattle.tz_twin.proofs.Split.{Open, Rest, join_bus, join, Same, twins_join, board_seen, seen_of_twins}
 use Rattle.tz_twin.proofs.Both.{Kept, Stops, Arrives, Both, Go, Stop, Touch}

@@ -26,15 +26,15 @@ use Rattle.tz_regs.specs.declared.parts.Core.{Core}
 use Rattle.tz_state.specs.State.{State, priority_in, is_negative_at, is_held, side_of, with_pc}
 use Rattle.tz_state.specs.Access.{is_aligned, is_private, Reached, reached_in, loaded, read_by, stored_in, write_by, access}
 use Rattle.tz_state.specs.Fetch.{fetch, own_fetch}
-use Rattle.tz_exec.specs.declared.family.Family.{Family}
-use Rattle.tz_exec.specs.declared.family.Family.TheVariants.{Alu, LoadStore, Branch, System}
-use Rattle.tz_exec.specs.Local.{Finished, FinishedNamed, local_of, finished_in, finished_named}
-use Rattle.tz_exec.specs.Alu.{finish_alu}
-use Rattle.tz_exec.specs.LoadStore.{refusal, plan_load_store, finish_load_store}
-use Rattle.tz_exec.specs.Branch.{plan_branch, finish_branch}
-use Rattle.tz_exec.specs.System.{finish_system, clears_monitor, probe_of}
-use Rattle.tz_exec.specs.ItRules.{is_misplaced, is_passed_over, ignores_condition}
-use Rattle.tz_exec.specs.Exec.{Ported, ported, unless_refused, after_accesses, probed, Executed, alone, beside, through, Exclusivity, Free, Marks, Takes, exclusivity, marked, released, loads_stores, exclusively, family_of, executed_by}
+use Rattle.tz_sem.specs.declared.family.Family.{Family}
+use Rattle.tz_sem.specs.declared.family.Family.TheVariants.{Alu, LoadStore, Branch, System}
+use Rattle.tz_sem.specs.Local.{Finished, FinishedNamed, local_of, finished_in, finished_named}
+use Rattle.tz_sem.specs.Alu.{finish_alu}
+use Rattle.tz_sem.specs.LoadStore.{refusal, plan_load_store, finish_load_store}
+use Rattle.tz_sem.specs.Branch.{plan_branch, finish_branch}
+use Rattle.tz_sem.specs.System.{finish_system, clears_monitor, probe_of}
+use Rattle.tz_sem.specs.ItRules.{is_misplaced, is_passed_over, ignores_condition}
+use Rattle.tz_sem.specs.Exec.{Ported, ported, unless_refused, after_accesses, probed, Executed, alone, beside, through, Exclusivity, Free, Marks, Takes, exclusivity, marked, released, loads_stores, exclusively, family_of, executed_by}
 use Rattle.tz_sem.specs.Ended.{Passed, Ended, with_stores}
 use Rattle.tz_regs.specs.declared.parts.Before.{Before}
 use Rattle.tz_regs.specs.Registers.{is_handler, limit_of, side_in, before_in}

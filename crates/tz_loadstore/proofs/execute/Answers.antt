@@ -1,6 +1,6 @@
 use Rattle.std.proofs.Common.{ap, ◌∙◌}
 use Rattle.tz_table.specs.declared.instruction.Insn.{Insn}
-use Rattle.tz_exec.specs.Exec.{load_store_over}
+use Rattle.tz_sem.specs.Exec.{load_store_over}
 use Rattle.tz_loadstore.proofs.execute.Goals as goal
 
 -- What the callee of each arm says, at the instruction that the arm has.

@@ -1,7 +1,7 @@
 use Rattle.std.proofs.Common.{arith, rules, tests}
 use Rattle.std.proofs.lemmas.Grind.{common_steps, elements}
 use Rattle.tz_model.specs.Ports.{answers}
-use Rattle.tz_exec.proofs.Local.{core_kept}
+use Rattle.tz_sem.proofs.Local.{core_kept}
 use Rattle.tz_branch.proofs.jumps.table_branch.Goals as goal
 
 -- What the tactics try, by name: a body that is refused is then told without a search for what to offer.

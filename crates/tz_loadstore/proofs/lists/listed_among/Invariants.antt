@@ -1,7 +1,7 @@
 use Rattle.std.proofs.Common.{◌≡◌, ◌≤◌, take}
 use Rattle.std.specs.Prelude.{filter}
 use Rattle.arrayvec.specs.ArrayVec.{array_vec_len}
-use Rattle.tz_exec.specs.LoadStore.{is_listed}
+use Rattle.tz_sem.specs.LoadStore.{is_listed}
 use Rattle.tz_loadstore.proofs.lists.listed_among.Given as goal
 
 abbrev pub invariant-loop-index : goal.invariant-loop-index

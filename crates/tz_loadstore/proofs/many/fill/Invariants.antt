@@ -1,6 +1,6 @@
 use Rattle.std.proofs.Common.{◌≡◌, take}
-use Rattle.tz_exec.specs.Local.{local_of, with_local}
-use Rattle.tz_exec.specs.LoadStore.{filled}
+use Rattle.tz_sem.specs.Local.{local_of, with_local}
+use Rattle.tz_sem.specs.LoadStore.{filled}
 use Rattle.tz_loadstore.proofs.many.fill.Given as goal
 
 abbrev pub invariant-loop-index : goal.invariant-loop-index

@@ -1,7 +1,7 @@
 use Rattle.std.proofs.Common.{◌≡◌, ◌-◌}
 use Rattle.arrayvec.specs.ArrayVec.{array_vec_len}
 use Rattle.tz_model.specs.Ports.{answers}
-use Rattle.tz_exec.specs.LoadStore.{word_loads}
+use Rattle.tz_sem.specs.LoadStore.{word_loads}
 use Rattle.tz_loadstore.proofs.Words.{read_on}
 use Rattle.tz_loadstore.proofs.many.load_words.Given as goal
 

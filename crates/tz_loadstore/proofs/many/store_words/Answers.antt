@@ -1,5 +1,5 @@
 use Rattle.std.proofs.Common.{sym, ◌∙◌, arith}
-use Rattle.tz_exec.specs.Local.{local_of}
+use Rattle.tz_sem.specs.Local.{local_of}
 use Rattle.tz_loadstore.proofs.Words.{store_next, store_fails, stored_all}
 use Rattle.tz_loadstore.proofs.many.store_words.Goals as goal
 

@@ -1,8 +1,8 @@
 use Rattle.std.proofs.Common.{◌≡◌, ◌≤◌, ◌+◌, drop}
 use Rattle.std.specs.Prelude.{replicate}
 use Rattle.tz_model.specs.Ports.{answers}
-use Rattle.tz_exec.specs.Local.{local_of}
-use Rattle.tz_exec.specs.LoadStore.{word_stores}
+use Rattle.tz_sem.specs.Local.{local_of}
+use Rattle.tz_sem.specs.LoadStore.{word_stores}
 use Rattle.tz_loadstore.proofs.Words.{read_on}
 use Rattle.tz_loadstore.proofs.many.store_words.Given as goal
 

@@ -11,14 +11,14 @@ use Rattle.tz_regs.specs.Banks.{secure_after}
 use Rattle.tz_regs.specs.Special.{named_of}
 use Rattle.tz_state.specs.State.{State, priority_in, is_held}
 use Rattle.tz_state.specs.Access.{is_aligned, reached_in, access}
-use Rattle.tz_exec.specs.declared.family.Family.{Family}
-use Rattle.tz_exec.specs.declared.family.Family.TheVariants.{Alu, LoadStore, Branch, System}
-use Rattle.tz_exec.specs.Local.{Finished, FinishedNamed, local_of, put, finished_in, finished_named}
-use Rattle.tz_exec.specs.Alu.{finish_alu}
-use Rattle.tz_exec.specs.LoadStore.{refusal, plan_load_store, finish_load_store}
-use Rattle.tz_exec.specs.Branch.{plan_branch, finish_branch}
-use Rattle.tz_exec.specs.System.{finish_system, probe_of}
-use Rattle.tz_exec.specs.Exec.{Ported, unless_refused, after_accesses, probed, Executed, Exclusivity, Free, Marks, Takes, exclusivity, released, loads_stores, exclusively, family_of, executed_by, executed}
+use Rattle.tz_sem.specs.declared.family.Family.{Family}
+use Rattle.tz_sem.specs.declared.family.Family.TheVariants.{Alu, LoadStore, Branch, System}
+use Rattle.tz_sem.specs.Local.{Finished, FinishedNamed, local_of, put, finished_in, finished_named}
+use Rattle.tz_sem.specs.Alu.{finish_alu}
+use Rattle.tz_sem.specs.LoadStore.{refusal, plan_load_store, finish_load_store}
+use Rattle.tz_sem.specs.Branch.{plan_branch, finish_branch}
+use Rattle.tz_sem.specs.System.{finish_system, probe_of}
+use Rattle.tz_sem.specs.Exec.{Ported, unless_refused, after_accesses, probed, Executed, Exclusivity, Free, Marks, Takes, exclusivity, released, loads_stores, exclusively, family_of, executed_by, executed}
 
 own_alone : (side : Side) (own before : Stacks) → side ≡ NonSecure → secure_after side own before ≡ before
 own_alone Secure own before e = cc

@@ -15,7 +15,7 @@ use Rattle.tz_model.specs.declared.report.Outcome.TheVariants.{Next, Exchange}
 use Rattle.tz_model.specs.Ports.{Access, Load, Store}
 use Rattle.tz_model.specs.Words.{wrap, word_of}
 use Rattle.tz_regs.specs.Registers.{limit_of}
-use Rattle.tz_exec.specs.Local.{Local, Finished, reg, put, gives}
+use Rattle.tz_sem.specs.Local.{Local, Finished, reg, put, gives}
 
 -- ---- addresses
 

@@ -6,7 +6,7 @@ use Rattle.tz_regs.specs.declared.parts.Core.{Core}
 use Rattle.tz_regs.specs.declared.parts.Registers.{Registers}
 use Rattle.tz_regs.specs.declared.parts.Stacks.{Stacks}
 use Rattle.tz_regs.specs.Banks.{of_side, secure_after, nonsecure_after}
-use Rattle.tz_exec.specs.Local.{with_registers, local_of, with_local}
+use Rattle.tz_sem.specs.Local.{with_registers, local_of, with_local}
 
 secure_kept : (side : Side) (s ns : Stacks) → secure_after side (of_side side s ns) s ≡ s
 secure_kept Secure s ns = refl

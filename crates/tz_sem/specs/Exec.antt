@@ -15,13 +15,13 @@ use Rattle.tz_state.specs.declared.request.Exclusive.{Exclusive}
 use Rattle.tz_state.specs.State.{Bus, State, priority_in, is_held, with_core, with_bus, with_monitor}
 use Rattle.tz_state.specs.Access.{is_aligned, Reached, reached_in, access}
 use Rattle.tz_state.specs.Target.{target_word}
-use Rattle.tz_exec.specs.declared.family.Family.{Family}
-use Rattle.tz_exec.specs.declared.family.Family.TheVariants.{Alu, LoadStore, Branch, System}
-use Rattle.tz_exec.specs.Local.{Local, Finished, local_of, with_local, put, finished_in, finished_named}
-use Rattle.tz_exec.specs.Alu.{finish_alu}
-use Rattle.tz_exec.specs.LoadStore.{offset_at, refusal, plan_load_store, finish_load_store}
-use Rattle.tz_exec.specs.Branch.{plan_branch, finish_branch}
-use Rattle.tz_exec.specs.System.{finish_system, clears_monitor, probe_of}
+use Rattle.tz_sem.specs.declared.family.Family.{Family}
+use Rattle.tz_sem.specs.declared.family.Family.TheVariants.{Alu, LoadStore, Branch, System}
+use Rattle.tz_sem.specs.Local.{Local, Finished, local_of, with_local, put, finished_in, finished_named}
+use Rattle.tz_sem.specs.Alu.{finish_alu}
+use Rattle.tz_sem.specs.LoadStore.{offset_at, refusal, plan_load_store, finish_load_store}
+use Rattle.tz_sem.specs.Branch.{plan_branch, finish_branch}
+use Rattle.tz_sem.specs.System.{finish_system, clears_monitor, probe_of}
 
 -- ---- over any port
 

@@ -10,7 +10,7 @@ use Rattle.tz_model.specs.declared.report.Outcome.TheVariants.{Next, Jump, Excha
 use Rattle.tz_model.specs.Ports.{Access, Load}
 use Rattle.tz_model.specs.Words.{wrap, word_of, even_of}
 use Rattle.tz_regs.specs.ItState.{condition_holds, it_of}
-use Rattle.tz_exec.specs.Local.{Local, Finished, reg, with_registers}
+use Rattle.tz_sem.specs.Local.{Local, Finished, reg, with_registers}
 
 -- from the instruction's address plus 4
 abbrev pub target_at : Local → ℤ → ℕ

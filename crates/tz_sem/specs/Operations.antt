@@ -18,7 +18,7 @@ use Rattle.tz_table.specs.declared.instruction.LongOp.TheVariants.{Smull, Umull,
 use Rattle.tz_bits.specs.Sums.{sum_of, carry_out, overflow_of}
 use Rattle.tz_bits.specs.Shifts.{rotated}
 use Rattle.tz_bits.specs.Words.{sign_extended}
-use Rattle.tz_exec.specs.declared.computed.Computed.{Computed}
+use Rattle.tz_sem.specs.declared.computed.Computed.{Computed}
 
 -- all bits of a word turned round
 abbrev pub inverse_of : ℕ → ℕ

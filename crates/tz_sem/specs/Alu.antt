@@ -22,9 +22,9 @@ use Rattle.tz_regs.specs.declared.parts.Apsr.{Apsr}
 use Rattle.tz_regs.specs.declared.parts.Registers.{Registers}
 use Rattle.tz_regs.specs.Registers.{is_negative, told_by, limit_of}
 use Rattle.tz_regs.specs.ItState.{in_it_block}
-use Rattle.tz_exec.specs.declared.computed.Computed.{Computed}
-use Rattle.tz_exec.specs.Operations.{computed, multiplied, multiplied_long, divided, saturated, field_result, extended, reversed}
-use Rattle.tz_exec.specs.Local.{Local, Finished, reg, with_registers, put, gives}
+use Rattle.tz_sem.specs.declared.computed.Computed.{Computed}
+use Rattle.tz_sem.specs.Operations.{computed, multiplied, multiplied_long, divided, saturated, field_result, extended, reversed}
+use Rattle.tz_sem.specs.Local.{Local, Finished, reg, with_registers, put, gives}
 
 -- ---- operands
 

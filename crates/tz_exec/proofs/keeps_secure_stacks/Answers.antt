@@ -1,5 +1,0 @@
-use Rattle.tz_exec.proofs.Kept.{executed_stacks}
-use Rattle.tz_exec.proofs.keeps_secure_stacks.Goals as goal
-
-pub returns : goal.returns
-returns c = λ s i e. executed_stacks s i e
