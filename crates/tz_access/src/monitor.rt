@@ -1,11 +1,11 @@
 //! The exclusive monitor: one address and size, or nothing.
 
 ghost use Rattle.std.specs.Prelude.{◌≡◌, MatchOption, Some, None};
-ghost use Rattle.tz_state.specs.State.{is_same_size, is_held, with_monitor};
+ghost use Rattle.tz_regs.specs.State.{is_same_size, is_held, with_monitor};
 
 use crate::bus::Bus;
 use tz_model::Size;
-use tz_state::Exclusive;
+use tz_regs::Exclusive;
 
 fn is_same_size(size: Size, other: Size) -> bool
     ensures { result ≡ is_same_size size other }

@@ -4,17 +4,17 @@ ghost use Rattle.std.specs.Prelude.{◌≡◌, ◌+◌, ◌*◌, true, false, Ma
 ghost use Rattle.tz_table.specs.declared.units.Size.TheVariants.{Word};
 ghost use Rattle.tz_model.specs.Words.{wrap};
 ghost use Rattle.tz_regs.specs.Banks.{of_side};
-ghost use Rattle.tz_state.specs.Memory.{every, word_at, with_word};
-ghost use Rattle.tz_state.specs.Attribution.{is_open};
-ghost use Rattle.tz_state.specs.declared.request.Kind.TheVariants.{Read, Write};
-ghost use Rattle.tz_state.specs.Access.{may_touch, verdict, request_by};
-ghost use Rattle.tz_state.specs.State.{map_in, with_memory};
+ghost use Rattle.tz_regs.specs.Memory.{every, word_at, with_word};
+ghost use Rattle.tz_regs.specs.Attribution.{is_open};
+ghost use Rattle.tz_regs.specs.declared.request.Kind.TheVariants.{Read, Write};
+ghost use Rattle.tz_regs.specs.Access.{may_touch, verdict, request_by};
+ghost use Rattle.tz_regs.specs.State.{map_in, with_memory};
 ghost use Rattle.tz_frames.specs.Machine.{vector_verdict, in_map_alone};
 
 use crate::frames::Frames;
 use tz_access::{Bus, Place};
 use tz_model::{Fault, RegionSide, Side, Size};
-use tz_state::Asker;
+use tz_regs::Asker;
 
 /// Frames over the bus: made for one entry or return.
 #[derive(Drop)]
@@ -32,7 +32,7 @@ pub struct BusFrames<'a> {
 }
 
 /// Whether Non-secure code may read the byte at an address.
-#[tactic(auto, unfolding(tz_state::specs::Attribution::is_open))]
+#[tactic(auto, unfolding(tz_regs::specs::Attribution::is_open))]
 fn is_open(bus: &Bus, addr: u32) -> bool
     ensures { result ≡ is_open (map_in bus.now) addr }
 {
@@ -40,7 +40,7 @@ fn is_open(bus: &Bus, addr: u32) -> bool
 }
 
 /// Whether attribution lets code of a side read the word at an address.
-#[tactic(auto, unfolding(tz_state::specs::Access::may_touch))]
+#[tactic(auto, unfolding(tz_regs::specs::Access::may_touch))]
 fn may_touch(bus: &Bus, side: Side, addr: u32) -> bool
     ensures { result ≡ may_touch (map_in bus.now) side Word addr }
 {

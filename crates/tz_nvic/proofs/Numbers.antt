@@ -2,10 +2,10 @@
 use Rattle.std.proofs.Common.{◌≡◌, ℕ, zero, suc, Bool, true, false, cond, refl, arith}
 use Rattle.std.specs.Prelude.{◌==◌, ◌&&◌, ◌||◌, not}
 use Rattle.std.proofs.lemmas.Bool.Decides.{nat_tests}
-use Rattle.tz_state.specs.Slots.{ExceptionsValue, number_at}
-use Rattle.tz_state.specs.Execution.{is_active}
-use Rattle.tz_state.specs.ControlRegisters.{is_other_active}
-use Rattle.tz_state.specs.Pieces.{any_below}
+use Rattle.tz_regs.specs.Slots.{ExceptionsValue, number_at}
+use Rattle.tz_regs.specs.Execution.{is_active}
+use Rattle.tz_regs.specs.ControlRegisters.{is_other_active}
+use Rattle.tz_regs.specs.Pieces.{any_below}
 use Rattle.tz_nvic.specs.declared.active.Numbers.{Numbers}
 use Rattle.tz_nvic.specs.declared.active.Numbers.TheVariants.{Nothing, One, Several}
 use Rattle.tz_nvic.specs.Numbers.{number_added, has_other, numbers_below}

@@ -1,10 +1,10 @@
 -- What a look finds doesn't depend on the timers.
 use Rattle.std.proofs.Common.{◌≡◌, ℕ, zero, suc, Option, Some, None, refl, ap, sym, ◌∙◌}
 use Rattle.std.specs.Prelude.{min, if◌then◌else◌, IfSome}
-use Rattle.tz_state.specs.declared.slot.Timer.{Timer}
-use Rattle.tz_state.specs.Slots.{ExceptionsValue, number_at}
-use Rattle.tz_state.specs.Priority.{rank_of, priority_of, subpriority_of, chosen_place}
-use Rattle.tz_state.specs.Execution.{is_active, active_below}
+use Rattle.tz_regs.specs.declared.slot.Timer.{Timer}
+use Rattle.tz_regs.specs.Slots.{ExceptionsValue, number_at}
+use Rattle.tz_regs.specs.Priority.{rank_of, priority_of, subpriority_of, chosen_place}
+use Rattle.tz_regs.specs.Execution.{is_active, active_below}
 use Rattle.tz_nvic.specs.declared.known.Known.{Known}
 use Rattle.tz_nvic.specs.declared.active.Numbers.{Numbers}
 use Rattle.tz_nvic.specs.Numbers.{numbers_below, number_added}

@@ -1,7 +1,7 @@
 -- The numbers of the active exceptions, as far as they tell whether there is one beside a given number.
 use Rattle.std.specs.Prelude.{ℕ, zero, suc, ◌==◌, Bool, true, false, not, if◌then◌else◌}
-use Rattle.tz_state.specs.Slots.{ExceptionsValue, places, number_at}
-use Rattle.tz_state.specs.Execution.{is_active}
+use Rattle.tz_regs.specs.Slots.{ExceptionsValue, places, number_at}
+use Rattle.tz_regs.specs.Execution.{is_active}
 use Rattle.tz_nvic.specs.declared.active.Numbers.{Numbers}
 use Rattle.tz_nvic.specs.declared.active.Numbers.TheVariants.{Nothing, One, Several}
 

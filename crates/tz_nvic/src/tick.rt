@@ -1,11 +1,11 @@
 //! The count of both timers.
 
 ghost use Rattle.std.specs.Prelude.{◌≡◌, ◌<◌};
-ghost use Rattle.tz_state.specs.Timers.{counts, interrupts, runs_out, counted_down, pended_by, ticked_s, ticked_ns, ticked};
+ghost use Rattle.tz_regs.specs.Timers.{counts, interrupts, runs_out, counted_down, pended_by, ticked_s, ticked_ns, ticked};
 
 use crate::exceptions::Exceptions;
 use tz_model::Side;
-use tz_state::{SlotState, Timer};
+use tz_regs::{SlotState, Timer};
 
 /// SYST_CSR.ENABLE: whether a timer counts.
 fn counts(timer: &Timer) -> bool

@@ -1,21 +1,49 @@
-//! The registers of the core, with both banks: what is in use, reads and writes, special registers, the
-//! IT state and masks (DDI0553, chapter B3 and `R[]`, `SP`, `MRS`, `MSR`).
+//! The state of the machine. Of the core the registers, with both banks: what is in use, reads and writes, special
+//! registers, the IT state and masks (DDI0553, chapter B3 and `R[]`, `SP`, `MRS`, `MSR`). And how the state answers
+//! looks: attribution, protection, accesses, fetches, TT; the exceptions with their priorities and timers; and the
+//! system registers.
 //!
-//! The structs are what the definitions in `specs/` speak of. Each reader gives the word that the manual's
-//! register has; each writer keeps the bits that the register has and changes nothing else.
+//! The structs of the core are what the definitions in `specs/` speak of. Each reader gives the word that the manual's
+//! register has; each writer keeps the bits that the register has and changes nothing else. Of the rest the definitions
+//! stand here, and bodies in crates above; the one call is a law.
 #![tactic(auto)]
 
+ghost use Rattle.std.specs.Prelude.{◌≡◌, OnErr};
+ghost use Rattle.tz_model.specs.Ports.{Access};
+ghost use Rattle.tz_regs.specs.Access.{Reached, access};
+
 mod access;
+mod asker;
+mod fetcher;
 mod it;
 mod parts;
+mod probe;
 mod readers;
+mod register;
+mod request;
 mod reset;
+mod slot;
 mod special;
 mod status;
+mod taken;
+mod units;
 mod writers;
 
+pub use asker::Asker;
+pub use fetcher::Fetcher;
 pub use parts::{
     Apsr, Before, BusStatus, Core, Masks, Registers, Running, SecurityStatus, SideMasks,
     SideStatus, Stacks, Status,
 };
+pub use probe::Probe;
+pub use register::{Bank, ControlRegister, FaultRegister, Found, Narrow, Register, TimerRegister};
+pub use request::{Exclusive, Kind, Request};
+pub use slot::{SlotState, Timer};
 pub use special::{Special, StackLimit};
+pub use taken::Taken;
+pub use units::{Attribute, Bounds, MpuRegister, SauRegister};
+
+/// An access that faults changes nothing.
+pub fn faulting_access_changes_nothing()
+    ensures { (r : Reached) (a : Access) → OnErr (access r a).1 ((access r a).0 ≡ r) }
+{}

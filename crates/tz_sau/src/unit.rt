@@ -3,7 +3,7 @@
 use arrayvec::ArrayVec;
 use std::marker::Model;
 use tz_model::Region;
-use tz_state::Bounds;
+use tz_regs::Bounds;
 
 /// The SAU of a board, with the board's regions.
 #[derive(Drop)]
@@ -17,7 +17,7 @@ pub struct Sau {
 
 impl Model for Sau {
     ghost use Rattle.std.specs.Prelude.{take, ◌≤◌};
-    ghost use Rattle.tz_state.specs.Attribution.{MapState};
+    ghost use Rattle.tz_regs.specs.Attribution.{MapState};
 
     ghost Value = { MapState };
 

@@ -6,12 +6,12 @@ use Rattle.tz_model.specs.Words.{wrap, even_of, is_nonsecure_side}
 use Rattle.tz_regs.specs.declared.parts.Core.{Core}
 use Rattle.tz_regs.specs.declared.parts.Stacks.{Stacks}
 use Rattle.tz_regs.specs.Registers.{sp_of}
-use Rattle.tz_state.specs.Memory.{Memory, word_at}
-use Rattle.tz_state.specs.Attribution.{MapState, is_open}
-use Rattle.tz_state.specs.Slots.{ExceptionsValue, at, side_at}
-use Rattle.tz_state.specs.Timers.{counted_down}
-use Rattle.tz_state.specs.State.{State, map_of, side_of}
-use Rattle.tz_state.specs.Fetch.{wide, sg_half, gateway_fetch}
+use Rattle.tz_regs.specs.Memory.{Memory, word_at}
+use Rattle.tz_regs.specs.Attribution.{MapState, is_open}
+use Rattle.tz_regs.specs.Slots.{ExceptionsValue, at, side_at}
+use Rattle.tz_regs.specs.Timers.{counted_down}
+use Rattle.tz_regs.specs.State.{State, map_of, side_of}
+use Rattle.tz_regs.specs.Fetch.{wide, sg_half, gateway_fetch}
 use Rattle.tz_frames.specs.Stack.{signature}
 use Rattle.tz_sem.specs.declared.ending.Cause.{Cause}
 use Rattle.tz_sem.specs.declared.ending.Cause.TheVariants.{CameBack, Resumed, Taken}

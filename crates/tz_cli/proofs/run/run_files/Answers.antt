@@ -1,7 +1,7 @@
 -- Each exit is its answer.
 use Rattle.std.proofs.Common.{refl, subst, arith, Ok, Err}
 use Rattle.tz_model.specs.Outside.{Put}
-use Rattle.tz_state.specs.State.{State}
+use Rattle.tz_regs.specs.State.{State}
 use Rattle.tz_twin.specs.Trace.{text_from}
 use Rattle.tz_run.specs.Events.{events_of}
 use Rattle.tz_edge.specs.Run.{run_in}

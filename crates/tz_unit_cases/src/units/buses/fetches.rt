@@ -4,8 +4,8 @@ use crate::units::asked::Asked;
 use crate::units::faults::tell_fault;
 use tz_access::Bus;
 use tz_model::{Fault, Fetched};
+use tz_regs::Fetcher;
 use tz_rows::Row;
-use tz_state::Fetcher;
 
 /// What a fetched instruction is: of one halfword or of two, or the gateway.
 fn length_of(fetched: &Fetched) -> &'static str {

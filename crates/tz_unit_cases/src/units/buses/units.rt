@@ -4,8 +4,8 @@ use crate::units::asked::Asked;
 use crate::units::faults::{tell_index, tell_region};
 use tz_access::Bus;
 use tz_model::Side;
+use tz_regs::Kind;
 use tz_rows::Row;
-use tz_state::Kind;
 
 /// RNR of the SAU; RBAR and RLAR stand behind it.
 const SAU_RNR: u32 = 0xe000_edd8;

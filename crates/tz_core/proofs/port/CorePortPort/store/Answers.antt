@@ -1,6 +1,6 @@
 use Rattle.std.proofs.Common.{arith, rules, tests}
 use Rattle.std.proofs.lemmas.Grind.{common_steps, elements}
-use Rattle.tz_state.specs.Access.{access}
+use Rattle.tz_regs.specs.Access.{access}
 use Rattle.tz_core.proofs.Private.{private_aligned}
 use Rattle.tz_core.proofs.port.CorePortPort.store.Goals as goal
 

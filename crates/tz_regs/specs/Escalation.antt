@@ -4,11 +4,11 @@ use Rattle.tz_table.specs.declared.units.Side.{Side}
 use Rattle.tz_table.specs.declared.units.Side.TheVariants.{Secure}
 use Rattle.tz_model.specs.declared.report.Slot.{Slot}
 use Rattle.tz_regs.specs.declared.parts.Masks.{Masks}
-use Rattle.tz_state.specs.Slots.{ExceptionsValue, index_of, side_at, is_enabled}
-use Rattle.tz_state.specs.Priority.{hard_priority}
-use Rattle.tz_state.specs.declared.taken.Taken.{Taken}
-use Rattle.tz_state.specs.declared.taken.Taken.TheVariants.{AsIs, Hard, Lockup}
-use Rattle.tz_state.specs.Execution.{execution, can_take}
+use Rattle.tz_regs.specs.Slots.{ExceptionsValue, index_of, side_at, is_enabled}
+use Rattle.tz_regs.specs.Priority.{hard_priority}
+use Rattle.tz_regs.specs.declared.taken.Taken.{Taken}
+use Rattle.tz_regs.specs.declared.taken.Taken.TheVariants.{AsIs, Hard, Lockup}
+use Rattle.tz_regs.specs.Execution.{execution, can_take}
 
 -- HardFault is Secure, but while BFHFNMINS is 1 it is of the side of what became it
 abbrev pub hard_side : ExceptionsValue → Side → Side

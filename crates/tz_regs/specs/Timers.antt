@@ -1,7 +1,7 @@
 -- One count of both timers (DDI0553, SYST_CSR, SYST_RVR, SYST_CVR).
 use Rattle.std.specs.Prelude.{ℕ, ◌-◌, ◌/◌, ◌%◌, ◌==◌, Bool, ◌&&◌, ◌||◌, if◌then◌else◌, bit_or}
-use Rattle.tz_state.specs.declared.slot.Timer.{Timer}
-use Rattle.tz_state.specs.Slots.{ExceptionsValue, at, with_slot}
+use Rattle.tz_regs.specs.declared.slot.Timer.{Timer}
+use Rattle.tz_regs.specs.Slots.{ExceptionsValue, at, with_slot}
 
 -- SYST_CSR.ENABLE
 abbrev pub counts : Timer → Bool

@@ -12,16 +12,16 @@ use Rattle.tz_model.specs.declared.report.Fault.TheVariants.{Unaligned, DataAcce
 use Rattle.tz_model.specs.declared.report.Store as stored
 use Rattle.tz_model.specs.Board.{within, in_region}
 use Rattle.tz_model.specs.Ports.{Answering, Load, Store, cut_to}
-use Rattle.tz_state.specs.declared.asker.Asker.{Asker}
-use Rattle.tz_state.specs.declared.request.Kind.{Kind}
-use Rattle.tz_state.specs.declared.request.Kind.TheVariants.{Read, Write, Fetch}
-use Rattle.tz_state.specs.declared.request.Request.{Request}
-use Rattle.tz_state.specs.Memory.{every, value_at, with_value}
-use Rattle.tz_state.specs.Attribution.{MapState, is_open}
-use Rattle.tz_state.specs.Protection.{permits}
-use Rattle.tz_state.specs.State.{Bus, State, map_in, mpu_of, asker_in, with_memory}
-use Rattle.tz_state.specs.Registers.{SystemState}
-use Rattle.tz_state.specs.Views.{system_value, system_read, system_written}
+use Rattle.tz_regs.specs.declared.asker.Asker.{Asker}
+use Rattle.tz_regs.specs.declared.request.Kind.{Kind}
+use Rattle.tz_regs.specs.declared.request.Kind.TheVariants.{Read, Write, Fetch}
+use Rattle.tz_regs.specs.declared.request.Request.{Request}
+use Rattle.tz_regs.specs.Memory.{every, value_at, with_value}
+use Rattle.tz_regs.specs.Attribution.{MapState, is_open}
+use Rattle.tz_regs.specs.Protection.{permits}
+use Rattle.tz_regs.specs.State.{Bus, State, map_in, mpu_of, asker_in, with_memory}
+use Rattle.tz_regs.specs.SystemRegisters.{SystemState}
+use Rattle.tz_regs.specs.Views.{system_value, system_read, system_written}
 
 -- ---- alignment
 

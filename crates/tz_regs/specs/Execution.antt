@@ -6,8 +6,8 @@ use Rattle.tz_table.specs.declared.units.Side.TheVariants.{Secure, NonSecure}
 use Rattle.tz_model.specs.declared.report.Slot.{Slot}
 use Rattle.tz_regs.specs.declared.parts.Masks.{Masks}
 use Rattle.tz_regs.specs.declared.parts.SideMasks.{SideMasks}
-use Rattle.tz_state.specs.Slots.{ExceptionsValue, at, places, is_place, index_of}
-use Rattle.tz_state.specs.Priority.{group_of, counted, hard_priority, priority_of, chosen}
+use Rattle.tz_regs.specs.Slots.{ExceptionsValue, at, places, is_place, index_of}
+use Rattle.tz_regs.specs.Priority.{group_of, counted, hard_priority, priority_of, chosen}
 
 -- that of no exception and no mask
 abbrev pub idle_priority : ℕ

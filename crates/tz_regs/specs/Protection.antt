@@ -4,10 +4,10 @@ use Rattle.std.specs.Option.{is_some}
 use Rattle.tz_model.specs.declared.board.Profile.{Profile}
 use Rattle.tz_model.specs.declared.board.Profile.TheVariants.{V80, V81}
 use Rattle.tz_model.specs.Board.{within}
-use Rattle.tz_state.specs.declared.units.Bounds.{Bounds}
-use Rattle.tz_state.specs.declared.request.Kind.{Kind}
-use Rattle.tz_state.specs.declared.request.Kind.TheVariants.{Read, Write, Fetch}
-use Rattle.tz_state.specs.Regions.{holding, the_only}
+use Rattle.tz_regs.specs.declared.units.Bounds.{Bounds}
+use Rattle.tz_regs.specs.declared.request.Kind.{Kind}
+use Rattle.tz_regs.specs.declared.request.Kind.TheVariants.{Read, Write, Fetch}
+use Rattle.tz_regs.specs.Regions.{holding, the_only}
 
 -- an MPU: CTRL, RNR, both MAIRs, which have no effect, and its regions
 pub record MpuState : Type 0 where

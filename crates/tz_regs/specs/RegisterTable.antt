@@ -1,13 +1,13 @@
 -- Where the system registers stand: by their offsets from 0xE000E000 (DDI0553, chapter D1.2).
 use Rattle.std.specs.Prelude.{ℕ, ◌+◌, ◌/◌, ◌%◌, ◌==◌, nat_lt, if◌then◌else◌, List, [], ◌∷◌, Option, Some, None}
-use Rattle.tz_state.specs.declared.register.Register.{Register}
-use Rattle.tz_state.specs.declared.register.Register.TheVariants.{Ictr, Stir, Timer, Bits, Priorities, Control, Fault, Mpu, Sau}
-use Rattle.tz_state.specs.declared.register.TimerRegister.TheVariants as syst
-use Rattle.tz_state.specs.declared.register.Bank.TheVariants as nvic
-use Rattle.tz_state.specs.declared.register.ControlRegister.TheVariants as scb
-use Rattle.tz_state.specs.declared.register.FaultRegister.TheVariants as fault
-use Rattle.tz_state.specs.declared.units.MpuRegister.TheVariants as mpu
-use Rattle.tz_state.specs.declared.units.SauRegister.TheVariants as sau
+use Rattle.tz_regs.specs.declared.register.Register.{Register}
+use Rattle.tz_regs.specs.declared.register.Register.TheVariants.{Ictr, Stir, Timer, Bits, Priorities, Control, Fault, Mpu, Sau}
+use Rattle.tz_regs.specs.declared.register.TimerRegister.TheVariants as syst
+use Rattle.tz_regs.specs.declared.register.Bank.TheVariants as nvic
+use Rattle.tz_regs.specs.declared.register.ControlRegister.TheVariants as scb
+use Rattle.tz_regs.specs.declared.register.FaultRegister.TheVariants as fault
+use Rattle.tz_regs.specs.declared.units.MpuRegister.TheVariants as mpu
+use Rattle.tz_regs.specs.declared.units.SauRegister.TheVariants as sau
 
 -- an offset and the register there
 abbrev pub Row : Type 0

@@ -3,8 +3,8 @@ use Rattle.std.specs.Prelude.{ℕ, ◌+◌, ◌-◌, ◌*◌, ◌/◌, ◌%◌, 
 use Rattle.tz_table.specs.declared.units.Side.{Side}
 use Rattle.tz_table.specs.declared.units.Side.TheVariants.{Secure, NonSecure}
 use Rattle.tz_model.specs.declared.report.Slot.{Slot}
-use Rattle.tz_state.specs.declared.slot.SlotState.{SlotState}
-use Rattle.tz_state.specs.declared.slot.Timer.{Timer}
+use Rattle.tz_regs.specs.declared.slot.SlotState.{SlotState}
+use Rattle.tz_regs.specs.declared.slot.Timer.{Timer}
 
 -- all exceptions: a place for each slot, by `index_of`, and what both sides choose of them
 pub record ExceptionsValue : Type 0 where

@@ -4,8 +4,8 @@ use Rattle.std.specs.Prelude.{OnErr}
 use Rattle.tz_table.specs.declared.units.Size.{Size}
 use Rattle.tz_model.specs.declared.report.Fault.{Fault}
 use Rattle.tz_model.specs.Ports.{Access, Load, Store, cut_to}
-use Rattle.tz_state.specs.declared.request.Kind.TheVariants.{Read, Write}
-use Rattle.tz_state.specs.Access.{Reached, read_by, write_by, access, refused}
+use Rattle.tz_regs.specs.declared.request.Kind.TheVariants.{Read, Write}
+use Rattle.tz_regs.specs.Access.{Reached, read_by, write_by, access, refused}
 
 read_keeps : (v : Option Fault) (r : Reached) (size : Size) (a : ℕ) → OnErr (read_by v r size a).1 ((read_by v r size a).0 ≡ r)
 read_keeps (Some fault) r size a = refl

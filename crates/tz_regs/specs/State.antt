@@ -11,13 +11,13 @@ use Rattle.tz_regs.specs.declared.parts.Registers.{Registers}
 use Rattle.tz_regs.specs.declared.parts.Running.{Running}
 use Rattle.tz_regs.specs.Banks.{of_side, stacks_of, status_of}
 use Rattle.tz_regs.specs.Registers.{side_in, is_privileged}
-use Rattle.tz_state.specs.declared.asker.Asker.{Asker}
-use Rattle.tz_state.specs.declared.request.Exclusive.{Exclusive}
-use Rattle.tz_state.specs.Memory.{Memory}
-use Rattle.tz_state.specs.Attribution.{SauState, MapState}
-use Rattle.tz_state.specs.Protection.{MpuState}
-use Rattle.tz_state.specs.Slots.{ExceptionsValue}
-use Rattle.tz_state.specs.Execution.{execution, manual_priority}
+use Rattle.tz_regs.specs.declared.asker.Asker.{Asker}
+use Rattle.tz_regs.specs.declared.request.Exclusive.{Exclusive}
+use Rattle.tz_regs.specs.Memory.{Memory}
+use Rattle.tz_regs.specs.Attribution.{SauState, MapState}
+use Rattle.tz_regs.specs.Protection.{MpuState}
+use Rattle.tz_regs.specs.Slots.{ExceptionsValue}
+use Rattle.tz_regs.specs.Execution.{execution, manual_priority}
 
 -- memory, what guards it, and the exclusive monitor, which holds one address and size or nothing
 pub record Bus : Type 0 where

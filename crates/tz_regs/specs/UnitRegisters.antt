@@ -4,16 +4,16 @@ use Rattle.tz_model.specs.declared.board.Profile.{Profile}
 use Rattle.tz_model.specs.declared.board.Profile.TheVariants.{V80, V81}
 use Rattle.tz_model.specs.declared.board.SauRegion.{SauRegion}
 use Rattle.tz_model.specs.Board.{BoardValue}
-use Rattle.tz_state.specs.declared.units.Bounds.{Bounds}
-use Rattle.tz_state.specs.declared.units.SauRegister.{SauRegister}
-use Rattle.tz_state.specs.declared.units.SauRegister.TheVariants as sau
-use Rattle.tz_state.specs.declared.units.MpuRegister.{MpuRegister}
-use Rattle.tz_state.specs.declared.units.MpuRegister.TheVariants as mpu
-use Rattle.tz_state.specs.Regions.{no_bounds}
-use Rattle.tz_state.specs.Attribution.{SauState}
-use Rattle.tz_state.specs.Protection.{MpuState}
-use Rattle.tz_state.specs.Memory.{Memory}
-use Rattle.tz_state.specs.State.{Bus}
+use Rattle.tz_regs.specs.declared.units.Bounds.{Bounds}
+use Rattle.tz_regs.specs.declared.units.SauRegister.{SauRegister}
+use Rattle.tz_regs.specs.declared.units.SauRegister.TheVariants as sau
+use Rattle.tz_regs.specs.declared.units.MpuRegister.{MpuRegister}
+use Rattle.tz_regs.specs.declared.units.MpuRegister.TheVariants as mpu
+use Rattle.tz_regs.specs.Regions.{no_bounds}
+use Rattle.tz_regs.specs.Attribution.{SauState}
+use Rattle.tz_regs.specs.Protection.{MpuState}
+use Rattle.tz_regs.specs.Memory.{Memory}
+use Rattle.tz_regs.specs.State.{Bus}
 
 -- ---- regions by number
 

@@ -7,12 +7,12 @@ use Rattle.tz_table.specs.declared.units.Side.TheVariants.{Secure, NonSecure}
 use Rattle.tz_model.specs.declared.report.Slot.{Slot}
 use Rattle.tz_model.specs.Words.{is_nonsecure_side}
 use Rattle.tz_regs.specs.declared.parts.SideStatus.{SideStatus}
-use Rattle.tz_state.specs.declared.slot.SlotState.{SlotState}
-use Rattle.tz_state.specs.Slots.{ExceptionsValue, at, places, number_at, index_of}
-use Rattle.tz_state.specs.SlotChanges.{is_fault_side_held}
-use Rattle.tz_state.specs.Priority.{chosen}
-use Rattle.tz_state.specs.Execution.{is_active}
-use Rattle.tz_state.specs.Pieces.{is_bit, Bit, Field, word_of, any_below}
+use Rattle.tz_regs.specs.declared.slot.SlotState.{SlotState}
+use Rattle.tz_regs.specs.Slots.{ExceptionsValue, at, places, number_at, index_of}
+use Rattle.tz_regs.specs.SlotChanges.{is_fault_side_held}
+use Rattle.tz_regs.specs.Priority.{chosen}
+use Rattle.tz_regs.specs.Execution.{is_active}
+use Rattle.tz_regs.specs.Pieces.{is_bit, Bit, Field, word_of, any_below}
 
 -- ---- what a view shows of the numbers below 16
 

@@ -3,9 +3,9 @@ use Rattle.std.specs.Prelude.{ℕ, ◌+◌, Bool, true, false, ◌||◌, if◌th
 use Rattle.tz_table.specs.declared.units.Side.{Side}
 use Rattle.tz_table.specs.declared.units.Side.TheVariants.{Secure, NonSecure}
 use Rattle.tz_model.specs.declared.report.Slot.{Slot}
-use Rattle.tz_state.specs.declared.slot.SlotState.{SlotState}
-use Rattle.tz_state.specs.declared.slot.Timer.{Timer}
-use Rattle.tz_state.specs.Slots.{ExceptionsValue, at, with_slot, index_of, is_always_enabled, is_fixed}
+use Rattle.tz_regs.specs.declared.slot.SlotState.{SlotState}
+use Rattle.tz_regs.specs.declared.slot.Timer.{Timer}
+use Rattle.tz_regs.specs.Slots.{ExceptionsValue, at, with_slot, index_of, is_always_enabled, is_fixed}
 
 abbrev pub pended : ExceptionsValue → Slot → ExceptionsValue
 pended e slot = with_slot e (index_of slot) (record (at e (index_of slot)) { pending = true })

@@ -1,8 +1,8 @@
 -- SYST_CSR, SYST_RVR, SYST_CVR and SYST_CALIB of a timer (DDI0553, chapter D1.2).
 use Rattle.std.specs.Prelude.{ℕ, ◌%◌, ◌^◌, bit_and, bit_or}
-use Rattle.tz_state.specs.declared.slot.Timer.{Timer}
-use Rattle.tz_state.specs.declared.register.TimerRegister.{TimerRegister}
-use Rattle.tz_state.specs.declared.register.TimerRegister.TheVariants.{Csr, Rvr, Cvr, Calib}
+use Rattle.tz_regs.specs.declared.slot.Timer.{Timer}
+use Rattle.tz_regs.specs.declared.register.TimerRegister.{TimerRegister}
+use Rattle.tz_regs.specs.declared.register.TimerRegister.TheVariants.{Csr, Rvr, Cvr, Calib}
 
 abbrev pub timer_value : Timer → TimerRegister → ℕ
 timer_value t Csr = t.csr

@@ -7,10 +7,10 @@ use Rattle.tz_regs.specs.declared.parts.Status.{Status}
 use Rattle.tz_regs.specs.declared.parts.SideStatus.{SideStatus}
 use Rattle.tz_regs.specs.declared.parts.BusStatus.{BusStatus}
 use Rattle.tz_regs.specs.declared.parts.SecurityStatus.{SecurityStatus}
-use Rattle.tz_state.specs.declared.register.FaultRegister.{FaultRegister}
-use Rattle.tz_state.specs.declared.register.FaultRegister.TheVariants.{Cfsr, Hfsr, Mmfar, Bfar, Sfsr, Sfar}
-use Rattle.tz_state.specs.Pieces.{Field, word_of}
-use Rattle.tz_state.specs.ControlRegisters.{sees_bus, sees_secure}
+use Rattle.tz_regs.specs.declared.register.FaultRegister.{FaultRegister}
+use Rattle.tz_regs.specs.declared.register.FaultRegister.TheVariants.{Cfsr, Hfsr, Mmfar, Bfar, Sfsr, Sfar}
+use Rattle.tz_regs.specs.Pieces.{Field, word_of}
+use Rattle.tz_regs.specs.ControlRegisters.{sees_bus, sees_secure}
 
 -- ---- the status of a side
 

@@ -6,17 +6,17 @@ use Rattle.tz_table.specs.declared.units.Side.TheVariants.{Secure, NonSecure}
 use Rattle.tz_table.specs.declared.units.Size.{Size}
 use Rattle.tz_table.specs.declared.units.Size.TheVariants.{Byte, Half, Word}
 use Rattle.tz_model.specs.Board.{within}
-use Rattle.tz_state.specs.declared.register.Found.{Found}
-use Rattle.tz_state.specs.declared.register.Narrow.{Narrow}
-use Rattle.tz_state.specs.declared.register.Narrow.TheVariants.{Keeps, Zeros, Ignored}
-use Rattle.tz_state.specs.declared.register.Register.{Register}
-use Rattle.tz_state.specs.declared.register.Register.TheVariants.{Priorities, Control, Fault}
-use Rattle.tz_state.specs.declared.register.ControlRegister.{ControlRegister}
-use Rattle.tz_state.specs.declared.register.ControlRegister.TheVariants.{Shpr1, Shpr2, Shpr3}
-use Rattle.tz_state.specs.declared.register.FaultRegister.{FaultRegister}
-use Rattle.tz_state.specs.declared.register.FaultRegister.TheVariants.{Cfsr}
-use Rattle.tz_state.specs.RegisterTable.{register_at}
-use Rattle.tz_state.specs.Registers.{SystemState, value_of, after_read, written}
+use Rattle.tz_regs.specs.declared.register.Found.{Found}
+use Rattle.tz_regs.specs.declared.register.Narrow.{Narrow}
+use Rattle.tz_regs.specs.declared.register.Narrow.TheVariants.{Keeps, Zeros, Ignored}
+use Rattle.tz_regs.specs.declared.register.Register.{Register}
+use Rattle.tz_regs.specs.declared.register.Register.TheVariants.{Priorities, Control, Fault}
+use Rattle.tz_regs.specs.declared.register.ControlRegister.{ControlRegister}
+use Rattle.tz_regs.specs.declared.register.ControlRegister.TheVariants.{Shpr1, Shpr2, Shpr3}
+use Rattle.tz_regs.specs.declared.register.FaultRegister.{FaultRegister}
+use Rattle.tz_regs.specs.declared.register.FaultRegister.TheVariants.{Cfsr}
+use Rattle.tz_regs.specs.RegisterTable.{register_at}
+use Rattle.tz_regs.specs.SystemRegisters.{SystemState, value_of, after_read, written}
 
 -- ---- addresses
 

@@ -1,6 +1,6 @@
 -- Regions that two registers bound: those of the SAU and of the MPUs.
 use Rattle.std.specs.Prelude.{ℕ, ◌+◌, ◌*◌, ◌/◌, ◌%◌, ◌==◌, Bool, ◌&&◌, nat_le, if◌then◌else◌, List, [], ◌∷◌, Option, Some, None}
-use Rattle.tz_state.specs.declared.units.Bounds.{Bounds}
+use Rattle.tz_regs.specs.declared.units.Bounds.{Bounds}
 
 -- a region that isn't there
 abbrev pub no_bounds : Bounds

@@ -1,8 +1,8 @@
 -- What it is to come first, said of each other slot, and how places are ordered.
 use Rattle.std.specs.Prelude.{◌≡◌, ◌≢◌, ◌⊎◌, ℕ, ◌<◌, ◌≤◌, true}
 use Rattle.tz_table.specs.declared.units.Side.TheVariants.{Secure, NonSecure}
-use Rattle.tz_state.specs.Slots.{ExceptionsValue, places, number_at, side_at}
-use Rattle.tz_state.specs.Priority.{priority_of, subpriority_of, is_ready}
+use Rattle.tz_regs.specs.Slots.{ExceptionsValue, places, number_at, side_at}
+use Rattle.tz_regs.specs.Priority.{priority_of, subpriority_of, is_ready}
 
 -- by group priority, then subpriority, then place
 abbrev pub ComesBefore : ExceptionsValue → ℕ → ℕ → Type 0

@@ -9,13 +9,13 @@ use Rattle.tz_model.specs.declared.fetch.Fetched.{Fetched}
 use Rattle.tz_model.specs.declared.fetch.FetchAnswer.{FetchAnswer}
 use Rattle.tz_model.specs.Words.{wrap}
 use Rattle.tz_model.specs.Board.{is_nonsecure, is_callable}
-use Rattle.tz_state.specs.declared.fetcher.Fetcher.{Fetcher}
-use Rattle.tz_state.specs.declared.request.Kind.TheVariants as kinds
-use Rattle.tz_state.specs.Attribution.{MapState, fetch_attribution}
-use Rattle.tz_state.specs.Protection.{permits}
-use Rattle.tz_state.specs.Memory.{every, half_at}
-use Rattle.tz_state.specs.Access.{is_mapped}
-use Rattle.tz_state.specs.State.{Bus, map_in, mpu_of}
+use Rattle.tz_regs.specs.declared.fetcher.Fetcher.{Fetcher}
+use Rattle.tz_regs.specs.declared.request.Kind.TheVariants as kinds
+use Rattle.tz_regs.specs.Attribution.{MapState, fetch_attribution}
+use Rattle.tz_regs.specs.Protection.{permits}
+use Rattle.tz_regs.specs.Memory.{every, half_at}
+use Rattle.tz_regs.specs.Access.{is_mapped}
+use Rattle.tz_regs.specs.State.{Bus, map_in, mpu_of}
 
 -- a first halfword that has a second
 abbrev pub needs_second : ℕ → Bool

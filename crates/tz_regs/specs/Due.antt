@@ -4,9 +4,9 @@ use Rattle.tz_table.specs.declared.units.Side.TheVariants.{Secure}
 use Rattle.tz_model.specs.declared.report.ScriptEvent.{ScriptEvent}
 use Rattle.tz_model.specs.declared.report.ScriptEvent.TheVariants.{Irq, Nmi}
 use Rattle.tz_model.specs.declared.report.Slot.{Slot}
-use Rattle.tz_state.specs.declared.slot.SlotState.{SlotState}
-use Rattle.tz_state.specs.Slots.{ExceptionsValue, at, exists, index_of}
-use Rattle.tz_state.specs.Timers.{ticked}
+use Rattle.tz_regs.specs.declared.slot.SlotState.{SlotState}
+use Rattle.tz_regs.specs.Slots.{ExceptionsValue, at, exists, index_of}
+use Rattle.tz_regs.specs.Timers.{ticked}
 
 -- the slot of an event; neither number is banked, so the side tells nothing
 abbrev pub slot_of_event : ScriptEvent → Slot

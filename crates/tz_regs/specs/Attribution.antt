@@ -6,9 +6,9 @@ use Rattle.tz_model.specs.declared.board.Region.{Region}
 use Rattle.tz_model.specs.declared.board.RegionSide.{RegionSide}
 use Rattle.tz_model.specs.declared.board.RegionSide.TheVariants.{Secure, Nsc, NonSecure}
 use Rattle.tz_model.specs.Board.{within, in_region, is_nonsecure, is_callable}
-use Rattle.tz_state.specs.declared.units.Bounds.{Bounds}
-use Rattle.tz_state.specs.declared.units.Attribute.{Attribute}
-use Rattle.tz_state.specs.Regions.{holding, the_only}
+use Rattle.tz_regs.specs.declared.units.Bounds.{Bounds}
+use Rattle.tz_regs.specs.declared.units.Attribute.{Attribute}
+use Rattle.tz_regs.specs.Regions.{holding, the_only}
 
 -- the SAU: CTRL, RNR and its regions
 pub record SauState : Type 0 where

@@ -5,11 +5,11 @@ use Rattle.std.specs.Int.{w32, from_le_bytes, to_le_bytes}
 use Rattle.tz_table.specs.declared.units.Side.{Side}
 use Rattle.tz_table.specs.declared.units.Side.TheVariants.{Secure, NonSecure}
 use Rattle.tz_model.specs.Words.{is_nonsecure_side}
-use Rattle.tz_state.specs.declared.slot.SlotState.{SlotState}
-use Rattle.tz_state.specs.declared.register.Bank.{Bank}
-use Rattle.tz_state.specs.declared.register.Bank.TheVariants.{Enable, Disable, Pend, Unpend, Active, Target}
-use Rattle.tz_state.specs.Slots.{ExceptionsValue, at}
-use Rattle.tz_state.specs.Pieces.{is_bit, bits_below}
+use Rattle.tz_regs.specs.declared.slot.SlotState.{SlotState}
+use Rattle.tz_regs.specs.declared.register.Bank.{Bank}
+use Rattle.tz_regs.specs.declared.register.Bank.TheVariants.{Enable, Disable, Pend, Unpend, Active, Target}
+use Rattle.tz_regs.specs.Slots.{ExceptionsValue, at}
+use Rattle.tz_regs.specs.Pieces.{is_bit, bits_below}
 
 -- the board has interrupt n, and the view of a side shows it: Non-secure code sees its own
 abbrev pub sees_interrupt : Side → ExceptionsValue → ℕ → Bool

@@ -3,13 +3,13 @@ use Rattle.std.specs.Prelude.{ℕ, ◌+◌, ◌*◌, ◌^◌, Bool, false, not, 
 use Rattle.tz_table.specs.declared.units.Side.{Side}
 use Rattle.tz_table.specs.declared.units.Side.TheVariants.{Secure, NonSecure}
 use Rattle.tz_regs.specs.Special.{number_of}
-use Rattle.tz_state.specs.declared.probe.Probe.{Probe}
-use Rattle.tz_state.specs.declared.request.Kind.{Kind}
-use Rattle.tz_state.specs.declared.request.Kind.TheVariants.{Read, Write}
-use Rattle.tz_state.specs.Attribution.{sau_region, is_fixed, idau_region, data_attribution}
+use Rattle.tz_regs.specs.declared.probe.Probe.{Probe}
+use Rattle.tz_regs.specs.declared.request.Kind.{Kind}
+use Rattle.tz_regs.specs.declared.request.Kind.TheVariants.{Read, Write}
+use Rattle.tz_regs.specs.Attribution.{sau_region, is_fixed, idau_region, data_attribution}
 use Rattle.tz_model.specs.Board.{is_nonsecure}
-use Rattle.tz_state.specs.Protection.{permits, mpu_region}
-use Rattle.tz_state.specs.State.{Bus, map_in, mpu_of}
+use Rattle.tz_regs.specs.Protection.{permits, mpu_region}
+use Rattle.tz_regs.specs.State.{Bus, map_in, mpu_of}
 
 -- the state whose MPU is looked at: Secure code may ask for the Non-secure one
 abbrev pub examined : Side → Bool → Side

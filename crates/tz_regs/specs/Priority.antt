@@ -4,8 +4,8 @@ use Rattle.std.specs.Prelude.{ℕ, ◌+◌, ◌*◌, ◌/◌, ◌%◌, ◌^◌, 
 use Rattle.tz_table.specs.declared.units.Side.{Side}
 use Rattle.tz_table.specs.declared.units.Side.TheVariants.{Secure, NonSecure}
 use Rattle.tz_model.specs.declared.report.Slot.{Slot}
-use Rattle.tz_state.specs.Slots.{ExceptionsValue, at, places, is_place, number_at, side_at, slot_at, is_enabled, is_fixed, prigroup_of}
-use Rattle.tz_state.specs.Least.{least_below}
+use Rattle.tz_regs.specs.Slots.{ExceptionsValue, at, places, is_place, number_at, side_at, slot_at, is_enabled, is_fixed, prigroup_of}
+use Rattle.tz_regs.specs.Least.{least_below}
 
 -- PRIGROUP n splits a byte of a side above bit n
 abbrev pub group_size : ExceptionsValue → Side → ℕ

@@ -2,7 +2,7 @@
 use Rattle.std.specs.Prelude.{ℕ, List, [], ◌∷◌, ◌++◌, replicate}
 use Rattle.std.specs.FinMap.{from_entries}
 use Rattle.tz_model.specs.declared.board.Region.{Region}
-use Rattle.tz_state.specs.Memory.{Memory}
+use Rattle.tz_regs.specs.Memory.{Memory}
 use Rattle.tz_model.specs.Image.{entries_from}
 
 -- zeros at each address of the regions

@@ -3,20 +3,20 @@ use Rattle.std.specs.Prelude.{ℕ, ◌-◌, ◌/◌}
 use Rattle.tz_table.specs.declared.units.Side.{Side}
 use Rattle.tz_table.specs.declared.units.Side.TheVariants.{Secure, NonSecure}
 use Rattle.tz_regs.specs.declared.parts.Status.{Status}
-use Rattle.tz_state.specs.declared.register.Register.{Register}
-use Rattle.tz_state.specs.declared.register.Register.TheVariants.{Ictr, Stir, Timer, Bits, Priorities, Control, Fault, Mpu, Sau}
-use Rattle.tz_state.specs.declared.register.ControlRegister.{ControlRegister}
-use Rattle.tz_state.specs.declared.register.ControlRegister.TheVariants.{Cpuid, Icsr, Vtor, Aircr, Ccr, Shpr1, Shpr2, Shpr3, Shcsr}
-use Rattle.tz_state.specs.declared.units.SauRegister.{SauRegister}
-use Rattle.tz_state.specs.Attribution.{SauState}
-use Rattle.tz_state.specs.Slots.{ExceptionsValue, timer_of}
-use Rattle.tz_state.specs.SlotChanges.{with_timer}
-use Rattle.tz_state.specs.State.{Bus, mpu_of, with_mpu}
-use Rattle.tz_state.specs.UnitRegisters.{sau_value, with_sau_value, mpu_value, with_mpu_value}
-use Rattle.tz_state.specs.TimerRegisters.{timer_value, timer_read, timer_written}
-use Rattle.tz_state.specs.NvicRegisters.{bank_value, bank_written, priorities_value, priorities_written, stir_written}
-use Rattle.tz_state.specs.ControlRegisters.{icsr_value, icsr_written, aircr_value, aircr_written, vtor_written, ccr_value, ccr_written, shpr_value, shpr_written, shcsr_value, shcsr_written}
-use Rattle.tz_state.specs.FaultRegisters.{own_status, with_own_status, fault_value, fault_written}
+use Rattle.tz_regs.specs.declared.register.Register.{Register}
+use Rattle.tz_regs.specs.declared.register.Register.TheVariants.{Ictr, Stir, Timer, Bits, Priorities, Control, Fault, Mpu, Sau}
+use Rattle.tz_regs.specs.declared.register.ControlRegister.{ControlRegister}
+use Rattle.tz_regs.specs.declared.register.ControlRegister.TheVariants.{Cpuid, Icsr, Vtor, Aircr, Ccr, Shpr1, Shpr2, Shpr3, Shcsr}
+use Rattle.tz_regs.specs.declared.units.SauRegister.{SauRegister}
+use Rattle.tz_regs.specs.Attribution.{SauState}
+use Rattle.tz_regs.specs.Slots.{ExceptionsValue, timer_of}
+use Rattle.tz_regs.specs.SlotChanges.{with_timer}
+use Rattle.tz_regs.specs.State.{Bus, mpu_of, with_mpu}
+use Rattle.tz_regs.specs.UnitRegisters.{sau_value, with_sau_value, mpu_value, with_mpu_value}
+use Rattle.tz_regs.specs.TimerRegisters.{timer_value, timer_read, timer_written}
+use Rattle.tz_regs.specs.NvicRegisters.{bank_value, bank_written, priorities_value, priorities_written, stir_written}
+use Rattle.tz_regs.specs.ControlRegisters.{icsr_value, icsr_written, aircr_value, aircr_written, vtor_written, ccr_value, ccr_written, shpr_value, shpr_written, shcsr_value, shcsr_written}
+use Rattle.tz_regs.specs.FaultRegisters.{own_status, with_own_status, fault_value, fault_written}
 
 -- what the system registers stand in: configuration and fault registers of the core, the exceptions, and the bus
 -- with its units; the number of the exception that is handled is only read
