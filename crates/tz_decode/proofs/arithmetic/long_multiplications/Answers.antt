@@ -1,0 +1,19 @@
+use Rattle.std.proofs.Common.{arith}
+use Rattle.tz_decode.proofs.ArithmeticLaws.{long_multiplications}
+use Rattle.tz_decode.proofs.arithmetic.long_multiplications.Goals as goal
+
+-- The call that closes each goal, by name: what is tried before it finds nothing, after long.
+pub returns-then-field-ne0 : goal.returns-then-field-ne0
+returns-then-field-ne0 c = grind (arith, long_multiplications)
+
+pub returns-in-0 : goal.returns-in-0
+returns-in-0 c = grind (arith, long_multiplications)
+
+pub returns-in-1 : goal.returns-in-1
+returns-in-1 c = grind (arith, long_multiplications)
+
+pub returns-in-2 : goal.returns-in-2
+returns-in-2 c = grind (arith, long_multiplications)
+
+pub returns-in_default : goal.returns-in_default
+returns-in_default c = grind (arith, long_multiplications)

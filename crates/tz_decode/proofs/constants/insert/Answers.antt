@@ -1,0 +1,10 @@
+use Rattle.std.proofs.Common.{arith}
+use Rattle.tz_decode.proofs.ConstantLaws.{insert}
+use Rattle.tz_decode.proofs.constants.insert.Goals as goal
+
+-- The call that closes each goal, by name: what is tried before it finds nothing, after long.
+pub returns-then-rn-eq15 : goal.returns-then-rn-eq15
+returns-then-rn-eq15 c = grind (arith, insert)
+
+pub returns-else-rn-eq15 : goal.returns-else-rn-eq15
+returns-else-rn-eq15 c = grind (arith, insert)

@@ -1,0 +1,10 @@
+use Rattle.std.proofs.Common.{arith}
+use Rattle.tz_decode.proofs.ConstantLaws.{or_not_constant}
+use Rattle.tz_decode.proofs.constants.or_not_constant.Goals as goal
+
+-- The call that closes each goal, by name: what is tried before it finds nothing, after long.
+pub returns-then-field-ne15 : goal.returns-then-field-ne15
+returns-then-field-ne15 c = grind (arith, or_not_constant)
+
+pub returns-else-field-ne15 : goal.returns-else-field-ne15
+returns-else-field-ne15 c = grind (arith, or_not_constant)

@@ -1,0 +1,10 @@
+use Rattle.std.proofs.Common.{arith}
+use Rattle.tz_decode.proofs.MultipleLaws.{load_exclusive}
+use Rattle.tz_decode.proofs.multiples.load_exclusive.Goals as goal
+
+-- The call that closes each goal, by name: what is tried before it finds nothing, after long.
+pub returns-then-field-ne15 : goal.returns-then-field-ne15
+returns-then-field-ne15 c = grind (arith, load_exclusive)
+
+pub returns-else-field-ne15 : goal.returns-else-field-ne15
+returns-else-field-ne15 c = grind (arith, load_exclusive)
