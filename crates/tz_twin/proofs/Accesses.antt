@@ -68,7 +68,8 @@ refused_same : (k : Asker) (o : Open) (x x' : Rest) (stores : List stored.Store)
 unfolding verdict is_let
 refused_same k o x x' stores kind size a must_align user = refl
 
-touched_by : (a : ℕ) (touch crooked : Bool) (rest : Option Fault) → cond crooked (Some Unaligned) (cond (not touch) (Some (Violation a)) rest) ≡ None → touch ≡ true
+-- what these two checks let through may be touched
+pub touched_by : (a : ℕ) (touch crooked : Bool) (rest : Option Fault) → cond crooked (Some Unaligned) (cond (not touch) (Some (Violation a)) rest) ≡ None → touch ≡ true
 touched_by a true crooked rest e = refl
 touched_by a false true rest e = cc
 touched_by a false false rest e = cc
