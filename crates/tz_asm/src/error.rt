@@ -3,7 +3,7 @@
 use thiserror::Error;
 
 /// The first refusal of a source with its line, which counts from 1, or want of memory.
-#[derive(Clone, Copy, Debug, Drop, PartialEq, Eq, Error)]
+#[derive(Clone, Copy, Debug, Drop, Error)]
 pub enum AsmError {
     /// The line without its comment isn't a list of tokens.
     #[error("A1 {0}")]

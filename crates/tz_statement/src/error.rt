@@ -1,7 +1,7 @@
 //! Why a statement has no code.
 
 /// Why there is no code.
-#[derive(Clone, Copy, PartialEq, Eq, Debug)]
+#[derive(Clone, Copy)]
 pub enum Uncoded {
     /// The last operand is a label, and nothing was told that it stands for.
     NoLabel,

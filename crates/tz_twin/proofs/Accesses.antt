@@ -55,23 +55,31 @@ pub record SameAnswers {A : Type 0} (k : Asker) (o : Open) (x x' : Rest) (a a' :
 
 -- ---- checks
 
+-- two answers of different kinds aren't the same: said of these alone, since `cc` reads all that is known at a goal
+none_is_some : {P : Type 0} (fault : Fault) → None ≡ Some fault → P
+none_is_some fault e = cc
+
+word_is_fault : {P : Type 0} (word : ℕ) (fault : Fault) → Ok word ≡ Err fault → P
+word_is_fault word fault e = cc
+
 -- what refuses an access is open
 refused_same : (k : Asker) (o : Open) (x x' : Rest) (stores : List stored.Store) (kind : Kind) (size : Size) (a : ℕ) (must_align user : Bool)
     → refused (reached k o x stores) kind size a must_align user ≡ refused (reached k o x' stores) kind size a must_align user
 unfolding verdict is_let
 refused_same k o x x' stores kind size a must_align user = refl
 
+-- what these two checks let through may be touched
+pub touched_by : (a : ℕ) (touch crooked : Bool) (rest : Option Fault) → cond crooked (Some Unaligned) (cond (not touch) (Some (Violation a)) rest) ≡ None → touch ≡ true
+touched_by a true crooked rest e = refl
+touched_by a false true rest e = cc
+touched_by a false false rest e = cc
+
 -- an access that no check refuses is to Non-secure bytes
 open_of_refused : (k : Asker) (o : Open) (x : Rest) (stores : List stored.Store) (kind : Kind) (size : Size) (a : ℕ) (must_align user : Bool)
     → refused (reached k o x stores) kind size a must_align user ≡ None → every (is_open (open_map o)) a size ≡ true
 unfolding verdict may_touch
 open_of_refused k o x stores kind size a must_align user e =
-    go (every (is_open (open_map o)) a size) (is_crooked size a (must_align || k.aligned)) _ e
-  where
-    go : (touch crooked : Bool) (rest : Option Fault) → cond crooked (Some Unaligned) (cond (not touch) (Some (Violation a)) rest) ≡ None → touch ≡ true
-    go true crooked rest h = refl
-    go false true rest h = cc
-    go false false rest h = cc
+    touched_by a (every (is_open (open_map o)) a size) (is_crooked size a (must_align || k.aligned)) _ e
 
 -- ---- one access
 
@@ -139,8 +147,8 @@ read_same k o x x' stores (Some fault) (Some fault') size a same e h = same_at k
   told None = Ok 0
   told (Some f) = Err f
 read_same k o x x' stores None None size a same e h = loaded_same k o x x' stores (is_private a) size a same (h refl)
-read_same k o x x' stores (Some fault) None size a same e h = cc
-read_same k o x x' stores None (Some fault') size a same e h = cc
+read_same k o x x' stores (Some fault) None size a same e h = none_is_some fault (sym e)
+read_same k o x x' stores None (Some fault') size a same e h = none_is_some fault' e
 
 -- a write that no check refuses
 noted_same : (k : Asker) (o : Open) (x x' : Rest) (stores : List stored.Store) (private : Bool) (size : Size) (a value : ℕ) → Same o x x' → every (is_open (open_map o)) a size ≡ true
@@ -172,8 +180,8 @@ write_by_same k o x x' stores (Some fault) (Some fault') size a value same e h =
   told (Some f) = Err f
 write_by_same k o x x' stores None None size a value same e h =
     noted_same k o x x' (stores ++ record { addr = a; size = size; value = value } ∷ []) (is_private a) size a value same (h refl)
-write_by_same k o x x' stores (Some fault) None size a value same e h = cc
-write_by_same k o x x' stores None (Some fault') size a value same e h = cc
+write_by_same k o x x' stores (Some fault) None size a value same e h = none_is_some fault (sym e)
+write_by_same k o x x' stores None (Some fault') size a value same e h = none_is_some fault' e
 
 access_same : (k : Asker) (o : Open) (x x' : Rest) (stores : List stored.Store) (q : Access) → Same o x x' → SameAnswers k o x x' (access (reached k o x stores) q) (access (reached k o x' stores) q)
 unfolding access
@@ -207,8 +215,8 @@ answer_same k o x x' (r, Err fault) (r', Err fault') later h more = record {
   fault_of : Result ℕ Fault → Result (List ℕ) Fault
   fault_of (Ok word) = Ok []
   fault_of (Err f) = Err f
-answer_same k o x x' (r, Ok w) (r', Err fault) later h more = let e = h.answer in cc
-answer_same k o x x' (r, Err fault) (r', Ok w') later h more = let e = h.answer in cc
+answer_same k o x x' (r, Ok w) (r', Err fault) later h more = word_is_fault w fault h.answer
+answer_same k o x x' (r, Err fault) (r', Ok w') later h more = word_is_fault w' fault (sym h.answer)
 answer_same k o x x' (r, Ok w) (r', Ok w') later h more =
     let next = more (moved o h.part) (rested x h.bus h.memory) (rested x' h.bus' h.memory') h.stores h.same in
     record {

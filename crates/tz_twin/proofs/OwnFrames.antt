@@ -5,7 +5,6 @@ use Rattle.tz_table.specs.declared.units.Side.{Side}
 use Rattle.tz_table.specs.declared.units.Side.TheVariants.{Secure, NonSecure}
 use Rattle.tz_table.specs.declared.units.Size.TheVariants.{Word}
 use Rattle.tz_model.specs.declared.report.Fault.{Fault}
-use Rattle.tz_model.specs.declared.report.Fault.TheVariants.{Unaligned, Violation}
 use Rattle.tz_model.specs.Words.{wrap}
 use Rattle.tz_regs.specs.declared.parts.Core.{Core}
 use Rattle.tz_regs.specs.Banks.{stacks_of}
@@ -23,6 +22,7 @@ use Rattle.tz_frames.specs.Machine.{Framed, framer, in_map_alone, frame_verdict,
 use Rattle.tz_frames.specs.declared.frame.StackFault.{StackFault}
 use Rattle.tz_frames.specs.Stack.{limit_of, with_side_sp, after_store, written, word_answer, word_read, with_first, reads, Pushed, access_fault, pushed_with, pushed, basic_base, basic_words, pushed_basic, basic_read, popped_basic}
 use Rattle.tz_twin.specs.Integrity.{KeepsBytes}
+use Rattle.tz_twin.proofs.Accesses.{touched_by}
 use Rattle.tz_twin.proofs.Bytes.{keeps_nothing_changed, keeps_then, write_kept}
 use Rattle.tz_twin.proofs.Slots.{quiet}
 use Rattle.tz_twin.proofs.Faults.{is_own, Own, OwnSome, own_some}
@@ -64,11 +64,7 @@ own_verdict f kind a privileged = own_in_map a _ (own_asked f kind a privileged)
 -- what no check refuses is Non-secure
 open_asked : (f : Framed) (kind : Kind) (a : ℕ) (privileged : Bool) → verdict f.bus (asked f kind a privileged) ≡ None → every (is_open (map_in f.bus)) a Word ≡ true
 unfolding verdict may_touch
-open_asked f kind a privileged e = go (every (is_open (map_in f.bus)) a Word) (is_crooked Word a (asked f kind a privileged).must_align) _ e where
-  go : (touch crooked : Bool) (rest : Option Fault) → cond crooked (Some Unaligned) (cond (not touch) (Some (Violation a)) rest) ≡ None → touch ≡ true
-  go true crooked rest h = refl
-  go false true rest h = cc
-  go false false rest h = cc
+open_asked f kind a privileged e = touched_by a (every (is_open (map_in f.bus)) a Word) (is_crooked Word a (asked f kind a privileged).must_align) _ e
 
 none_in_map : (a : ℕ) (v : Option Fault) → in_map_alone a v ≡ None → v ≡ None
 none_in_map a None e = refl
@@ -142,9 +138,12 @@ pushed_own_cond : (c : Core) (f : Framed) (t : Bool) (x y : Pushed Framed) → P
 pushed_own_cond c f true x y h k = h
 pushed_own_cond c f false x y h k = k
 
+secure_is_nonsecure : {P : Type 0} → Secure ≡ NonSecure → P
+secure_is_nonsecure e = cc
+
 pushed_own : (c : Core) (f : Framed) (side : Side) (process privileged : Bool) (base : ℕ) (words : List ℕ) → side ≡ NonSecure → PushedOwn c f (pushed framed c f side process privileged base words)
 unfolding OwnFrameSome is_own_frame
-pushed_own c f Secure process privileged base words is = cc
+pushed_own c f Secure process privileged base words is = secure_is_nonsecure is
 pushed_own c f NonSecure process privileged base words is =
     let low = limit_of process (stacks_of NonSecure c) in
     pushed_own_cond c f (nat_lt base low) _ (pushed_with (with_side_sp NonSecure process base c) (written framed NonSecure privileged f base words))

@@ -363,9 +363,12 @@ runs_secure : (side : Side) → is_nonsecure_side side ≡ false → side ≡ Se
 runs_secure Secure e = refl
 runs_secure NonSecure e = cc
 
+false_is_true : {P : Type 0} → false ≡ true → P
+false_is_true e = cc
+
 touching_first : (s0 : State) (before : Seen) (t : Bool) (x y : Ended) → t ≡ true → Touching s0 before x → Touching s0 before (cond t x y)
 touching_first s0 before true x y h p = p
-touching_first s0 before false x y h p = absurd (cc)
+touching_first s0 before false x y h p = false_is_true h
 
 -- a step of a locked machine
 touching_locked : (s : State) (before : Seen) → s.core.run.locked ≡ true → Of before s → Touching s before (ended s)

@@ -1,7 +1,8 @@
-use Rattle.std.proofs.Common.{◌∙◌, [], List, ap, sym, take, ℕ}
+use Rattle.std.proofs.Common.{◌∙◌, [], List, ap, sym, take, ℕ, arith}
 use Rattle.std.proofs.lemmas.List.{take_rest}
 use Rattle.tz_syntax.specs.Tokens.{end_run, tokens_behind}
 use Rattle.tz_syntax.proofs.Turns.{run_all, run_ends, run_more}
+use Rattle.std.proofs.lemmas.Grind.{common_steps}
 use Rattle.tz_syntax.proofs.runs.first_run.Goals as goal
 
 pub returns-then-not-is_word_byte-clause-tokens : goal.returns-then-not-is_word_byte-clause-tokens
@@ -16,3 +17,10 @@ loop-place-preserved c = c.loop-place.invariant ∙ run_more c.args.line.now c.l
 
 pub returns-clause-tokens : goal.returns-clause-tokens
 returns-clause-tokens c = c.loop-place.invariant ∙ run_all c.args.line.now c.loop-place.place c.loop-place-test.false
+
+-- The first call that the prover tries finds nothing at these goals, after long: the one that does is named.
+pub returns-clause-some : goal.returns-clause-some
+returns-clause-some c = grind (arith, common_steps)
+
+pub returns-clause-shorter : goal.returns-clause-shorter
+returns-clause-shorter c = grind (arith, common_steps)

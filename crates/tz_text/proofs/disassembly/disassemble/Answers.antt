@@ -46,3 +46,7 @@ returns-clause-put g c = first_of (assumption, search (tests, rules), grind (ari
 
 pub returns-clause-cause : goal.returns-clause-cause
 returns-clause-cause g c = first_of (assumption, search (tests, rules), grind (arith, common_steps), grind (arith, elements))
+
+-- The first call that the prover tries finds nothing here, after long: the one that does is named.
+pub lines-smaller : goal.lines-smaller
+lines-smaller g c = grind (arith, common_steps)

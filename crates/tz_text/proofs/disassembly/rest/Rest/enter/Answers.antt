@@ -39,3 +39,7 @@ returns-then-self-len-clause-fewer c = first_of (assumption, search (tests, rule
 
 pub returns-then-self-len-clause-end : goal.returns-then-self-len-clause-end
 returns-then-self-len-clause-end c = first_of (assumption, search (tests, rules), grind (arith, common_steps), grind (arith, elements))
+
+-- The first call that the prover tries finds nothing here, after long: the one that does is named.
+pub returns-clause-below : goal.returns-clause-below
+returns-clause-below c = grind (arith, common_steps)

@@ -1,6 +1,7 @@
 use Rattle.std.proofs.Common.{◌≡◌, ◌∙◌, ◌<◌, ap, arith, length, eqb-true, sym}
 use Rattle.std.proofs.lemmas.Bool.{eqb-false}
 use Rattle.tz_text.proofs.Listing.{next_below, next_text, size_within, text_end}
+use Rattle.std.proofs.lemmas.Grind.{common_steps}
 use Rattle.tz_text.proofs.disassembly.rest.Rest.next.Goals as goal
 
 pub returns-then-is_empty-clause-end : goal.returns-then-is_empty-clause-end
@@ -37,3 +38,10 @@ returns-clause-below c =
     next_below c.args.self.now rest c.take.new.self c.push_front-size.new.line.bytes c.as_slice.result.now c.push_front-size.result
     c.as_slice.ensures.value some c.push_front-size.ensures.size c.take.ensures.at c.take.ensures.waiting c.take.ensures.here c.take.ensures.segments
     c.fill.ensures.below
+
+-- The first call that the prover tries finds nothing at these goals, after long: the one that does is named.
+pub overflow_cast-self : goal.overflow_cast-self
+overflow_cast-self c = grind (arith, common_steps)
+
+pub returns-clause-some : goal.returns-clause-some
+returns-clause-some c = grind (arith, common_steps)

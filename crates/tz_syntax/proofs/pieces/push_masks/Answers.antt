@@ -1,0 +1,7 @@
+use Rattle.std.proofs.Common.{arith}
+use Rattle.std.proofs.lemmas.Grind.{common_steps}
+use Rattle.tz_syntax.proofs.pieces.push_masks.Goals as goal
+
+-- The first call that the prover tries finds nothing here, after long: the one that does is named.
+pub returns-then-f-eq1-clause-bytes : goal.returns-then-f-eq1-clause-bytes
+returns-then-f-eq1-clause-bytes g c = grind (arith, common_steps)
