@@ -1,14 +1,12 @@
-use Rattle.std.proofs.Common.{arith, rules, tests}
-use Rattle.std.proofs.lemmas.Grind.{common_steps, elements}
-use Rattle.tz_frames.specs.Enter.{vectored}
-use Rattle.tz_frames.specs.Enter.{vector_failed}
+use Rattle.std.proofs.Common.{rules, tests}
+use Rattle.tz_frames.specs.Enter.{vectored, vector_failed}
 use Rattle.tz_excret.proofs.vector.take_vector.Goals as goal
 
--- What the tactics try, by name: a body that is refused is then told without a search for what to offer.
+-- The calls that close each, by name: a body that is refused is then told without a search for what to offer.
 pub returns-in-Ok-clause-does : goal.returns-in-Ok-clause-does
 unfolding vectored vector_failed
-returns-in-Ok-clause-does g c = first_of (assumption, search (tests, rules), grind (arith, common_steps), grind (arith, elements))
+returns-in-Ok-clause-does g c = first_of (assumption, search (tests, rules))
 
 pub returns-in-Err-clause-does : goal.returns-in-Err-clause-does
 unfolding vectored vector_failed
-returns-in-Err-clause-does g c = first_of (assumption, search (tests, rules), grind (arith, common_steps), grind (arith, elements))
+returns-in-Err-clause-does g c = first_of (assumption, search (tests, rules))

@@ -1,22 +1,12 @@
-use Rattle.std.proofs.Common.{arith, rules, tests}
-use Rattle.std.proofs.lemmas.Grind.{common_steps, elements}
+use Rattle.std.proofs.Common.{rules, tests}
 use Rattle.tz_loadstore.proofs.many.load_many.Goals as goal
 
--- What the tactics try, by name: a body that is refused is then told without a search for what to offer.
+-- The calls that close each, by name: a body that is refused is then told without a search for what to offer.
 pub returns-in-Some-clause-executes : goal.returns-in-Some-clause-executes
-returns-in-Some-clause-executes g c = first_of (assumption, search (tests, rules), grind (arith, common_steps), grind (arith, elements))
-
-pub returns-in-Some-clause-room : goal.returns-in-Some-clause-room
-returns-in-Some-clause-room g c = first_of (assumption, search (tests, rules), grind (arith, common_steps), grind (arith, elements))
-
-pub returns-in-Some-clause-lent : goal.returns-in-Some-clause-lent
-returns-in-Some-clause-lent g c = first_of (assumption, search (tests, rules), grind (arith, common_steps), grind (arith, elements))
+returns-in-Some-clause-executes g c = first_of (assumption, search (tests, rules))
 
 pub returns-in_err-words-clause-executes : goal.returns-in_err-words-clause-executes
-returns-in_err-words-clause-executes g c = first_of (assumption, search (tests, rules), grind (arith, common_steps), grind (arith, elements))
+returns-in_err-words-clause-executes g c = first_of (assumption, search (tests, rules))
 
-pub returns-in_err-words-clause-room : goal.returns-in_err-words-clause-room
-returns-in_err-words-clause-room g c = first_of (assumption, search (tests, rules), grind (arith, common_steps), grind (arith, elements))
-
-pub returns-in_err-words-clause-lent : goal.returns-in_err-words-clause-lent
-returns-in_err-words-clause-lent g c = first_of (assumption, search (tests, rules), grind (arith, common_steps), grind (arith, elements))
+pub returns-clause-executes : goal.returns-clause-executes
+returns-clause-executes g c = first_of (assumption, search (tests, rules))

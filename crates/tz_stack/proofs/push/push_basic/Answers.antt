@@ -1,17 +1,17 @@
-use Rattle.std.proofs.Common.{arith, rules, tests}
-use Rattle.std.proofs.lemmas.Grind.{common_steps, elements}
+use Rattle.std.proofs.Common.{arith}
+use Rattle.std.proofs.lemmas.Grind.{common_steps}
 use Rattle.tz_frames.specs.Stack.{pushed_basic}
 use Rattle.tz_stack.proofs.push.push_basic.Goals as goal
 
--- What the tactics try, by name: a body that is refused is then told without a search for what to offer.
+-- The calls that close each, by name: a body that is refused is then told without a search for what to offer.
 pub returns-then-base-limit-clause-pushed : goal.returns-then-base-limit-clause-pushed
 unfolding pushed_basic
-returns-then-base-limit-clause-pushed g c = first_of (assumption, search (tests, rules), grind (arith, common_steps), grind (arith, elements))
+returns-then-base-limit-clause-pushed g c = first_of (assumption, grind (arith, common_steps))
 
-pub returns-then-base-limit-clause-room : goal.returns-then-base-limit-clause-room
+pub returns-in-Ok-clause-pushed : goal.returns-in-Ok-clause-pushed
 unfolding pushed_basic
-returns-then-base-limit-clause-room g c = first_of (assumption, search (tests, rules), grind (arith, common_steps), grind (arith, elements))
+returns-in-Ok-clause-pushed g c = first_of (assumption, grind (arith, common_steps))
 
-pub returns-then-base-limit-clause-lent : goal.returns-then-base-limit-clause-lent
+pub returns-in-Err-clause-pushed : goal.returns-in-Err-clause-pushed
 unfolding pushed_basic
-returns-then-base-limit-clause-lent g c = first_of (assumption, search (tests, rules), grind (arith, common_steps), grind (arith, elements))
+returns-in-Err-clause-pushed g c = first_of (assumption, grind (arith, common_steps))
