@@ -1,14 +1,11 @@
-//! Why a board file or a script is refused, and where. The text of an error is its code and its place.
+//! Why a board file or a script is refused, and where.
 
 ghost use Rattle.std.specs.Prelude.{◌≡◌};
 ghost use Rattle.tz_board.specs.Boards.{key_at, key_text};
 ghost use Rattle.tz_board.specs.BoardErrors.{key_of, place_of};
 
-use std::fmt;
-use thiserror::Error;
-
 /// A key of a board file.
-#[derive(Clone, Copy, Debug)]
+#[derive(Clone, Copy)]
 pub enum Key {
     SecureVtor,
     NonsecureVtor,
@@ -52,15 +49,9 @@ impl Key {
     }
 }
 
-impl fmt::Display for Key {
-    fn fmt<W: fmt::Write>(&self, f: &mut fmt::Formatter<W>) -> fmt::Result {
-        f.write_str(self.text())
-    }
-}
-
 /// Where a key stands: at the top of the file, or in the table of a region or of an SAU region, which
 /// are counted from 0.
-#[derive(Clone, Copy, Debug)]
+#[derive(Clone, Copy)]
 pub enum Place {
     Top(Key),
     Region(u32, Key),
@@ -80,58 +71,36 @@ impl Place {
     }
 }
 
-impl fmt::Display for Place {
-    fn fmt<W: fmt::Write>(&self, f: &mut fmt::Formatter<W>) -> fmt::Result {
-        match self {
-            Place::Top(key) => write!(f, "{key}"),
-            Place::Region(index, key) => write!(f, "region {index} {key}"),
-            Place::Sau(index, key) => write!(f, "sau {index} {key}"),
-        }
-    }
-}
-
 /// Why a board file is refused: the first reason in the order of the file's grammar.
-#[derive(Clone, Copy, Debug, Drop, Error)]
+#[derive(Clone, Copy, Drop)]
 pub enum BoardError {
     /// The bytes are no TOML document.
-    #[error("B1")]
     NotToml,
     /// A required key is absent.
-    #[error("B2 {0}")]
     Missing(Place),
     /// The value isn't of the kind that the key asks for.
-    #[error("B3 {0}")]
     WrongKind(Place),
     /// The value is of that kind and out of range.
-    #[error("B4 {0}")]
     Range(Place),
     /// Two regions share a byte: the least later one, with the least earlier one before it.
-    #[error("B5 {0} {1}")]
     Overlap(u32, u32),
     /// More than 32 regions, more SAU regions than the board has, or more than 4 MiB of memory.
-    #[error("B6")]
     TooMany,
     /// There is no memory for the board.
-    #[error("no memory")]
     Memory,
 }
 
 /// Why a script is refused: the first reason by line, with the number of the line, counted from 1.
-#[derive(Clone, Copy, Debug, Drop, Error)]
+#[derive(Clone, Copy, Drop)]
 pub enum ScriptError {
     /// The line is no event, no comment and not empty.
-    #[error("C1 {0}")]
     BadLine(u32),
     /// Its step is below that of the event before.
-    #[error("C2 {0}")]
     OutOfOrder(u32),
     /// The board hasn't the interrupt.
-    #[error("C3 {0}")]
     NoSuchInterrupt(u32),
     /// There are more than 10,000 events.
-    #[error("C4")]
     TooMany,
     /// There is no memory for the script.
-    #[error("no memory")]
     Memory,
 }
