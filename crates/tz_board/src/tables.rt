@@ -1,6 +1,6 @@
 //! The tables of a board file: its regions and SAU regions, each with its keys in their order.
 
-ghost use Rattle.std.specs.Prelude.{◌≡◌, ◌<◌, ◌≤◌, ◌%◌, IfOk, IfErr, IsTrue, length, Ok, Some};
+ghost use Rattle.std.specs.Prelude.{◌≡◌, ◌<◌, ◌≤◌, ◌-◌, ◌%◌, IfOk, IfErr, IsTrue, length, Ok, Some};
 ghost use Rattle.toml.specs.View.{items_view, table_view, view};
 ghost use Rattle.tz_model.specs.Board.{are_regions, are_sau_regions, is_region, is_sau_region};
 ghost use Rattle.tz_board.specs.Boards.{each, last_in_block, of_kind, region_in, regions_at, regions_listed, sau_at, sau_listed, sau_region_in, tables_in, tables_of};
@@ -13,6 +13,13 @@ use std::alloc::Global;
 use toml::{Table, Value};
 use tz_model::{Region, SauRegion};
 
+/// How many bytes a region that begins at an address may have.
+fn room(base: u32) -> u32
+    ensures { result ≡ 0xE0000000 - base }
+{
+    0xE000_0000u32.saturating_sub(base)
+}
+
 /// A region, in the table at an index.
 fn region(table: &Table, index: u32) -> Result<Region, BoardError>
     ensures ok { IfOk result (λ r. region_in index (table_view table.now) ≡ Ok r) }
@@ -20,8 +27,7 @@ fn region(table: &Table, index: u32) -> Result<Region, BoardError>
     ensures good { IfOk result (λ r. IsTrue (is_region r)) }
 {
     let base = keys::number(table, Place::Region(index, Key::Base), 0, 0xFFFF_FFFF, 32)?;
-    let most = 0xE000_0000u32.saturating_sub(base);
-    let size = keys::number(table, Place::Region(index, Key::Size), 32, most, 32)?;
+    let size = keys::number(table, Place::Region(index, Key::Size), 32, room(base), 32)?;
     let kind = keys::kind(table, Place::Region(index, Key::Kind))?;
     let side = keys::side(table, Place::Region(index, Key::Side))?;
     Ok(Region {

@@ -82,12 +82,12 @@ many_cond : {A : Type 0} (P : A → Type 0) (t : Bool) (stop later : A) → t �
 many_cond P true stop later e h = h
 many_cond P false stop later e h = absurd (cc)
 
-then_stop : {A B : Type 0} (t : Told A) (next : A → Told B) (stop : Stop) → AllowsStop t stop → AllowsStop (told_then t next) stop
+pub then_stop : {A B : Type 0} (t : Told A) (next : A → Told B) (stop : Stop) → AllowsStop t stop → AllowsStop (told_then t next) stop
 then_stop Unknown next stop h = h
 then_stop (Stops s) next stop h = h
 then_stop (Gives x) next stop h = absurd h
 
-then_gives : {A B : Type 0} (f : A → B) (t : Told A) (x : A) → Allows t x → Allows (told_then t (λ y. Gives (f y))) (f x)
+pub then_gives : {A B : Type 0} (f : A → B) (t : Told A) (x : A) → Allows t x → Allows (told_then t (λ y. Gives (f y))) (f x)
 then_gives f Unknown x h = tt
 then_gives f (Stops s) x h = absurd h
 then_gives f (Gives y) x h = ap f h
@@ -209,6 +209,23 @@ answer_cut c task room error allowed put rose same =
     (record { gained = put.gained; rest = put.front.0; front = put.front.1; gains = put.written }) rose
     (unfit c.out_space (length task.text) error put.fits)
     (subst (λ (x : Option (List ℕ)). Gains c.err_old x []) (sym same) (gains_nothing c.err_old))
+
+-- a text that is put whole is told, and one that isn't is cut
+pub told_put : (old new : Option (List ℕ)) (space room : Option ℕ) (text : List ℕ) (before now : ℕ) → Put old new space room text (Ok tt) → IsTold 0 text 0 old new space before now
+told_put old new space room text before now put = inl (refl, subst (λ (x : List ℕ). Gains old new x) put.whole put.written)
+
+pub told_cut : (old new : Option (List ℕ)) (space room : Option ℕ) (text : List ℕ) (before now : ℕ) (error : SinkError)
+    → Put old new space room text (Err error) → Rose before now → IsTold 4 text 0 old new space before now
+told_cut old new space room text before now error put rose =
+    inr (refl, rose, unfit space (length text) error put.fits, record { gained = put.gained; rest = put.front.0; front = put.front.1; gains = put.written })
+
+-- a task whose text is told is answered by its status
+pub answer_task : (c : Call) (result : ℕ) (task : Task) → IsDone c.command task.status → Allows (told_of c) task
+    → IsTold result task.text task.status c.out_old c.out_new c.out_space c.out_before c.out_now → c.err_new ≡ c.err_old → Answer c result
+answer_task c result task done allowed (inl h) same =
+    Done task h.0 (subst (IsDone c.command) (sym h.0) done) allowed h.1 (subst (λ (x : Option (List ℕ)). Gains c.err_old x []) (sym same) (gains_nothing c.err_old))
+answer_task c result task done allowed (inr h) same =
+    Broken task h.0 allowed h.3 h.1 h.2 (subst (λ (x : Option (List ℕ)). Gains c.err_old x []) (sym same) (gains_nothing c.err_old))
 
 -- ---- the run
 

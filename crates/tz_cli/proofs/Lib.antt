@@ -1,3 +1,4 @@
-pub mod Reached
-pub mod Exits
 pub mod Clauses
+pub mod Exits
+pub mod Reached
+pub mod Stages

@@ -9,7 +9,7 @@ ghost use Rattle.tz_board.specs.ScriptErrors.{script_refusal_of};
 ghost use Rattle.tz_edge.specs.Commands.{longest};
 ghost use Rattle.tz_cli.specs.Answer.{IsTold};
 ghost use Rattle.tz_cli.specs.Lines.{board_code, image_code, script_code, source_code, place_text, refused_line, unread_line, limit_line};
-ghost use Rattle.tz_cli.specs.Faults.{image_refusal, source_refusal, line_with, list_of, names_read, status_with, stop_of, code_with};
+ghost use Rattle.tz_cli.specs.Faults.{Names, image_refusal, source_refusal, line_with, list_of, names_read, status_with, stop_of, code_with};
 
 use crate::files::name_of;
 use crate::stops::{FileNames, LoadError};
@@ -225,28 +225,46 @@ fn source_line(alloc: Global, name: &str, error: AsmError) -> Result<Vec<u8>, Al
     Ok(line)
 }
 
-/// The line of a fault, and its status: 3, 5, 6, or 7 for want of memory.
+/// The line of a fault; its error is want of memory.
 pub fn fault_line(
     alloc: Global,
     names: &FileNames<'_>,
     fault: LoadError,
-) -> Result<(Vec<u8>, u8), AllocError>
-    ensures line { IfOk result (λ p. p.0.items ≡ line_with (stop_of (names_read names.now) fault)) }
-    ensures len { IfOk result (λ p. vec_len p.0 ≤ 64 + longest (list_of (names_read names.now))) }
-    ensures status { IfOk result (λ p. p.1 ≡ status_with (stop_of (names_read names.now) fault)) }
+) -> Result<Vec<u8>, AllocError>
+    ensures bytes { IfOk result (λ line. line.items ≡ line_with (stop_of (names_read names.now) fault)) }
+    ensures len { IfOk result (λ line. vec_len line ≤ 64 + longest (list_of (names_read names.now))) }
 {
     match fault {
-        LoadError::Unread(file) => Ok((unread_line(alloc, name_of(names, file))?, 3)),
-        LoadError::Long(file) => Ok((limit_line(alloc, name_of(names, file))?, 6)),
+        LoadError::Unread(file) => unread_line(alloc, name_of(names, file)),
+        LoadError::Long(file) => limit_line(alloc, name_of(names, file)),
         LoadError::Board(BoardError::Memory) => Err(AllocError),
         LoadError::Image(_, ElfError::Memory) => Err(AllocError),
         LoadError::Script(ScriptError::Memory) => Err(AllocError),
         LoadError::Source(AsmError::Memory) => Err(AllocError),
         LoadError::Memory => Err(AllocError),
-        LoadError::Board(error) => Ok((board_line(alloc, names.board, error)?, 5)),
-        LoadError::Script(error) => Ok((script_line(alloc, names.script, error)?, 5)),
-        LoadError::Source(error) => Ok((source_line(alloc, names.source, error)?, 5)),
-        LoadError::Image(file, error) => Ok((image_line(alloc, name_of(names, file), error)?, 5)),
+        LoadError::Board(error) => board_line(alloc, names.board, error),
+        LoadError::Script(error) => script_line(alloc, names.script, error),
+        LoadError::Source(error) => source_line(alloc, names.source, error),
+        LoadError::Image(file, error) => image_line(alloc, name_of(names, file), error),
+    }
+}
+
+/// The status of a fault: 3, 5, 6, or 7 for want of memory.
+fn fault_status(fault: LoadError) -> u8
+    ensures { (n : Names) → status_with (stop_of n fault) ≡ result }
+{
+    match fault {
+        LoadError::Unread(_) => 3,
+        LoadError::Long(_) => 6,
+        LoadError::Board(BoardError::Memory) => 7,
+        LoadError::Image(_, ElfError::Memory) => 7,
+        LoadError::Script(ScriptError::Memory) => 7,
+        LoadError::Source(AsmError::Memory) => 7,
+        LoadError::Memory => 7,
+        LoadError::Board(_) => 5,
+        LoadError::Script(_) => 5,
+        LoadError::Source(_) => 5,
+        LoadError::Image(_, _) => 5,
     }
 }
 
@@ -274,7 +292,7 @@ pub fn refuse_fault<E: Sink>(
         ⊎ IsTold result (codes "no memory\n") 7 (E.written err.old) (E.written err.new) (E.space err.old) (E.faults err.old) (E.faults err.new) }
 {
     match fault_line(alloc, names, fault) {
-        Ok((line, status)) => refuse(err, &line, status),
+        Ok(line) => refuse(err, &line, fault_status(fault)),
         Err(_) => refuse(err, b"no memory\n", 7),
     }
 }

@@ -2,9 +2,10 @@
 use Rattle.std.specs.Prelude.{◌≡◌, ◌&&◌, ◌==◌, Bool, not, true, false, List, [], ◌∷◌, Option, Some, None, if◌then◌else◌, codes}
 use Rattle.std.specs.List.{list_any}
 use Rattle.std.specs.Str.{bytes_eq}
-use Rattle.clap.specs.Words.{App, Rule, app_of, new_app, new_rule, with_rule}
+use Rattle.clap.specs.Words.{App, Rule, app_of, new_app, new_rule, rule_of, with_rule}
 use Rattle.clap.specs.Simple.{on_top}
 use Rattle.clap.specs.ValueTests.{accepts}
+use Rattle.clap.specs.declared.builder.arg.Arg.{Arg}
 use Rattle.clap.specs.declared.builder.command.Command.{Command}
 use Rattle.clap.specs.declared.builder.ArgAction.TheVariants.{Append}
 use Rattle.clap.specs.declared.builder.value_parser.ValueParser.{ValueParser}
@@ -35,6 +36,13 @@ app_for leaf = with_rule (with_rule bare_app words_rule) (option_rule leaf)
 -- one of the names
 abbrev pub is_one_of : List Text → Text → Bool
 is_one_of names value = list_any (λ name. bytes_eq name value) names
+
+-- the argument is this option, which takes these values
+pub record IsOption (option : Text) (names : List Text) (arg : Arg) : Type 0 where
+  pub leaf : Leaf
+  pub rule : rule_of arg ≡ option_rule leaf
+  pub named : leaf.option ≡ option
+  pub values : (value : Text) → accepts false leaf.parser value ≡ is_one_of names value
 
 -- the command has this option, which takes these values
 pub record IsLeaf (option : Text) (names : List Text) (command : Command) : Type 0 where

@@ -5,7 +5,10 @@
 //! Whether a named file is there, and whether a number is past its limit, isn't known here.
 
 ghost use Rattle.std.specs.Prelude.{◌≡◌, IfOk, map, string_bytes, option_map};
-ghost use Rattle.tz_edge.specs.Commands.{command_in, command_of};
+ghost use Rattle.tz_edge.specs.Asm.{asm_behind};
+ghost use Rattle.tz_edge.specs.Commands.{Run, Asm, Dis, command_in, command_of};
+ghost use Rattle.tz_edge.specs.Dis.{dis_behind};
+ghost use Rattle.tz_edge.specs.Run.{run_behind};
 
 mod asm;
 mod counts;
@@ -32,6 +35,45 @@ pub enum Command<'a> {
     Dis(DisWords<'a>),
 }
 
+/// The command `run` of the words behind its own.
+fn run_command<'a>(
+    alloc: Global,
+    words: &'a [String],
+) -> Result<Option<Command<'a>>, AllocError>
+    ensures { IfOk result (λ r. option_map command_in r ≡ option_map Run (run_behind (map string_bytes words.now))) }
+{
+    match words_behind_run(alloc, words)? {
+        Some(run) => Ok(Some(Command::Run(run))),
+        None => Ok(None),
+    }
+}
+
+/// The command `asm` of the words behind its own.
+fn asm_command<'a>(
+    alloc: Global,
+    words: &'a [String],
+) -> Result<Option<Command<'a>>, AllocError>
+    ensures { IfOk result (λ r. option_map command_in r ≡ option_map Asm (asm_behind (map string_bytes words.now))) }
+{
+    match words_behind_asm(alloc, words)? {
+        Some(asm) => Ok(Some(Command::Asm(asm))),
+        None => Ok(None),
+    }
+}
+
+/// The command `dis` of the words behind its own.
+fn dis_command<'a>(
+    alloc: Global,
+    words: &'a [String],
+) -> Result<Option<Command<'a>>, AllocError>
+    ensures { IfOk result (λ r. option_map command_in r ≡ option_map Dis (dis_behind (map string_bytes words.now))) }
+{
+    match words_behind_dis(alloc, words)? {
+        Some(dis) => Ok(Some(Command::Dis(dis))),
+        None => Ok(None),
+    }
+}
+
 /// The command of a command line, which begins with the program's name; `None` where the words are
 /// refused. Its error is want of memory.
 pub fn command_words<'a>(
@@ -42,18 +84,9 @@ pub fn command_words<'a>(
 {
     match words {
         [_program, command, rest @ ..] => match command.as_str() {
-            "run" => match words_behind_run(alloc, rest)? {
-                Some(run) => Ok(Some(Command::Run(run))),
-                None => Ok(None),
-            },
-            "asm" => match words_behind_asm(alloc, rest)? {
-                Some(asm) => Ok(Some(Command::Asm(asm))),
-                None => Ok(None),
-            },
-            "dis" => match words_behind_dis(alloc, rest)? {
-                Some(dis) => Ok(Some(Command::Dis(dis))),
-                None => Ok(None),
-            },
+            "run" => run_command(alloc, rest),
+            "asm" => asm_command(alloc, rest),
+            "dis" => dis_command(alloc, rest),
             _ => Ok(None),
         },
         _ => Ok(None),

@@ -1,5 +1,5 @@
 -- The lines that a run has written so far.
-use Rattle.std.proofs.Common.{◌≡◌, ℕ, suc, ◌+◌, ◌-◌, ◌<◌, ◌≤◌, List, [], ◌++◌, Option, Ok, Err, refl, sym, ap, ◌∙◌, subst, arith, append_assoc, append-nil}
+use Rattle.std.proofs.Common.{◌≡◌, ℕ, suc, ◌+◌, ◌-◌, ◌<◌, ◌≤◌, List, [], ◌++◌, Option, Ok, Err, sym, ap, ◌∙◌, subst, arith, append_assoc, append-nil}
 use Rattle.tz_model.specs.declared.outside.SinkError.{SinkError}
 use Rattle.tz_model.specs.declared.report.Report.{Report}
 use Rattle.tz_model.specs.declared.report.View.{View}

@@ -7,6 +7,7 @@
 ghost use Rattle.std.specs.Prelude.{◌≡◌, ◌<◌, OnOk};
 ghost use Rattle.tz_model.specs.Outside.{HasCause, Put};
 ghost use Rattle.tz_sem.specs.Run.{state_after};
+ghost use Rattle.tz_text.specs.Line.{line};
 ghost use Rattle.tz_twin.specs.Trace.{text_from};
 ghost use Rattle.tz_run.specs.Events.{events_of};
 
@@ -37,6 +38,22 @@ pub fn run<O: Sink>(
     run_counted::<Brand, O>(Blank::new(1), machine, script, steps, view, out)
 }
 
+/// Writes the line of a step as one put. The text is what it is made in.
+fn put_line<O: Sink>(
+    text: &mut Line,
+    report: &Report,
+    step: u32,
+    view: View,
+    out: &mut O,
+) -> Result<(), SinkError>
+    ensures put { Put (O.written out.old) (O.written out.new) (O.space out.old) (O.space out.new) (line view step report.now) result }
+    ensures cause { HasCause (O.faults out.old) (O.faults out.new) (result ≡ Err SinkError.Failed) }
+{
+    text.clear();
+    push_line(text, report, step, view);
+    out.put(text.as_str().as_bytes())
+}
+
 /// The run, over a ledger of the looks into the script. One report and one line serve all steps.
 fn run_counted<L: Ledger, O: Sink>(
     blank: Blank,
@@ -59,9 +76,7 @@ fn run_counted<L: Ledger, O: Sink>(
     for step in 0..steps {
         let due = script.due(step, &mut looks);
         machine.step_into(due, &mut report);
-        text.clear();
-        push_line(&mut text, &report, step, view);
-        if let Err(error) = out.put(text.as_str().as_bytes()) {
+        if let Err(error) = put_line(&mut text, &report, step, view, out) {
             return Err(error);
         }
     }

@@ -5,14 +5,41 @@
 //! command without an option is given one that takes no value, so that any use of it is refused. What
 //! clap prints is never shown.
 
-ghost use Rattle.std.specs.Prelude.{◌≡◌, IfOk, true, map, string_bytes, option_map};
+ghost use Rattle.std.specs.Prelude.{◌≡◌, IfOk, true, false, map, string_bytes, option_map};
+ghost use Rattle.clap.specs.Words.{app_of, rule_of};
 ghost use Rattle.tz_edge.specs.Found.{parts_in};
-ghost use Rattle.tz_edge.specs.Leaf.{IsLeaf, are_positional, is_name, is_one_of, with_one};
+ghost use Rattle.tz_edge.specs.Leaf.{IsLeaf, IsOption, are_positional, bare_app, is_name, is_one_of, with_one, words_rule};
 ghost use Rattle.tz_edge.specs.Parts.{AnyWord, parts_of};
 
 use clap::error::ErrorKind;
 use clap::{Arg, ArgAction, ArgMatches, Command};
 use std::alloc::{AllocError, Global};
+
+/// The positional words, to clap.
+fn words_arg<'a>(alloc: Global) -> Arg<'a>
+    ensures rule { rule_of result ≡ words_rule }
+    ensures local { result.global ≡ false }
+{
+    Arg::new(alloc, "words").action(ArgAction::Append)
+}
+
+/// The option, to clap, which takes one of these values.
+fn option_arg<'a>(alloc: Global, option: &'a str, values: &'a [&'a str]) -> Arg<'a>
+    ensures option { IsOption option.now (map (λ s. s.now) values.now) result }
+    ensures local { result.global ≡ false }
+{
+    Arg::new(alloc, "option").long(option).value_parser(values)
+}
+
+/// The command, to clap, before it is given arguments.
+fn bare<'a>(alloc: Global) -> Command<'a>
+    ensures { app_of result ≡ bare_app }
+{
+    Command::new(alloc, "command")
+        .no_binary_name(true)
+        .disable_help_flag(true)
+        .disable_version_flag(true)
+}
 
 /// A command, to clap: positional words, and an option that takes one of these values.
 fn leaf<'a>(
@@ -22,14 +49,9 @@ fn leaf<'a>(
 ) -> Result<Command<'a>, AllocError>
     ensures { IfOk result (IsLeaf option.now (map (λ s. s.now) values.now)) }
 {
-    let words = Arg::new(alloc, "words").action(ArgAction::Append);
-    let chosen = Arg::new(alloc, "option").long(option).value_parser(values);
-    Command::new(alloc, "command")
-        .no_binary_name(true)
-        .disable_help_flag(true)
-        .disable_version_flag(true)
-        .arg(words)?
-        .arg(chosen)
+    bare(alloc)
+        .arg(words_arg(alloc))?
+        .arg(option_arg(alloc, option, values))
 }
 
 /// What clap finds in the words behind a command's name; `None` where they are refused.

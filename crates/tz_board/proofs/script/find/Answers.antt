@@ -1,8 +1,7 @@
-use Rattle.std.proofs.Common.{◌<◌, ◌+◌, ◌-◌, ◌/◌, ◌^◌, arith, length}
+use Rattle.std.proofs.Common.{◌<◌, ◌+◌, ◌-◌, ◌/◌, ◌^◌, arith, length, rules, tests}
+use Rattle.std.proofs.lemmas.Grind.{common_steps, elements}
 use Rattle.tz_board.proofs.Halving.{all_above, all_below, halved, steps_of-at}
 use Rattle.tz_board.proofs.script.find.Goals as goal
-use Rattle.std.proofs.Common.{rules, tests}
-use Rattle.std.proofs.lemmas.Grind.{common_steps, elements}
 
 pub loop-low-preserved-then-here-step-2 : goal.loop-low-preserved-then-here-step-2
 loop-low-preserved-then-here-step-2 g c =

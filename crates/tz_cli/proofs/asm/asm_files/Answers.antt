@@ -1,5 +1,5 @@
 -- Each exit is its answer.
-use Rattle.std.proofs.Common.{◌∙◌, ◌≡◌, refl, arith, subst, List, ℕ, Ok, Err}
+use Rattle.std.proofs.Common.{◌∙◌, refl, arith, subst, List, ℕ, Ok, Err}
 use Rattle.tz_model.specs.Outside.{Put}
 use Rattle.tz_edge.specs.Asm.{asm_in}
 use Rattle.tz_cli.specs.Told.{asm_task}

@@ -1,5 +1,5 @@
 use Rattle.std.proofs.lemmas.Grind.{common_steps}
-use Rattle.std.proofs.Common.{◌≡◌, ◌∙◌, arith, List, ℕ, Ok, Err}
+use Rattle.std.proofs.Common.{arith}
 use Rattle.tz_text.proofs.Sending.{sent_failed, sent_line}
 use Rattle.tz_cli.proofs.asm.put_lines.Goals as goal
 
