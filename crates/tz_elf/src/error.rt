@@ -5,7 +5,7 @@ use thiserror::Error;
 /// The first refusal of a file, or want of memory. The numbers are those of segments, which count
 /// from 0 (the lines with bytes of a plain image, the program headers of an ELF file), and of lines,
 /// which count from 1.
-#[derive(Clone, Copy, Debug, Drop, PartialEq, Eq, Error)]
+#[derive(Clone, Copy, Debug, Drop, Error)]
 pub enum ElfError {
     /// The file doesn't begin with the four bytes of ELF.
     #[error("L1")]
