@@ -46,20 +46,23 @@ IsReadBut e P = (e ≡ Memory → ⊥) → P
 
 stage_fault : {A B : Type 0} (s s' : Shelved) (n : Names) (file : File) (IsRead : File → Type 0) (t : Told A) (u : Told B) (e : LoadError)
     → Within s s' → IsReadBut e (IsRead file) → StopsAll t u → IsStageFault s' n file t e → IsFault s n IsRead u e
-stage_fault s s' n file IsRead t u (Unread f) within read all h =
-    ( subst IsRead (sym h.0) (read (λ w. cc))
-    , rose_before s.before s'.before s'.now s.now within.before within.now h.1
-    , λ sound. ap (λ (g : List ℕ → Held). g (name_in n f)) (sym within.held) ∙ ap (λ (x : File). s'.held (name_in n x)) h.0 ∙ h.2 (subst (λ (b : Bool). IsTrue b) (sym within.sound) sound))
-stage_fault s s' n file IsRead t u (Long f) within read all h =
-    ( subst IsRead (sym h.0) (read (λ w. cc))
-    , all (TooLong (name_in n f)) tt (subst (λ (x : File). AllowsStop t (TooLong (name_in n x))) (sym h.0) h.1))
+stage_fault s s' n file IsRead t u (Unread f) within read all h = (
+  subst IsRead (sym h.0) (read (λ w. cc)),
+  rose_before s.before s'.before s'.now s.now within.before within.now h.1,
+  λ sound. ap (λ (g : List ℕ → Held). g (name_in n f)) (sym within.held) ∙ ap (λ (x : File). s'.held (name_in n x)) h.0 ∙ h.2 (subst (λ (b : Bool). IsTrue b) (sym within.sound) sound),
+)
+stage_fault s s' n file IsRead t u (Long f) within read all h = (
+  subst IsRead (sym h.0) (read (λ w. cc)),
+  all (TooLong (name_in n f)) tt (subst (λ (x : File). AllowsStop t (TooLong (name_in n x))) (sym h.0) h.1),
+)
 stage_fault s s' n file IsRead t u (Board x) within read all h =
     (subst IsRead h.0 (read (λ w. cc)), refused t u (BadBoard n.board) (refusal_of x) (λ r. tt) all h.1)
-stage_fault s s' n file IsRead t u (Image f x) within read all h =
-    ( subst IsRead (sym h.0) (read (λ w. cc))
-    , ap form_of h.0 ∙ h.1
-    , refused t u (BadImage (name_in n f)) (image_refusal x) (λ r. tt) all
-      (subst (λ (y : File). AllowsRefusal t (BadImage (name_in n y)) (image_refusal x)) (sym h.0) h.2))
+stage_fault s s' n file IsRead t u (Image f x) within read all h = (
+  subst IsRead (sym h.0) (read (λ w. cc)),
+  ap form_of h.0 ∙ h.1,
+  refused t u (BadImage (name_in n f)) (image_refusal x) (λ r. tt) all
+      (subst (λ (y : File). AllowsRefusal t (BadImage (name_in n y)) (image_refusal x)) (sym h.0) h.2),
+)
 stage_fault s s' n file IsRead t u (Script x) within read all h =
     (subst IsRead h.0 (read (λ w. cc)), refused t u (BadScript n.script) (script_refusal_of x) (λ r. tt) all h.1)
 stage_fault s s' n file IsRead t u (Source x) within read all h =

@@ -36,10 +36,7 @@ pub enum Command<'a> {
 }
 
 /// The command `run` of the words behind its own.
-fn run_command<'a>(
-    alloc: Global,
-    words: &'a [String],
-) -> Result<Option<Command<'a>>, AllocError>
+fn run_command<'a>(alloc: Global, words: &'a [String]) -> Result<Option<Command<'a>>, AllocError>
     ensures { IfOk result (λ r. option_map command_in r ≡ option_map Run (run_behind (map string_bytes words.now))) }
 {
     match words_behind_run(alloc, words)? {
@@ -49,10 +46,7 @@ fn run_command<'a>(
 }
 
 /// The command `asm` of the words behind its own.
-fn asm_command<'a>(
-    alloc: Global,
-    words: &'a [String],
-) -> Result<Option<Command<'a>>, AllocError>
+fn asm_command<'a>(alloc: Global, words: &'a [String]) -> Result<Option<Command<'a>>, AllocError>
     ensures { IfOk result (λ r. option_map command_in r ≡ option_map Asm (asm_behind (map string_bytes words.now))) }
 {
     match words_behind_asm(alloc, words)? {
@@ -62,10 +56,7 @@ fn asm_command<'a>(
 }
 
 /// The command `dis` of the words behind its own.
-fn dis_command<'a>(
-    alloc: Global,
-    words: &'a [String],
-) -> Result<Option<Command<'a>>, AllocError>
+fn dis_command<'a>(alloc: Global, words: &'a [String]) -> Result<Option<Command<'a>>, AllocError>
     ensures { IfOk result (λ r. option_map command_in r ≡ option_map Dis (dis_behind (map string_bytes words.now))) }
 {
     match words_behind_dis(alloc, words)? {
