@@ -5,12 +5,12 @@ use crate::shown::tell_status;
 use crate::values::{core_value, set_value};
 use std::alloc::{AllocError, Global};
 use tz_excret::{is_exc_return, takes};
-use tz_frames::{Frames, TableFrames};
+use tz_frames::Frames;
 use tz_gate::is_fnc_return;
-use tz_model::{Side, Slot, TableEntry};
+use tz_model::{Side, Slot};
 use tz_nvic::Exceptions;
 use tz_regs::Core;
-use tz_rows::{Row, number_of};
+use tz_rows::{Row, TableEntry, TableFrames, number_of};
 
 /// A core, its exceptions, and words. The vectors of the sides begin at 0x10000000 and 0x00200000.
 #[derive(Drop)]

@@ -1,6 +1,5 @@
 pub mod Looks
 pub mod Machine
-pub mod Tables
 pub mod Status
 pub mod Stack
 pub mod Gate

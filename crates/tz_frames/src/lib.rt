@@ -3,8 +3,8 @@
 //! exception is taken, and how one is left.
 //!
 //! `Frames` is what they are written over. `BusFrames` is the machine's: its words go through the checks of the
-//! bus. `TableFrames` is a double, for tests. The definitions of entries stand in `specs/`, over whatever frames and
-//! ports they reach; bodies that meet them stand in crates above. The one call of their own is a law.
+//! bus. The definitions of entries stand in `specs/`, over whatever frames and ports they reach; bodies that meet
+//! them stand in crates above. The one call of their own is a law.
 #![tactic(auto)]
 
 ghost use Rattle.std.specs.Prelude.{◌≡◌, ℕ, Bool, true};
@@ -15,14 +15,12 @@ ghost use Rattle.tz_table.specs.declared.units.Side.TheVariants.{NonSecure};
 ghost use Rattle.tz_regs.specs.declared.parts.Registers.{Registers};
 ghost use Rattle.std.specs.Prelude.{replicate};
 
-mod double;
 mod entering;
 mod frame;
 mod frames;
 mod leaving;
 mod machine;
 
-pub use double::TableFrames;
 pub use entering::{Choice, Entered, Entering};
 pub use frame::{Basic, Callee, StackFault};
 pub use frames::Frames;

@@ -2,7 +2,5 @@ pub mod Words
 pub mod Board
 pub mod Image
 pub mod Outside
-pub mod Shelves
 pub mod Ports
 pub mod Codes
-pub mod TablePorts

@@ -66,7 +66,7 @@ pub enum ScriptEvent {
 }
 
 /// Whether a core sleeps, and what it waits for.
-#[derive(Clone, Copy, PartialEq, Eq)]
+#[derive(Clone, Copy)]
 pub enum Sleep {
     Awake,
     /// For an interrupt.

@@ -1,14 +1,25 @@
-//! Rows of text with the answers that are wanted of them, as programs of cases read them.
+//! What programs of cases and tests stand on: rows of text with the answers that are wanted of them, and doubles.
 //!
 //! A row is a line `FIELD | FIELD | .. => WANTED`. A blank line, and one that begins with `#`, is passed over. A case is
 //! data so, and no function that has to be proved. What a row asks is for the program to say, by `Answers`. What can't be
 //! read, and memory that is refused, is kept with the row until its end, so that what answers has one way through.
+//!
+//! The doubles keep the contracts that their originals have: of the outside, a shelf and a sink in memory, and ones that
+//! fail at listed calls; of memory, a port and frames onto a table. No program but those of cases has them.
 #![tactic(auto)]
 
+mod frames_double;
+mod port_double;
 mod row;
+mod shelf_double;
+mod sink_double;
 mod words;
 
+pub use frames_double::TableFrames;
+pub use port_double::{TableEntry, TablePort};
 pub use row::{Row, number_of};
+pub use shelf_double::{FailingShelf, File, MemoryShelf};
+pub use sink_double::{FailingSink, MemorySink};
 use std::alloc::{AllocError, Global};
 use std::fmt::Write;
 pub use words::{events_of, profile_in, side_word};

@@ -3,7 +3,8 @@
 use std::alloc::{AllocError, Global};
 use std::process::Abort;
 use std::test::Fail;
-use tz_model::{FailingShelf, FailingSink, File, MemoryShelf, MemorySink, Shelf, ShelfError, Sink};
+use tz_model::{Shelf, ShelfError, Sink};
+use tz_rows::{FailingShelf, FailingSink, File, MemoryShelf, MemorySink};
 
 /// Files, each by its name and bytes.
 pub fn files(alloc: Global, rows: &[(&str, &str)]) -> Result<Vec<File>, AllocError> {

@@ -4,7 +4,8 @@ use crate::tests::doubles::files;
 use std::alloc::{AllocError, Global};
 use std::test::Fail;
 use tz_cli::top;
-use tz_model::{FailingShelf, FailingSink, Shelf, Sink};
+use tz_model::{Shelf, Sink};
+use tz_rows::{FailingShelf, FailingSink};
 
 /// The worked images, and an image of two segments that touch, the second one first.
 static FILES: [(&str, &str); 3] = [

@@ -6,7 +6,8 @@ use std::alloc::Global;
 use std::test::Fail;
 use tz_board::demo_board;
 use tz_elf::read_image;
-use tz_model::{Image, MemorySink, Side};
+use tz_model::{Image, Side};
+use tz_rows::MemorySink;
 use tz_text::disassemble;
 
 /// The base of a segment.

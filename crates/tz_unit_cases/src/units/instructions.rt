@@ -9,8 +9,7 @@ use crate::units::words::set_port;
 use named::insn_of;
 use start::core_of;
 use told::{tell_step, tell_stores};
-use tz_model::TablePort;
-use tz_rows::Row;
+use tz_rows::{Row, TablePort};
 
 /// Tells what a data processing instruction does.
 pub fn data(row: &mut Row<'_>) {

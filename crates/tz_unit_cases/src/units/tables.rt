@@ -6,8 +6,8 @@ use crate::units::asked::Asked;
 use crate::units::faults::{tell_fault, tell_word};
 use crate::units::steps::{Steps, take_all};
 use crate::units::words::set_port;
-use tz_frames::{Frames, TableFrames};
-use tz_rows::Row;
+use tz_frames::Frames;
+use tz_rows::{Row, TableFrames};
 
 /// `vector NUMBER` of a side.
 fn vector(frames: &mut TableFrames, asked: &Asked, row: &mut Row<'_>) {

@@ -1,7 +1,6 @@
 //! The words and numbers of a table, with the address that fails.
 
-use tz_model::{TableEntry, TablePort};
-use tz_rows::Row;
+use tz_rows::{Row, TableEntry, TablePort};
 
 /// Adds the entry that a word `ADDRESS=NUMBER` says to a table of at most 16.
 fn push_entry(row: &mut Row<'_>, port: &mut TablePort, word: &str) {

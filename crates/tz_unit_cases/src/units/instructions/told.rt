@@ -1,9 +1,9 @@
 //! What an instruction did, as a line: how it went on, and what it changed.
 
 use crate::units::faults::tell_fault;
-use tz_model::{Fault, Outcome, TablePort};
+use tz_model::{Fault, Outcome};
 use tz_regs::{Apsr, Core, Registers, Stacks};
-use tz_rows::Row;
+use tz_rows::{Row, TablePort};
 
 /// Tells how an instruction went on.
 fn tell_going(row: &mut Row<'_>, outcome: Outcome) {
