@@ -9,8 +9,8 @@ use Rattle.tz_asm.specs.Written.{InstructionWrites, as_address, code_bytes, code
 use Rattle.tz_asm.specs.declared.values.Value.{Value}
 use Rattle.tz_asm.specs.Operands.{ExpressionValue}
 use Rattle.tz_asm.specs.Views.{views}
-use Rattle.tz_statement.specs.Coded.{Coded}
-use Rattle.tz_statement.specs.declared.error.Uncoded.{Uncoded}
+use Rattle.tz_asm.specs.Coded.{Coded}
+use Rattle.tz_asm.specs.declared.code.uncoded.Uncoded.{Uncoded}
 use Rattle.tz_table.specs.declared.units.Code.{Code}
 use Rattle.tz_table.specs.declared.units.Size.{Size}
 use Rattle.tz_table.specs.declared.units.Width.{Width}

@@ -1,3 +1,11 @@
+pub mod BitLemmas
+pub mod Coding
+pub mod Lists
+pub mod Once
+pub mod PartLemmas
+pub mod RowLemmas
+pub mod WidthLemmas
+pub mod CodeTold
 pub mod Telling
 pub mod Readings
 pub mod Labels

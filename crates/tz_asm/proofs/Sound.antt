@@ -21,8 +21,8 @@ use Rattle.tz_elf.proofs.Written.{HoldBytes}
 use Rattle.tz_model.specs.Board.{most_bytes}
 use Rattle.tz_model.specs.Image.{SegmentValue, are_addressed, bytes_in, end_of}
 use Rattle.tz_asm.specs.Statements.{StatementValue, Nothing, Org, Align, Data, Instruction}
-use Rattle.tz_statement.specs.Told.{code_told}
-use Rattle.tz_statement.specs.declared.error.Uncoded.{Uncoded}
+use Rattle.tz_asm.specs.CodeTold.{code_told}
+use Rattle.tz_asm.specs.declared.code.uncoded.Uncoded.{Uncoded}
 use Rattle.tz_table.specs.declared.units.Code.{Code}
 use Rattle.tz_table.specs.declared.units.Size.{Size}
 use Rattle.tz_table.specs.declared.units.Width.{Width}

@@ -14,7 +14,7 @@ use Rattle.tz_asm.specs.declared.layout.Layout.{Layout}
 use Rattle.tz_syntax.specs.Lines.{lines_of}
 use Rattle.tz_model.specs.Image.{SegmentValue}
 use Rattle.tz_asm.specs.Statements.{StatementValue, Nothing, Org, Align, Data, Instruction}
-use Rattle.tz_statement.proofs.Told as codes
+use Rattle.tz_asm.proofs.CodeTold as codes
 
 -- what follows an answer is told where each answer that may follow is
 after_told : {A B : Type 0} (r : Result A Refusal) (Follows : A → Result B Refusal → Type 0) (f : A → Result B Refusal) (answer : Result B Refusal)

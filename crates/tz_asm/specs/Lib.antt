@@ -1,3 +1,13 @@
+pub mod Bits
+pub mod Front
+pub mod Mnemonics
+pub mod CodedOperands
+pub mod Index
+pub mod Pieces
+pub mod Rows
+pub mod CodeViews
+pub mod Coded
+pub mod CodeTold
 pub mod Labels
 pub mod Operands
 pub mod Statements

@@ -1,7 +1,7 @@
 -- What operands of directives say.
 use Rattle.std.specs.Prelude.{ℕ, ◌==◌, Bool, true, false, not, ◌&&◌, if◌then◌else◌, List, [], ◌∷◌, Option, Some, None, option_map}
 use Rattle.std.specs.Int.{is_power_of_two}
-use Rattle.tz_statement.specs.Operands.{is_label}
+use Rattle.tz_asm.specs.CodedOperands.{is_label}
 use Rattle.tz_asm.specs.declared.source.number.Signed.{Signed}
 use Rattle.tz_syntax.specs.Tokens.{TokenValue, Word, Number, Mark}
 

@@ -7,8 +7,8 @@ use Rattle.tz_asm.specs.declared.source.directive.Directive.TheVariants as direc
 use Rattle.tz_asm.specs.declared.source.number.Signed.{Signed}
 use Rattle.tz_asm.specs.declared.source.statement.LineError.{LineError}
 use Rattle.tz_asm.specs.declared.source.statement.LineError.TheVariants.{Mnemonic, Operands}
-use Rattle.tz_statement.specs.Coded.{shaped}
-use Rattle.tz_statement.specs.Mnemonics.{width_of_word}
+use Rattle.tz_asm.specs.Coded.{shaped}
+use Rattle.tz_asm.specs.Mnemonics.{width_of_word}
 use Rattle.tz_table.specs.declared.units.Size.{Size}
 use Rattle.tz_table.specs.declared.units.Size.TheVariants.{Byte, Half, Word}
 use Rattle.tz_table.specs.declared.units.Width.{Width}

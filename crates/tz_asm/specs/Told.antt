@@ -12,7 +12,7 @@ use Rattle.tz_asm.specs.declared.layout.Layout.{Layout}
 use Rattle.tz_syntax.specs.Lines.{lines_of}
 use Rattle.tz_model.specs.Image.{SegmentValue}
 use Rattle.tz_asm.specs.Statements.{StatementValue, Nothing, Org, Align, Data, Instruction}
-use Rattle.tz_statement.specs.Told.{code_told}
+use Rattle.tz_asm.specs.CodeTold.{code_told}
 
 -- the bytes of a statement at a place
 unfoldable pub written_by : ℕ → Places → ℕ → StatementValue → Result (List ℕ) Refusal

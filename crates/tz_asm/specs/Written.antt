@@ -5,9 +5,9 @@ use Rattle.tz_asm.specs.Places.{Places}
 use Rattle.tz_asm.specs.Refusals.{Refusal, NoLabel, Range}
 use Rattle.tz_asm.specs.Values.{data_bytes, low_first}
 use Rattle.tz_asm.specs.Statements.{StatementValue, Nothing, Org, Align, Data, Instruction}
-use Rattle.tz_statement.specs.Coded.{Coded}
-use Rattle.tz_statement.specs.declared.error.Uncoded.{Uncoded}
-use Rattle.tz_statement.specs.declared.error.Uncoded.TheVariants as causes
+use Rattle.tz_asm.specs.Coded.{Coded}
+use Rattle.tz_asm.specs.declared.code.uncoded.Uncoded.{Uncoded}
+use Rattle.tz_asm.specs.declared.code.uncoded.Uncoded.TheVariants as causes
 use Rattle.tz_table.specs.declared.units.Code.{Code}
 use Rattle.tz_table.specs.declared.units.Width.{Width}
 use Rattle.tz_table.specs.declared.units.Width.TheVariants.{Narrow, Wide}

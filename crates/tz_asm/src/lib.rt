@@ -2,8 +2,8 @@
 //!
 //! It goes over the source twice. The first pass tells the place of each label, and the second puts the
 //! bytes. Both keep track of the place by the same function, so they can't disagree. What a line says is read
-//! by the module `source`. What a source gives, and which refusal comes first, is said by this crate's
-//! definitions. What a statement's code is comes from `tz_statement`.
+//! by the module `source`, and what a statement's code is comes from the module `code`. What a source gives,
+//! and which refusal comes first, is said by this crate's definitions.
 //!
 //! Beside `assemble` stand two laws, in the module `reread`: what the files that are written of an image say.
 #![tactic(auto)]
@@ -12,6 +12,7 @@ ghost use Rattle.std.specs.Prelude.{◌≡◌, ◌<◌, ◌^◌, IfErr, IfOk, Ok
 ghost use Rattle.tz_asm.specs.Errors.{IsRefusal};
 ghost use Rattle.tz_asm.specs.Told.{assembled};
 
+mod code;
 mod error;
 mod first_pass;
 mod growing;
@@ -24,6 +25,7 @@ mod source;
 mod values;
 mod written;
 
+pub use code::{Uncoded, code_of, coded_once, coded_width, has_shape, is_label, width_of};
 pub use error::AsmError;
 use first_pass::first_pass;
 pub use reread::{assembled_reads_back, image_has_its_pairs};

@@ -2,7 +2,7 @@
 //!
 //! A line is read from its tokens, exactly as the definitions say, or refused for the first cause. An
 //! instruction is only told by its mnemonic and its operands; where its operands have the shape of a text,
-//! `tz_statement` tells its code. What stands in other lines isn't known here.
+//! the module `code` tells its code. What stands in other lines isn't known here.
 
 mod directive;
 mod first;

@@ -9,13 +9,13 @@ ghost use Rattle.tz_asm.specs.Written.{InstructionWrites, Writes, as_address, co
 ghost use Rattle.tz_asm.specs.Views.{expression_view, statement_view, views};
 ghost use Rattle.tz_syntax.specs.Views.{token_view};
 
+use crate::code::{Uncoded, code_of};
 use crate::error::AsmError;
 use crate::layout::{padding, size_bytes};
 use crate::places::{Places, place_of};
 use crate::source::{Expression, Statement};
 use crate::values::{in_size, push_low_first, value_of};
 use std::alloc::AllocError;
-use tz_statement::{Uncoded, code_of};
 use tz_syntax::Token;
 use tz_table::{Code, Size, Width};
 

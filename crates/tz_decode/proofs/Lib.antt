@@ -1,4 +1,5 @@
 pub mod Zeros
+pub mod NarrowLaws
 pub mod MultipleLaws
 pub mod RegisterLaws
 pub mod ConstantLaws

@@ -10,7 +10,7 @@ ghost use Rattle.tz_table.specs.declared.Flags.TheVariants as flags;
 ghost use Rattle.tz_table.specs.declared.Insn.TheVariants as insns;
 ghost use Rattle.tz_table.specs.declared.Width.TheVariants.{Wide};
 
-use tz_narrow::fields::{field, flags, shift, undefined, wide_if};
+use crate::fields::{field, flags, shift, undefined, wide_if};
 use tz_table::limits::{can_multiply_long, plain2, plain2_same, plain3, plain4};
 use tz_table::{Decoded, ExtendOp, Flags, Insn, LongOp, MultiplyOp, ReverseOp, Width};
 

@@ -7,9 +7,7 @@ ghost use Rattle.tz_table.specs.Table.{decode_of};
 ghost use Rattle.tz_table.specs.declared.Decoded.TheVariants.{One};
 ghost use Rattle.tz_table.specs.declared.Width.TheVariants.{Wide};
 
-use tz_narrow::fields::{
-    condition_offset, far_offset, field, long_field, signed, undefined, wide_if,
-};
+use crate::fields::{condition_offset, far_offset, field, long_field, signed, undefined, wide_if};
 use tz_table::limits::can_name;
 use tz_table::{BarrierOp, Decoded, Insn, Width};
 

@@ -11,7 +11,7 @@ ghost use Rattle.tz_table.specs.declared.Flags.TheVariants as flags;
 ghost use Rattle.tz_table.specs.declared.Insn.TheVariants as insns;
 ghost use Rattle.tz_table.specs.declared.Width.TheVariants.{Wide};
 
-use tz_narrow::fields::{field, flags, undefined, wide_if};
+use crate::fields::{field, flags, undefined, wide_if};
 use tz_table::limits::{
     can_add, can_add_constant, can_clear, can_compare, can_extract, can_insert, can_saturate,
     can_set, can_set_from, plain,

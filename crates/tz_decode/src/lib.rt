@@ -14,12 +14,13 @@ ghost use Rattle.tz_table.specs.declared.Decoded.TheVariants.{One};
 mod arithmetic;
 mod branches;
 mod constants;
+mod fields;
 mod loads;
 mod multiples;
+mod narrow;
 mod registers;
 mod wide;
 
-use tz_narrow::narrow;
 pub use tz_table::Decoded;
 
 /// Whether a code that begins with this halfword has a second one: it is 0xE800 or above.
@@ -41,6 +42,6 @@ pub fn decode(first: u16, second: u16) -> Decoded
     if needs_second(first) {
         wide::wide(first, second)
     } else {
-        narrow(first, second)
+        narrow::narrow(first, second)
     }
 }

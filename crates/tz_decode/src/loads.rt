@@ -7,7 +7,7 @@ ghost use Rattle.tz_table.specs.Terms.{size_of, is_one, plus_or_minus as plus_or
 ghost use Rattle.tz_table.specs.declared.Address.TheVariants as addresses;
 ghost use Rattle.tz_table.specs.declared.Insn.TheVariants as insns;
 
-use tz_narrow::fields::{
+use crate::fields::{
     field, indexed, is_preload, is_signed_word, long_field, plus_or_minus, size, undefined, wide_if,
 };
 use tz_table::limits::{

@@ -11,7 +11,7 @@ ghost use Rattle.tz_table.specs.declared.Decoded.TheVariants.{One, Undefined};
 ghost use Rattle.tz_table.specs.declared.Insn.TheVariants as insns;
 ghost use Rattle.tz_table.specs.declared.Width.TheVariants.{Wide};
 
-use tz_narrow::fields::{field, indexed, long_field, plus_or_minus, undefined, wide_if};
+use crate::fields::{field, indexed, long_field, plus_or_minus, undefined, wide_if};
 use tz_table::limits::{
     can_branch_table, can_load_pair, can_load_pair_literal, can_move_many, can_store_exclusive,
     can_store_pair, plain_base,

@@ -11,7 +11,7 @@ ghost use Rattle.tz_table.specs.declared.Flags.TheVariants as flags;
 ghost use Rattle.tz_table.specs.declared.Insn.TheVariants as insns;
 ghost use Rattle.tz_table.specs.declared.Width.TheVariants.{Wide};
 
-use tz_narrow::fields::{field, flags, imm_amount, imm_shift, undefined, wide_if};
+use crate::fields::{field, flags, imm_amount, imm_shift, undefined, wide_if};
 use tz_table::limits::{can_add_register, can_move, plain_base, plain2, plain3};
 use tz_table::{DataOp, Decoded, Flags, Insn, Width, imm5};
 

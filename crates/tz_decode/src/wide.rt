@@ -7,10 +7,10 @@ ghost use Rattle.tz_table.specs.Table.{decode_of};
 use crate::arithmetic::arithmetic;
 use crate::branches::branches;
 use crate::constants::{constants, plain_constants};
+use crate::fields::{field, long_field};
 use crate::loads::transfers;
 use crate::multiples::multiples;
 use crate::registers::registers;
-use tz_narrow::fields::{field, long_field};
 use tz_table::{Decoded, Insn, Width};
 
 /// The codes of 32 bits.

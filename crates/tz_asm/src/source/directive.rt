@@ -5,10 +5,10 @@ ghost use Rattle.tz_asm.specs.Operands.{alignment, expression_of, labelled_value
 ghost use Rattle.tz_asm.specs.Statements.{directed, directive_of};
 ghost use Rattle.tz_asm.specs.Views.{expression_view, statement_view, views};
 
+use crate::code::is_label;
 use crate::source::first::split;
 use crate::source::number::{Signed, number_of, offset_of};
 use crate::source::statement::{Expression, Statement};
-use tz_statement::is_label;
 use tz_syntax::Token;
 use tz_table::Size;
 

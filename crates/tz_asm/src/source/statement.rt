@@ -4,10 +4,10 @@ ghost use Rattle.std.specs.Prelude.{◌≡◌, Err, IfErr, IfOk, Ok};
 ghost use Rattle.tz_asm.specs.Statements.{instructed, statement_of, worded};
 ghost use Rattle.tz_asm.specs.Views.{statement_view, views};
 
+use crate::code::{has_shape, width_of};
 use crate::source::directive::{directed, directive_of};
 use crate::source::first::split;
 use crate::source::number::Signed;
-use tz_statement::{has_shape, width_of};
 use tz_syntax::Token;
 use tz_table::{Size, Width};
 

@@ -2,7 +2,7 @@ use Rattle.std.proofs.Common.{◌≡◌, ◌∙◌, ◌++◌, List, Option, Ok, 
 use Rattle.tz_asm.specs.Places.{places_in}
 use Rattle.tz_asm.specs.Written.{InstructionWrites, code_bytes, uncoded}
 use Rattle.tz_asm.specs.Views.{views}
-use Rattle.tz_statement.specs.Coded.{Coded}
+use Rattle.tz_asm.specs.Coded.{Coded}
 use Rattle.tz_asm.proofs.Bytes.{coded_writes}
 use Rattle.tz_asm.proofs.Telling.{Tells-along}
 use Rattle.tz_asm.proofs.written.write_instruction.Goals as goal

@@ -1,0 +1,26 @@
+-- Where the rows of a mnemonic are looked up: the rows are parted by the sum of the letters of their mnemonics.
+use Rattle.std.specs.Prelude.{ℕ, ◌+◌, ◌%◌, if◌then◌else◌, List, [], ◌∷◌, codes, filter, filter_map, is_some, slice_get, unwrap_or}
+use Rattle.std.specs.Char.{to_ascii_lowercase}
+use Rattle.tz_syntax.specs.Rows.{TextRow}
+use Rattle.tz_syntax.specs.Text.{texts}
+use Rattle.tz_asm.specs.Mnemonics.{behind, is_named}
+
+abbrev pub letter_sum : List ℕ → ℕ
+letter_sum [] = 0
+letter_sum (b ∷ bytes) = to_ascii_lowercase b + letter_sum bytes
+
+-- the part in which the rows of a word are: that of its sum, but one part for all that begin with `it`
+abbrev pub part_of : List ℕ → ℕ
+part_of word = if is_some (behind (codes "it") word) then 64 else letter_sum word % 64
+
+-- a part by its place; past the end it is empty
+abbrev pub part_in : List (List ℕ) → ℕ → List ℕ
+part_in parts place = unwrap_or (slice_get parts place) []
+
+-- the rows with these numbers
+abbrev pub rows_at : List ℕ → List TextRow
+rows_at places = filter_map (λ k. slice_get texts k) places
+
+-- those of them that have the mnemonic
+abbrev pub named_at : List ℕ → List ℕ → List TextRow
+named_at word places = filter (is_named word) (rows_at places)

@@ -1,0 +1,73 @@
+//! What stands first among tokens, with the tokens behind it; none where something else does.
+
+ghost use Rattle.std.specs.Prelude.{◌≡◌, option_map};
+ghost use Rattle.tz_asm.specs.Front.{constant_at, mark_at, number_at, signed_at, views, word_at};
+
+use tz_syntax::Token;
+
+/// A mark.
+pub fn mark_at<'t, 's>(tokens: &'t [Token<'s>], mark: u8) -> Option<&'t [Token<'s>]>
+    ensures { option_map (λ rest. views rest.now) result ≡ mark_at mark (views tokens.now) }
+{
+    match tokens.split_first() {
+        None => None,
+        Some((first, rest)) => match *first {
+            Token::Mark(byte) => if byte == mark { Some(rest) } else { None },
+            _ => None,
+        },
+    }
+}
+
+/// A word.
+pub fn word_at<'t, 's>(tokens: &'t [Token<'s>]) -> Option<(&'s [u8], &'t [Token<'s>])>
+    ensures { option_map (λ read. (read.0.now, views read.1.now)) result ≡ word_at (views tokens.now) }
+{
+    match tokens.split_first() {
+        None => None,
+        Some((first, rest)) => match *first {
+            Token::Word(word) => Some((word, rest)),
+            _ => None,
+        },
+    }
+}
+
+/// A number without a sign.
+pub fn number_at<'t, 's>(tokens: &'t [Token<'s>]) -> Option<(u32, &'t [Token<'s>])>
+    ensures { option_map (λ read. (read.0, views read.1.now)) result ≡ number_at (views tokens.now) }
+{
+    match tokens.split_first() {
+        None => None,
+        Some((first, rest)) => match *first {
+            Token::Number(number) => Some((number, rest)),
+            _ => None,
+        },
+    }
+}
+
+/// A number with its sign: whether a minus stands before it, and the number behind that.
+#[tactic(auto, unfolding(crate::specs::Front::signed_at))]
+pub fn signed_at<'t, 's>(tokens: &'t [Token<'s>]) -> Option<(bool, u32, &'t [Token<'s>])>
+    ensures { option_map (λ read. (read.0, read.1, views read.2.now)) result ≡ signed_at (views tokens.now) }
+{
+    match mark_at(tokens, b'-') {
+        None => match number_at(tokens) {
+            None => None,
+            Some((number, rest)) => Some((false, number, rest)),
+        },
+        Some(behind) => match number_at(behind) {
+            None => None,
+            Some((number, rest)) => Some((true, number, rest)),
+        },
+    }
+}
+
+/// The same behind `#`.
+#[tactic(auto, unfolding(crate::specs::Front::constant_at))]
+pub fn constant_at<'t, 's>(tokens: &'t [Token<'s>]) -> Option<(bool, u32, &'t [Token<'s>])>
+    ensures { option_map (λ read. (read.0, read.1, views read.2.now)) result ≡ constant_at (views tokens.now) }
+{
+    match mark_at(tokens, b'#') {
+        None => None,
+        Some(behind) => signed_at(behind),
+    }
+}

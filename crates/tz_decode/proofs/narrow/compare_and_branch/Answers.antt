@@ -1,0 +1,7 @@
+use Rattle.std.proofs.Common.{arith}
+use Rattle.tz_decode.proofs.NarrowLaws.{compare_and_branch}
+use Rattle.tz_decode.proofs.narrow.compare_and_branch.Goals as goal
+
+-- The call that closes each goal, by name: what is tried before it finds nothing, after long.
+pub returns : goal.returns
+returns c = grind (arith, compare_and_branch)

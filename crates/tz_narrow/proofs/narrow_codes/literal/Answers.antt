@@ -1,7 +1,0 @@
-use Rattle.std.proofs.Common.{arith}
-use Rattle.tz_narrow.proofs.NarrowLaws.{literal}
-use Rattle.tz_narrow.proofs.narrow_codes.literal.Goals as goal
-
--- The call that closes each goal, by name: what is tried before it finds nothing, after long.
-pub returns : goal.returns
-returns c = grind (arith, literal)

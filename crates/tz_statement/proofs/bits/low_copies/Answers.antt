@@ -1,9 +1,0 @@
-use Rattle.std.proofs.Common.{sym}
-use Rattle.tz_statement.proofs.BitLemmas.{low_first, low_none}
-use Rattle.tz_statement.proofs.bits.low_copies.Goals as goal
-
-pub returns-then-constant-byte-clause-bits : goal.returns-then-constant-byte-clause-bits
-returns-then-constant-byte-clause-bits c = sym (low_first c.args.constant c.requires c.if-constant-byte.true)
-
-pub returns-else-constant-byte-clause-bits : goal.returns-else-constant-byte-clause-bits
-returns-else-constant-byte-clause-bits c = sym (low_none c.args.constant c.if-constant-byte.false)

@@ -1,9 +1,0 @@
-use Rattle.std.proofs.Common.{◌≡◌, length}
-use Rattle.tz_statement.specs.Mnemonics.{behind}
-use Rattle.tz_statement.proofs.mnemonics.behind.Given as goal
-
-abbrev pub invariant-loop-letter : goal.invariant-loop-letter
-invariant-loop-letter l = behind l.letters l.rest ≡ behind l.name l.word
-
-abbrev pub decreases-loop-letter : goal.decreases-loop-letter
-decreases-loop-letter l = length l.letters

@@ -1,7 +1,0 @@
-use Rattle.std.proofs.Common.{◌≡◌, drop}
-use Rattle.tz_statement.specs.Mnemonics.{lettered}
-use Rattle.tz_statement.proofs.mnemonics.lettered.Given as goal
-use Rattle.tz_syntax.specs.Rows.{somes}
-
-abbrev pub invariant-loop-piece : goal.invariant-loop-piece
-invariant-loop-piece l = lettered (somes (drop l.piece-index l.pieces)) ≡ lettered (somes l.pieces)
