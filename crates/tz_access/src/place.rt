@@ -1,7 +1,7 @@
 //! Where accesses go.
 
 /// Where the bytes of an access are.
-#[derive(Clone, Copy, Debug, PartialEq, Eq)]
+#[derive(Clone, Copy)]
 pub enum Place {
     /// Regions of the board.
     Memory,

@@ -6,8 +6,8 @@ ghost use Rattle.tz_bits.specs.Values.{values_of};
 ghost use Rattle.tz_table.specs.Forms.{form_of};
 
 use crate::kinds::{
-    address_number, address_third, barrier_number, data_number, extend_number, field_number,
-    flags_number, long_number, multiply_number, reverse_number, shift_number, size_number,
+    address_number, address_third, barrier_form, data_number, extend_form, field_form,
+    flags_number, long_form, multiply_form, reverse_form, shift_number, size_number,
 };
 use tz_table::Insn;
 
@@ -16,18 +16,18 @@ pub fn form_number(insn: &Insn) -> i32
     ensures { result ≡ pos (form_of insn.now) }
 {
     match *insn {
-        Insn::DataImm { op, .. } => data_number(op),
-        Insn::DataReg { op, .. } => 16 + data_number(op),
+        Insn::DataImm { op, .. } => i32::from(data_number(op)),
+        Insn::DataReg { op, .. } => 16 + i32::from(data_number(op)),
         Insn::ShiftReg { .. } => 32,
         Insn::AddWide { .. } => 33,
         Insn::Adr { .. } => 34,
         Insn::MovWide { .. } => 35,
         Insn::Saturate { .. } => 36,
-        Insn::BitField { op, .. } => 37 + field_number(op),
-        Insn::Extend { op, .. } => 41 + extend_number(op),
-        Insn::Reverse { op, .. } => 45 + reverse_number(op),
-        Insn::Multiply { op, .. } => 50 + multiply_number(op),
-        Insn::MultiplyLong { op, .. } => 53 + long_number(op),
+        Insn::BitField { op, .. } => field_form(op),
+        Insn::Extend { op, .. } => extend_form(op),
+        Insn::Reverse { op, .. } => reverse_form(op),
+        Insn::Multiply { op, .. } => multiply_form(op),
+        Insn::MultiplyLong { op, .. } => long_form(op),
         Insn::Divide { .. } => 57,
         Insn::Load { .. } => 58,
         Insn::Store { .. } => 59,
@@ -59,7 +59,7 @@ fn later_form_number(insn: &Insn) -> i32
         Insn::CallExchange { .. } => 75,
         Insn::IfThen { .. } => 76,
         Insn::Hint { .. } => 77,
-        Insn::Barrier { op, .. } => 78 + barrier_number(op),
+        Insn::Barrier { op, .. } => barrier_form(op),
         Insn::ChangeState { .. } => 82,
         Insn::ReadSpecial { .. } => 83,
         Insn::WriteSpecial { .. } => 84,

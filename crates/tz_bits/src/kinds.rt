@@ -1,7 +1,8 @@
 //! The numbers of the named kinds in an instruction: operations, flags, shifts, sizes and addresses.
-//! A kind's values count from 0 in the order of its declaration, but for addresses.
+//! A kind's values count from 0 in the order of its declaration, but for addresses, and for operations that make
+//! forms: these count from the first of their forms.
 
-ghost use Rattle.std.specs.Prelude.{◌≡◌, pos};
+ghost use Rattle.std.specs.Prelude.{◌≡◌, ◌+◌, pos};
 ghost use Rattle.tz_table.specs.Forms.{data_number as data_number_of, field_number as field_number_of, extend_number as extend_number_of, reverse_number as reverse_number_of, multiply_number as multiply_number_of, long_number as long_number_of, barrier_number as barrier_number_of};
 ghost use Rattle.tz_bits.specs.Values.{address_first as address_first_of, address_number as address_number_of, address_second as address_second_of, address_third as address_third_of, flags_number as flags_number_of, shift_number as shift_number_of, size_number as size_number_of};
 
@@ -11,8 +12,8 @@ use tz_table::{
 };
 
 /// The number of a data operation.
-pub fn data_number(op: DataOp) -> i32
-    ensures { result ≡ pos (data_number_of op) }
+pub fn data_number(op: DataOp) -> u8
+    ensures { result ≡ data_number_of op }
 {
     match op {
         DataOp::And => 0,
@@ -34,75 +35,75 @@ pub fn data_number(op: DataOp) -> i32
     }
 }
 
-/// The number of a bit field operation.
-pub fn field_number(op: FieldOp) -> i32
-    ensures { result ≡ pos (field_number_of op) }
+/// The number of the form of a bit field operation.
+pub fn field_form(op: FieldOp) -> i32
+    ensures { result ≡ pos (37 + field_number_of op) }
 {
     match op {
-        FieldOp::Sbfx => 0,
-        FieldOp::Ubfx => 1,
-        FieldOp::Bfi => 2,
-        FieldOp::Bfc => 3,
+        FieldOp::Sbfx => 37,
+        FieldOp::Ubfx => 38,
+        FieldOp::Bfi => 39,
+        FieldOp::Bfc => 40,
     }
 }
 
-/// The number of an extension.
-pub fn extend_number(op: ExtendOp) -> i32
-    ensures { result ≡ pos (extend_number_of op) }
+/// The number of the form of an extension.
+pub fn extend_form(op: ExtendOp) -> i32
+    ensures { result ≡ pos (41 + extend_number_of op) }
 {
     match op {
-        ExtendOp::Sxth => 0,
-        ExtendOp::Sxtb => 1,
-        ExtendOp::Uxth => 2,
-        ExtendOp::Uxtb => 3,
+        ExtendOp::Sxth => 41,
+        ExtendOp::Sxtb => 42,
+        ExtendOp::Uxth => 43,
+        ExtendOp::Uxtb => 44,
     }
 }
 
-/// The number of a reversal.
-pub fn reverse_number(op: ReverseOp) -> i32
-    ensures { result ≡ pos (reverse_number_of op) }
+/// The number of the form of a reversal.
+pub fn reverse_form(op: ReverseOp) -> i32
+    ensures { result ≡ pos (45 + reverse_number_of op) }
 {
     match op {
-        ReverseOp::Rev => 0,
-        ReverseOp::Rev16 => 1,
-        ReverseOp::Rbit => 2,
-        ReverseOp::Revsh => 3,
-        ReverseOp::Clz => 4,
+        ReverseOp::Rev => 45,
+        ReverseOp::Rev16 => 46,
+        ReverseOp::Rbit => 47,
+        ReverseOp::Revsh => 48,
+        ReverseOp::Clz => 49,
     }
 }
 
-/// The number of a multiplication.
-pub fn multiply_number(op: MultiplyOp) -> i32
-    ensures { result ≡ pos (multiply_number_of op) }
+/// The number of the form of a multiplication.
+pub fn multiply_form(op: MultiplyOp) -> i32
+    ensures { result ≡ pos (50 + multiply_number_of op) }
 {
     match op {
-        MultiplyOp::Mul => 0,
-        MultiplyOp::Mla => 1,
-        MultiplyOp::Mls => 2,
+        MultiplyOp::Mul => 50,
+        MultiplyOp::Mla => 51,
+        MultiplyOp::Mls => 52,
     }
 }
 
-/// The number of a multiplication of 64 bits.
-pub fn long_number(op: LongOp) -> i32
-    ensures { result ≡ pos (long_number_of op) }
+/// The number of the form of a multiplication of 64 bits.
+pub fn long_form(op: LongOp) -> i32
+    ensures { result ≡ pos (53 + long_number_of op) }
 {
     match op {
-        LongOp::Smull => 0,
-        LongOp::Umull => 1,
-        LongOp::Smlal => 2,
-        LongOp::Umlal => 3,
+        LongOp::Smull => 53,
+        LongOp::Umull => 54,
+        LongOp::Smlal => 55,
+        LongOp::Umlal => 56,
     }
 }
 
-/// The number of a barrier.
-pub fn barrier_number(op: BarrierOp) -> i32
-    ensures { result ≡ pos (barrier_number_of op) }
+/// The number of the form of a barrier.
+pub fn barrier_form(op: BarrierOp) -> i32
+    ensures { result ≡ pos (78 + barrier_number_of op) }
 {
     match op {
-        BarrierOp::Clrex => 0,
-        BarrierOp::Dsb => 1,
-        BarrierOp::Dmb => 2,
-        BarrierOp::Isb => 3,
+        BarrierOp::Clrex => 78,
+        BarrierOp::Dsb => 79,
+        BarrierOp::Dmb => 80,
+        BarrierOp::Isb => 81,
     }
 }
 

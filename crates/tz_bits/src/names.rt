@@ -178,12 +178,13 @@ fn memory_name(insn: &Insn, place: usize) -> Option<FieldName>
     ensures { result ≡ slice_get (names_of insn.now) place }
 {
     match *insn {
-        Insn::Load { address, .. } => access_name(address, place),
-        Insn::Store { address, .. } => access_name(address, place),
-        Insn::LoadPair { address, .. } => pair_name(address, place),
-        Insn::StorePair { address, .. } => pair_name(address, place),
-        Insn::LoadMany { .. } => name_at(&[FieldName::Rn, FieldName::List], place),
-        Insn::StoreMany { .. } => name_at(&[FieldName::Rn, FieldName::List], place),
+        Insn::Load { address, .. } | Insn::Store { address, .. } => access_name(address, place),
+        Insn::LoadPair { address, .. } | Insn::StorePair { address, .. } => {
+            pair_name(address, place)
+        }
+        Insn::LoadMany { .. } | Insn::StoreMany { .. } => {
+            name_at(&[FieldName::Rn, FieldName::List], place)
+        }
         Insn::Preload => None,
         Insn::LoadExclusive { .. } => name_at(
             &[FieldName::Rt, FieldName::Rn, FieldName::Offset],
@@ -198,8 +199,9 @@ fn memory_name(insn: &Insn, place: usize) -> Option<FieldName>
             ],
             place,
         ),
-        Insn::LoadAcquire { .. } => name_at(&[FieldName::Rt, FieldName::Rn], place),
-        Insn::StoreRelease { .. } => name_at(&[FieldName::Rt, FieldName::Rn], place),
+        Insn::LoadAcquire { .. } | Insn::StoreRelease { .. } => {
+            name_at(&[FieldName::Rt, FieldName::Rn], place)
+        }
         _ => branch_name(insn, place),
     }
 }
@@ -210,25 +212,23 @@ fn branch_name(insn: &Insn, place: usize) -> Option<FieldName>
     ensures { result ≡ slice_get (names_of insn.now) place }
 {
     match *insn {
-        Insn::Branch { .. } => name_at(&[FieldName::Offset], place),
+        Insn::Branch { .. } | Insn::BranchLink { .. } => name_at(&[FieldName::Offset], place),
         Insn::BranchIf { .. } => name_at(&[FieldName::Cond, FieldName::Offset], place),
-        Insn::BranchLink { .. } => name_at(&[FieldName::Offset], place),
         Insn::BranchZero { .. } => name_at(&[FieldName::Rn, FieldName::Offset], place),
         Insn::TableBranch { .. } => name_at(&[FieldName::Rn, FieldName::Rm], place),
-        Insn::BranchExchange { .. } => name_at(&[FieldName::Rm], place),
-        Insn::CallExchange { .. } => name_at(&[FieldName::Rm], place),
+        Insn::BranchExchange { .. } | Insn::CallExchange { .. } => {
+            name_at(&[FieldName::Rm], place)
+        }
         Insn::IfThen { .. } => name_at(&[FieldName::Cond, FieldName::Mask], place),
         Insn::Hint { .. } => name_at(&[FieldName::Op], place),
         Insn::Barrier { .. } => name_at(&[FieldName::Option], place),
-        Insn::ChangeState { .. } => None,
         Insn::ReadSpecial { .. } => name_at(&[FieldName::Rd, FieldName::Sysm], place),
         Insn::WriteSpecial { .. } => name_at(&[FieldName::Rn, FieldName::Sysm], place),
         Insn::TestTarget { .. } => name_at(&[FieldName::Rd, FieldName::Rn], place),
-        Insn::SecureGateway => None,
         Insn::LazyState { .. } => name_at(&[FieldName::Rn], place),
-        Insn::Supervisor { .. } => name_at(&[FieldName::Imm], place),
-        Insn::Breakpoint { .. } => name_at(&[FieldName::Imm], place),
-        Insn::Undefined { .. } => name_at(&[FieldName::Imm], place),
+        Insn::Supervisor { .. } | Insn::Breakpoint { .. } | Insn::Undefined { .. } => {
+            name_at(&[FieldName::Imm], place)
+        }
         _ => None,
     }
 }

@@ -27,7 +27,7 @@ pub fn numbers(insn: &Insn) -> [i32; 4]
             amount,
             ..
         } => bytes(rd, rn, rm, amount),
-        Insn::ShiftReg { rd, rn, rm, .. } => [i32::from(rd), i32::from(rn), i32::from(rm), 0],
+        Insn::ShiftReg { rd, rn, rm, .. } => bytes(rd, rn, rm, 0),
         Insn::AddWide { rd, rn, imm, .. } => [i32::from(rd), i32::from(rn), i32::from(imm), 0],
         Insn::Adr { rd, offset } => [i32::from(rd), offset, 0, 0],
         Insn::MovWide { rd, imm, .. } => [i32::from(rd), i32::from(imm), 0, 0],
@@ -45,11 +45,11 @@ pub fn numbers(insn: &Insn) -> [i32; 4]
             width,
             ..
         } => bytes(rd, rn, low, width),
-        Insn::Extend { rd, rm, rotate, .. } => [i32::from(rd), i32::from(rm), i32::from(rotate), 0],
-        Insn::Reverse { rd, rm, .. } => [i32::from(rd), i32::from(rm), 0, 0],
+        Insn::Extend { rd, rm, rotate, .. } => bytes(rd, rm, rotate, 0),
+        Insn::Reverse { rd, rm, .. } => bytes(rd, rm, 0, 0),
         Insn::Multiply { rd, rn, rm, ra, .. } => bytes(rd, rn, rm, ra),
         Insn::MultiplyLong { lo, hi, rn, rm, .. } => bytes(lo, hi, rn, rm),
-        Insn::Divide { rd, rn, rm, .. } => [i32::from(rd), i32::from(rn), i32::from(rm), 0],
+        Insn::Divide { rd, rn, rm, .. } => bytes(rd, rn, rm, 0),
         _ => memory_numbers(insn),
     }
 }
@@ -74,7 +74,7 @@ fn memory_numbers(insn: &Insn) -> [i32; 4]
         ],
         Insn::LoadMany { rn, list, .. } => [i32::from(rn), i32::from(list), 0, 0],
         Insn::StoreMany { rn, list, .. } => [i32::from(rn), i32::from(list), 0, 0],
-        Insn::Preload => [0, 0, 0, 0],
+        Insn::Preload => [0; 4],
         Insn::LoadExclusive { rt, rn, offset, .. } => [i32::from(rt), i32::from(rn), offset, 0],
         Insn::StoreExclusive {
             rd,
@@ -83,8 +83,8 @@ fn memory_numbers(insn: &Insn) -> [i32; 4]
             offset,
             ..
         } => [i32::from(rd), i32::from(rt), i32::from(rn), offset],
-        Insn::LoadAcquire { rt, rn, .. } => [i32::from(rt), i32::from(rn), 0, 0],
-        Insn::StoreRelease { rt, rn, .. } => [i32::from(rt), i32::from(rn), 0, 0],
+        Insn::LoadAcquire { rt, rn, .. } => bytes(rt, rn, 0, 0),
+        Insn::StoreRelease { rt, rn, .. } => bytes(rt, rn, 0, 0),
         _ => later_numbers(insn),
     }
 }
@@ -99,17 +99,15 @@ fn later_numbers(insn: &Insn) -> [i32; 4]
         Insn::BranchIf { cond, offset } => [i32::from(cond), offset, 0, 0],
         Insn::BranchLink { offset } => [offset, 0, 0, 0],
         Insn::BranchZero { rn, offset, .. } => [i32::from(rn), offset, 0, 0],
-        Insn::TableBranch { rn, rm, .. } => [i32::from(rn), i32::from(rm), 0, 0],
+        Insn::TableBranch { rn, rm, .. } => bytes(rn, rm, 0, 0),
         Insn::BranchExchange { rm, .. } => [i32::from(rm), 0, 0, 0],
         Insn::CallExchange { rm, .. } => [i32::from(rm), 0, 0, 0],
-        Insn::IfThen { cond, mask } => [i32::from(cond), i32::from(mask), 0, 0],
+        Insn::IfThen { cond, mask } => bytes(cond, mask, 0, 0),
         Insn::Hint { op } => [i32::from(op), 0, 0, 0],
         Insn::Barrier { option, .. } => [i32::from(option), 0, 0, 0],
-        Insn::ChangeState { .. } => [0, 0, 0, 0],
-        Insn::ReadSpecial { rd, sysm } => [i32::from(rd), i32::from(sysm), 0, 0],
-        Insn::WriteSpecial { rn, sysm } => [i32::from(rn), i32::from(sysm), 0, 0],
-        Insn::TestTarget { rd, rn, .. } => [i32::from(rd), i32::from(rn), 0, 0],
-        Insn::SecureGateway => [0, 0, 0, 0],
+        Insn::ReadSpecial { rd, sysm } => bytes(rd, sysm, 0, 0),
+        Insn::WriteSpecial { rn, sysm } => bytes(rn, sysm, 0, 0),
+        Insn::TestTarget { rd, rn, .. } => bytes(rd, rn, 0, 0),
         Insn::LazyState { rn, .. } => [i32::from(rn), 0, 0, 0],
         Insn::Supervisor { imm } => [i32::from(imm), 0, 0, 0],
         Insn::Breakpoint { imm } => [i32::from(imm), 0, 0, 0],
