@@ -4,7 +4,8 @@ ghost use Rattle.std.specs.Prelude.{◌≡◌};
 ghost use Rattle.arrayvec.specs.ArrayVec.{array_vec_len};
 ghost use Rattle.tz_sem.specs.Local.{local_of, with_local, put};
 ghost use Rattle.tz_sem.specs.LoadStore.{offset_at};
-ghost use Rattle.tz_sem.specs.Exec.{marked, loads_stores, stores_exclusive, exclusivity, exclusively};
+ghost use Rattle.tz_sem.specs.declared.family.Family.TheVariants.{LoadStore};
+ghost use Rattle.tz_sem.specs.Exec.{marked, loads_stores, stores_exclusive, executed_by};
 
 use crate::changes::Stores;
 use crate::port::CorePort;
@@ -99,7 +100,7 @@ impl Machine {
         stores: &mut Stores,
     ) -> Result<Outcome, Fault>
         requires { array_vec_len stores.old ≡ 0 }
-        ensures { exclusively (exclusivity insn.now (local_of self.old.core)) self.old insn.now ≡ record { state = self.new; stores = stores.new.items; outcome = result } }
+        ensures { executed_by LoadStore self.old insn.now ≡ record { state = self.new; stores = stores.new.items; outcome = result } }
     {
         match *insn {
             Insn::LoadExclusive {

@@ -10,7 +10,7 @@ use tz_model::{Fault, Insn, Outcome};
 use tz_prio::execution_priority;
 
 impl Machine {
-    ghost use Rattle.tz_sem.specs.declared.family.Family.TheVariants.{Alu, LoadStore, Branch, System};
+    ghost use Rattle.tz_sem.specs.declared.family.Family.TheVariants.{Alu, Branch, System};
     ghost use Rattle.tz_sem.specs.Local.{local_of};
     ghost use Rattle.tz_sem.specs.Branch.{plan_branch};
     ghost use Rattle.tz_sem.specs.Exec.{executed_by, executed};
@@ -20,14 +20,6 @@ impl Machine {
         ensures { executed_by Alu self.old insn.now ≡ record { state = self.new; stores = []; outcome = result } }
     {
         tz_alu::execute(insn, &mut self.core)
-    }
-
-    /// Loads and stores.
-    fn data_access(&mut self, insn: &Insn, stores: &mut Stores) -> Result<Outcome, Fault>
-        requires { array_vec_len stores.old ≡ 0 }
-        ensures { executed_by LoadStore self.old insn.now ≡ record { state = self.new; stores = stores.new.items; outcome = result } }
-    {
-        self.run_load_store(insn, stores)
     }
 
     /// Branches, and IT, but for table branches.
@@ -115,7 +107,7 @@ impl Machine {
             | Insn::LoadExclusive { .. }
             | Insn::StoreExclusive { .. }
             | Insn::LoadAcquire { .. }
-            | Insn::StoreRelease { .. } => self.data_access(insn, stores),
+            | Insn::StoreRelease { .. } => self.run_load_store(insn, stores),
         }
     }
 }

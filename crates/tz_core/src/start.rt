@@ -6,7 +6,9 @@ ghost use Rattle.tz_model.specs.Words.{wrap};
 ghost use Rattle.tz_regs.specs.Memory.{every, word_at};
 ghost use Rattle.tz_regs.specs.Access.{is_mapped};
 ghost use Rattle.tz_regs.specs.State.{with_memory};
-ghost use Rattle.tz_sem.specs.Boot.{with_segments, boot};
+ghost use Rattle.tz_regs.specs.Slots.{reset_exceptions};
+ghost use Rattle.tz_regs.specs.UnitRegisters.{reset_bus};
+ghost use Rattle.tz_sem.specs.Boot.{with_segments, start_from, boot};
 
 use crate::running::Machine;
 use std::alloc::{AllocError, Global};
@@ -38,6 +40,18 @@ fn vectors(bus: &Bus, vtor: u32) -> Option<(u32, u32)>
     }
 }
 
+/// The core that the machine starts with, by the vector table in memory: locked where that isn't there.
+fn start_core(bus: &Bus) -> Core
+    ensures { start_from bus.now.board bus.now.memory ≡ record { core = result; exceptions = reset_exceptions bus.now.board.interrupts; bus = reset_bus bus.now.board bus.now.memory } }
+{
+    let board = bus.board();
+    let (sp, start, locked) = match vectors(bus, board.secure_vtor) {
+        Some((sp, start)) => (sp, start, false),
+        None => (0, 0, true),
+    };
+    Core::reset(board.secure_vtor, board.nonsecure_vtor, sp, start, locked)
+}
+
 impl Machine {
     /// The machine of a board that starts with a Secure and a Non-secure image (DDI0553, `TakeReset`).
     /// Bytes of the images outside the board's regions are left out. Fails for want of memory alone.
@@ -50,18 +64,13 @@ impl Machine {
     ) -> Result<Machine, AllocError>
         ensures { IfOk result (λ m. m ≡ boot board.now secure.now nonsecure.now) }
     {
+        let exceptions = Exceptions::new(alloc, board.interrupts)?;
         let mut bus = Bus::new(alloc, board)?;
         put_segments(&mut bus, &secure.segments);
         put_segments(&mut bus, &nonsecure.segments);
-        let vtor = board.secure_vtor;
-        let (sp, start, locked) = match vectors(&bus, vtor) {
-            Some((sp, start)) => (sp, start, false),
-            None => (0, 0, true),
-        };
-        let exceptions = Exceptions::new(alloc, board.interrupts)?;
         Ok(Machine {
+            core: start_core(&bus),
             exceptions,
-            core: Core::reset(vtor, board.nonsecure_vtor, sp, start, locked),
             bus,
         })
     }

@@ -99,8 +99,8 @@ impl Machine {
             back,
             profile,
         ) {
-            Entered::Taken { touched, .. } => self.end_taken(course.touched || touched),
-            Entered::Lockup { touched } => self.lock(course.touched || touched),
+            Entered::Taken { touched, .. } => self.end_taken(course.touched | touched),
+            Entered::Lockup { touched } => self.lock(course.touched | touched),
         }
     }
 
@@ -145,9 +145,9 @@ impl Machine {
             value,
             profile,
         ) {
-            Left::Resumed { touched } => self.end_resumed(course.touched || touched, code),
-            Left::Chained { touched, .. } => self.end_taken(course.touched || touched),
-            Left::Lockup { touched } => self.lock(course.touched || touched),
+            Left::Resumed { touched } => self.end_resumed(course.touched | touched, code),
+            Left::Chained { touched, .. } => self.end_taken(course.touched | touched),
+            Left::Lockup { touched } => self.lock(course.touched | touched),
         }
     }
 }

@@ -23,13 +23,6 @@ fn wakes_counted<L: Ledger>(blank: Blank, core: &Core, exceptions: &Exceptions) 
     wakes(core, exceptions, &mut looks)
 }
 
-/// Whether an exception ends a sleep.
-fn is_woken(core: &Core, exceptions: &Exceptions) -> bool
-    ensures { result ≡ told.wakes exceptions.now core.now.masks }
-{
-    wakes_counted::<Brand>(Blank::new(1), core, exceptions)
-}
-
 impl Machine {
     ghost use Rattle.tz_model.specs.declared.report.Sleep.TheVariants.{Awake};
     ghost use Rattle.tz_regs.specs.State.{with_run};
@@ -47,7 +40,7 @@ impl Machine {
     pub(crate) fn is_woken(&self) -> bool
         ensures { result ≡ is_woken self.now }
     {
-        is_woken(&self.core, &self.exceptions)
+        wakes_counted::<Brand>(Blank::new(1), &self.core, &self.exceptions)
     }
 
     /// Ends a sleep.

@@ -18,6 +18,9 @@ use tz_nvic::Exceptions;
 use tz_regs::Core;
 use tz_stack::push_additional;
 
+/// The choices that an entry makes at most: one frame can fault, and one vector that isn't NMI's or HardFault's.
+pub(crate) const CHOICES: u8 = 4;
+
 /// The core locks.
 pub(crate) fn lock(core: &mut Core, entry: &Entering) -> Entered
     ensures core { core.new ≡ with_lock core.old }
@@ -78,16 +81,14 @@ fn take_stacked<P: Frames>(
     let privileged = callee_privileged(core, entry);
     entry.skip = true;
     entry.fell = true;
-    match push_additional(core, port, process, privileged) {
-        Ok(()) => take_vector(core, exceptions, port, entry, slot, profile),
-        Err(fault) => {
-            if entry.faulted {
-                return take_vector(core, exceptions, port, entry, slot, profile);
-            }
+    if let Err(fault) = push_additional(core, port, process, privileged) {
+        if !entry.faulted {
             entry.faulted = true;
-            raised_choice(raise_frame_fault(core, exceptions, true, Side::Secure, fault))
+            let locks = raise_frame_fault(core, exceptions, true, Side::Secure, fault);
+            return raised_choice(locks);
         }
     }
+    take_vector(core, exceptions, port, entry, slot, profile)
 }
 
 /// Takes an exception, with the additional frame where it is due. The slot exists.
@@ -136,7 +137,7 @@ fn choose<P: Frames>(
 
 /// Makes at most so many choices, and locks the core after them.
 #[tactic(auto, using(crate::proofs::Tries::tries_laws))]
-fn choose_again<P: Frames>(
+pub(crate) fn make_choices<P: Frames>(
     core: &mut Core,
     exceptions: &mut Exceptions,
     port: &mut P,
@@ -158,22 +159,6 @@ fn choose_again<P: Frames>(
             touched: entry.touched,
         },
         Choice::Lockup => lock(core, entry),
-        Choice::Again => choose_again(core, exceptions, port, entry, profile, left - 1),
+        Choice::Again => make_choices(core, exceptions, port, entry, profile, left - 1),
     }
-}
-
-/// Makes the choices of an entry: at most one frame can fault, and one vector that isn't NMI's or HardFault's.
-pub(crate) fn make_choices<P: Frames>(
-    core: &mut Core,
-    exceptions: &mut Exceptions,
-    port: &mut P,
-    entry: &mut Entering,
-    profile: Profile,
-) -> Entered
-    requires { need entry.old ≤ P.room port.old }
-    ensures does { tries P.answer profile 4 (record { core = core.old; exceptions = exceptions.old; held = P.held port.old; entry = entry.old }) ≡ record { core = core.new; exceptions = exceptions.new; held = P.held port.new; result = result } }
-    ensures room { P.room port.old ≤ P.room port.new + need entry.old }
-    ensures lent { P.lent port.new ≡ P.lent port.old }
-{
-    choose_again(core, exceptions, port, entry, profile, 4)
 }

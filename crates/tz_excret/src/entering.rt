@@ -4,7 +4,7 @@ ghost use Rattle.std.specs.Prelude.{◌≡◌, ◌≤◌, ◌+◌};
 ghost use Rattle.tz_frames.specs.Enter.{interrupted, enters};
 ghost use Rattle.tz_excret.specs.Room.{need};
 
-use crate::choices::{lock, make_choices};
+use crate::choices::{CHOICES, lock, make_choices};
 use crate::raise::raise_frame_fault;
 use crate::sides::is_secure;
 use tz_frames::{Entered, Entering, Frames};
@@ -58,5 +58,5 @@ pub fn enter<P: Frames>(
             return lock(core, &entry);
         }
     }
-    make_choices(core, exceptions, port, &mut entry, profile)
+    make_choices(core, exceptions, port, &mut entry, profile, CHOICES)
 }

@@ -58,21 +58,14 @@ pub(crate) fn unstack<P: Frames>(
 {
     let side = side_by(returning.secure);
     let privileged = returns_privileged(core, returning);
-    let sp = return_sp(core, returning);
+    let mut sp = return_sp(core, returning);
+    let mut callee = None;
     if has_callee(returning) {
-        let callee = pop_additional(port, sp, privileged)?;
-        let basic = pop_basic(port, sp.wrapping_add(40), side, privileged)?;
-        Ok(Unstacked {
-            callee: Some(callee),
-            basic,
-        })
-    } else {
-        let basic = pop_basic(port, sp, side, privileged)?;
-        Ok(Unstacked {
-            callee: None,
-            basic,
-        })
+        callee = Some(pop_additional(port, sp, privileged)?);
+        sp = sp.wrapping_add(40);
     }
+    let basic = pop_basic(port, sp, side, privileged)?;
+    Ok(Unstacked { callee, basic })
 }
 
 /// The flags in RETPSR.

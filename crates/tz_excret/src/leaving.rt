@@ -6,7 +6,7 @@ ghost use Rattle.tz_frames.specs.Enter.{with_lock};
 ghost use Rattle.tz_frames.specs.Leave.{left_of, chaining, chained, chained_raised, resumes, goes_back, leaves, unstacked};
 
 use crate::choice::takes;
-use crate::choices::make_choices;
+use crate::choices::{CHOICES, make_choices};
 use crate::frame::{modes_agree, resume, unstack};
 use crate::noted::{noted, returning_by, slot_returning};
 use crate::raise::{raise_fault_of, raise_frame_fault};
@@ -59,7 +59,7 @@ fn chain<P: Frames>(
     ensures lent { P.lent port.new ≡ P.lent port.old }
 {
     let mut entry = chaining(returning, touched);
-    left_of(make_choices(core, exceptions, port, &mut entry, profile))
+    left_of(make_choices(core, exceptions, port, &mut entry, profile, CHOICES))
 }
 
 /// Does so after a fault has pended, unless the core has to lock.

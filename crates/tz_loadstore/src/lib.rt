@@ -36,34 +36,34 @@ pub fn execute<P: Port>(insn: &Insn, core: &mut Core, port: &mut P) -> Result<Ou
     ensures room { P.room port.old ≤ P.room port.new + 14 }
     ensures lent { P.lent port.new ≡ P.lent port.old }
 {
-    match insn {
+    match *insn {
         Insn::Load {
             size,
             signed,
             rt,
             address,
             user,
-        } => load(core, port, *size, *signed, *rt, address, *user),
+        } => load(core, port, size, signed, rt, &address, user),
         Insn::Store {
             size,
             rt,
             address,
             user,
-        } => store(core, port, *size, *rt, address, *user),
-        Insn::LoadPair { rt, rt2, address } => load_pair(core, port, *rt, *rt2, address),
-        Insn::StorePair { rt, rt2, address } => store_pair(core, port, *rt, *rt2, address),
+        } => store(core, port, size, rt, &address, user),
+        Insn::LoadPair { rt, rt2, address } => load_pair(core, port, rt, rt2, &address),
+        Insn::StorePair { rt, rt2, address } => store_pair(core, port, rt, rt2, &address),
         Insn::LoadMany {
             rn,
             list,
             down,
             back,
-        } => load_many(core, port, *rn, *list, *down, *back),
+        } => load_many(core, port, rn, list, down, back),
         Insn::StoreMany {
             rn,
             list,
             down,
             back,
-        } => store_many(core, port, *rn, *list, *down, *back),
+        } => store_many(core, port, rn, list, down, back),
         Insn::LoadExclusive {
             size,
             rt,
@@ -71,8 +71,8 @@ pub fn execute<P: Port>(insn: &Insn, core: &mut Core, port: &mut P) -> Result<Ou
             offset,
             ..
         } => {
-            let addr = at_offset(core, *rn, *offset);
-            load_aligned(core, port, *size, *rt, addr)
+            let addr = at_offset(core, rn, offset);
+            load_aligned(core, port, size, rt, addr)
         }
         Insn::StoreExclusive {
             size,
@@ -82,14 +82,14 @@ pub fn execute<P: Port>(insn: &Insn, core: &mut Core, port: &mut P) -> Result<Ou
             offset,
             ..
         } => {
-            let addr = at_offset(core, *rn, *offset);
-            store_exclusive(core, port, *size, *rd, *rt, addr)
+            let addr = at_offset(core, rn, offset);
+            store_exclusive(core, port, size, rd, rt, addr)
         }
         Insn::LoadAcquire { size, rt, rn } => {
-            let addr = reg(core, *rn);
-            load_aligned(core, port, *size, *rt, addr)
+            let addr = reg(core, rn);
+            load_aligned(core, port, size, rt, addr)
         }
-        Insn::StoreRelease { size, rt, rn } => store_release(core, port, *size, *rt, *rn),
+        Insn::StoreRelease { size, rt, rn } => store_release(core, port, size, rt, rn),
         Insn::Preload => Ok(Outcome::Next),
         _ => Err(Fault::Undef),
     }

@@ -111,13 +111,30 @@ fn fill(core: &mut Core, registers: &[u8], words: &[u32])
     }
 }
 
+/// The base gets its new value where it is written back, and then registers get words, each its own.
+fn fill_past(core: &mut Core, back: bool, rn: u8, past: u32, registers: &[u8], words: &[u32])
+    requires { length registers.now ≤ length words.now }
+    ensures { core.new ≡ with_local core.old (filled (based_past back rn past (local_of core.old)) registers.now words.now) }
+{
+    write_back_past(core, back, rn, past);
+    fill(core, registers, words);
+}
+
 /// The base and the registers of a list get their values; a load of PC, which has the last word, exchanges.
-fn finish_load_many(core: &mut Core, list: u16, registers: &[u8], words: &[u32]) -> Outcome
+fn finish_load_many(
+    core: &mut Core,
+    back: bool,
+    rn: u8,
+    past: u32,
+    list: u16,
+    registers: &[u8],
+    words: &[u32],
+) -> Outcome
     requires registers { registers.now ≡ listed list }
     requires words { words_loaded list ≡ length words.now }
-    ensures { finished_in core.old (filled_all list (local_of core.old) words.now) ≡ (core.new, Ok result) }
+    ensures { finished_in core.old (filled_all list (based_past back rn past (local_of core.old)) words.now) ≡ (core.new, Ok result) }
 {
-    fill(core, registers, words);
+    fill_past(core, back, rn, past, registers, words);
     if is_listed(list, 15) {
         return Outcome::Exchange {
             target: words[registers.len()],
@@ -148,8 +165,7 @@ pub(crate) fn load_many<P: Port>(
         return Err(fault);
     }
     let words = load_words(port, lowest(down, base, count), count)?;
-    write_back_past(core, back, rn, past);
-    Ok(finish_load_many(core, list, &registers, &words))
+    Ok(finish_load_many(core, back, rn, past, list, &registers, &words))
 }
 
 /// A store of many registers. Where one can't be stored, those before it stand, and the base stays.

@@ -128,33 +128,33 @@ pub(crate) fn write_fault(
 )
     ensures { status.new ≡ fault_written side bfhfnmins status.old register value }
 {
-    let own = *own_status(side, status);
-    let bus = status.bus;
-    let security = status.security;
+    let mut own = *own_status(side, status);
+    let mut bus = status.bus;
+    let mut security = status.security;
     match register {
         FaultRegister::Cfsr => {
             put_own_status(status, side, cfsr_cleared(own, value));
             put_bus(status, side, bfhfnmins, bfsr_cleared(bus, value));
         }
         FaultRegister::Hfsr => {
-            let hfsr = cleared(bus.hfsr, value);
-            put_bus(status, side, bfhfnmins, BusStatus { hfsr, ..bus });
+            bus.hfsr = cleared(bus.hfsr, value);
+            put_bus(status, side, bfhfnmins, bus);
         }
         FaultRegister::Mmfar => {
-            let mmfar = value;
-            put_own_status(status, side, SideStatus { mmfar, ..own });
+            own.mmfar = value;
+            put_own_status(status, side, own);
         }
         FaultRegister::Bfar => {
-            let bfar = value;
-            put_bus(status, side, bfhfnmins, BusStatus { bfar, ..bus });
+            bus.bfar = value;
+            put_bus(status, side, bfhfnmins, bus);
         }
         FaultRegister::Sfsr => {
-            let sfsr = cleared(security.sfsr, value);
-            put_security(status, side, SecurityStatus { sfsr, ..security });
+            security.sfsr = cleared(security.sfsr, value);
+            put_security(status, side, security);
         }
         FaultRegister::Sfar => {
-            let sfar = value;
-            put_security(status, side, SecurityStatus { sfar, ..security });
+            security.sfar = value;
+            put_security(status, side, security);
         }
     }
 }

@@ -63,29 +63,16 @@ fn bank_bit(bank: Bank, state: SlotState) -> bool
 fn bank_put(bank: Bank, bit: bool, state: SlotState) -> SlotState
     ensures { result ≡ bank_put bank bit state }
 {
+    let mut put = state;
     match bank {
-        Bank::Enable => SlotState {
-            enabled: bit || state.enabled,
-            ..state
-        },
-        Bank::Disable => SlotState {
-            enabled: !bit && state.enabled,
-            ..state
-        },
-        Bank::Pend => SlotState {
-            pending: bit || state.pending,
-            ..state
-        },
-        Bank::Unpend => SlotState {
-            pending: !bit && state.pending,
-            ..state
-        },
-        Bank::Active => state,
-        Bank::Target => SlotState {
-            target: if bit { Side::NonSecure } else { Side::Secure },
-            ..state
-        },
+        Bank::Enable => put.enabled = bit || state.enabled,
+        Bank::Disable => put.enabled = !bit && state.enabled,
+        Bank::Pend => put.pending = bit || state.pending,
+        Bank::Unpend => put.pending = !bit && state.pending,
+        Bank::Active => {}
+        Bank::Target => put.target = if bit { Side::NonSecure } else { Side::Secure },
     }
+    put
 }
 
 fn seen_bit(exceptions: &Exceptions, side: Side, bank: Bank, number: u32) -> bool

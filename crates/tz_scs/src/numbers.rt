@@ -45,13 +45,7 @@ fn has_byte(number: u16) -> bool
     ensures is { result ≡ has_byte number }
     ensures system { IsTrue result → is_system number ≡ true }
 {
-    number == 4
-        || number == 5
-        || number == 6
-        || number == 7
-        || number == 11
-        || number == 14
-        || number == 15
+    matches!(number, 4 | 5 | 6 | 7 | 11 | 14 | 15)
 }
 
 /// The byte of a number in SHPR.

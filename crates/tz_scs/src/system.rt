@@ -1,6 +1,6 @@
 //! Reads and writes of the system registers.
 
-ghost use Rattle.std.specs.Prelude.{◌≡◌, ◌%◌, true};
+ghost use Rattle.std.specs.Prelude.{◌≡◌, ◌%◌, true, MatchOption};
 ghost use Rattle.tz_regs.specs.Access.{is_aligned};
 ghost use Rattle.tz_regs.specs.declared.register.Register.TheVariants.{Sau};
 ghost use Rattle.tz_regs.specs.SystemRegisters.{control_value, control_written, sau_seen, value_of, after_read, written};
@@ -158,23 +158,20 @@ impl SystemRegisters<'_> {
         }
     }
 
-    /// Writes a byte or a halfword of a register.
-    fn write_part(&mut self, found: Found, addr: u32, size: Size, value: u32)
+    /// The word that a write of a byte or a halfword makes of a register, None where it is ignored.
+    fn word_with(&self, found: Found, addr: u32, size: Size, value: u32) -> Option<u32>
         requires { is_aligned size addr ≡ true }
-        ensures loans { SameLoans self.old self.new }
-        ensures is { state_of self.new ≡ narrow_written found.view (state_of self.old) found.register (narrow_of found.register) (addr % 4) size value }
+        ensures { MatchOption result
+            (narrow_written found.view (state_of self.now) found.register (narrow_of found.register) (addr % 4) size value ≡ state_of self.now)
+            (λ word. narrow_written found.view (state_of self.now) found.register (narrow_of found.register) (addr % 4) size value ≡ written found.view (state_of self.now) found.register word) }
     {
         match narrow_of(found.register) {
             Narrow::Keeps => {
                 let word = self.value_of(found.view, found.register);
-                let word = with_part(word, addr, size, value);
-                self.write_word(found.view, found.register, word);
+                Some(with_part(word, addr, size, value))
             }
-            Narrow::Zeros => {
-                let word = with_part(0, addr, size, value);
-                self.write_word(found.view, found.register, word);
-            }
-            Narrow::Ignored => {}
+            Narrow::Zeros => Some(with_part(0, addr, size, value)),
+            Narrow::Ignored => None,
         }
     }
 
@@ -184,9 +181,12 @@ impl SystemRegisters<'_> {
         ensures loans { SameLoans self.old self.new }
         ensures is { state_of self.new ≡ sized_written found.view (state_of self.old) found.register (addr % 4) size value }
     {
-        match size {
-            Size::Byte | Size::Half => self.write_part(found, addr, size, value),
-            Size::Word => self.write_word(found.view, found.register, value),
+        let written = match size {
+            Size::Byte | Size::Half => self.word_with(found, addr, size, value),
+            Size::Word => Some(value),
+        };
+        if let Some(word) = written {
+            self.write_word(found.view, found.register, word);
         }
     }
 

@@ -1,12 +1,12 @@
 use Rattle.std.proofs.Common.{arith, rules, tests}
-use Rattle.std.proofs.lemmas.Grind.{common_steps, elements}
+use Rattle.std.proofs.lemmas.Grind.{common_steps}
 use Rattle.tz_sem.specs.Step.{ended}
 use Rattle.tz_core.proofs.running.Machine.make_step.Goals as goal
 
--- What the tactics try, by name: a body that is refused is then told without a search for what to offer.
+-- The call that closes it, by name: a body that is refused is then told without a search for what to offer.
 pub returns : goal.returns
 unfolding ended
-returns c = first_of (assumption, search (tests, rules), grind (arith, common_steps), grind (arith, elements))
+returns c = first_of (assumption, search (tests, rules))
 
 -- The first call that the prover tries finds nothing here, after long: the one that does is named.
 pub returns-then-self : goal.returns-then-self
