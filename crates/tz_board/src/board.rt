@@ -29,8 +29,10 @@ fn count(table: &Table, key: Key, low: u8, high: u8) -> Result<u8, BoardError>
     ensures err { IfErr result (λ e. IsBoardRefusal e (number_at (place_of (Place.Top key)) low high 1 (table_view table.now))) }
     ensures within { IfOk result (λ n. (low ≤ n) × (n ≤ high)) }
 {
-    let number = keys::number(table, Place::Top(key), u32::from(low), u32::from(high), 1)?;
-    Ok(number as u8)
+    match keys::number(table, Place::Top(key), u32::from(low), u32::from(high), 1) {
+        Ok(number) => Ok(number as u8),
+        Err(error) => Err(error),
+    }
 }
 
 /// The numbers at the top.
@@ -39,12 +41,36 @@ fn read_numbers(table: &Table) -> Result<Numbers, BoardError>
     ensures err { IfErr result (λ e. IsBoardRefusal e (numbers_at (table_view table.now))) }
     ensures within { IfOk result AreWithin }
 {
-    let secure_vtor = keys::number(table, Place::Top(Key::SecureVtor), 0, 0xFFFF_FFFF, 128)?;
-    let nonsecure_vtor = keys::number(table, Place::Top(Key::NonsecureVtor), 0, 0xFFFF_FFFF, 128)?;
-    let interrupts = count(table, Key::Interrupts, 1, 240)?;
-    let sau_regions = count(table, Key::SauRegions, 0, 8)?;
-    let mpu_secure = count(table, Key::MpuSecure, 0, 16)?;
-    let mpu_nonsecure = count(table, Key::MpuNonsecure, 0, 16)?;
+    let secure_vtor = match keys::number(table, Place::Top(Key::SecureVtor), 0, 0xFFFF_FFFF, 128) {
+        Ok(secure_vtor) => secure_vtor,
+        Err(error) => return Err(error),
+    };
+    let nonsecure_vtor = match keys::number(
+        table,
+        Place::Top(Key::NonsecureVtor),
+        0,
+        0xFFFF_FFFF,
+        128,
+    ) {
+        Ok(nonsecure_vtor) => nonsecure_vtor,
+        Err(error) => return Err(error),
+    };
+    let interrupts = match count(table, Key::Interrupts, 1, 240) {
+        Ok(interrupts) => interrupts,
+        Err(error) => return Err(error),
+    };
+    let sau_regions = match count(table, Key::SauRegions, 0, 8) {
+        Ok(sau_regions) => sau_regions,
+        Err(error) => return Err(error),
+    };
+    let mpu_secure = match count(table, Key::MpuSecure, 0, 16) {
+        Ok(mpu_secure) => mpu_secure,
+        Err(error) => return Err(error),
+    };
+    let mpu_nonsecure = match count(table, Key::MpuNonsecure, 0, 16) {
+        Ok(mpu_nonsecure) => mpu_nonsecure,
+        Err(error) => return Err(error),
+    };
     Ok(Numbers {
         secure_vtor,
         nonsecure_vtor,
@@ -94,10 +120,22 @@ fn board_in(alloc: Global, table: &Table) -> Result<Board, BoardError>
     ensures ok { IfOk result (λ b. board_in (table_view table.now) ≡ Ok b) }
     ensures err { IfErr result (λ e. IsBoardRefusal e (board_in (table_view table.now))) }
 {
-    let numbers = read_numbers(table)?;
-    let profile = keys::read_profile(table, Place::Top(Key::Profile))?;
-    let regions = tables::regions(alloc, table)?;
-    let sau = tables::sau(alloc, table)?;
+    let numbers = match read_numbers(table) {
+        Ok(numbers) => numbers,
+        Err(error) => return Err(error),
+    };
+    let profile = match keys::read_profile(table, Place::Top(Key::Profile)) {
+        Ok(profile) => profile,
+        Err(error) => return Err(error),
+    };
+    let regions = match tables::regions(alloc, table) {
+        Ok(regions) => regions,
+        Err(error) => return Err(error),
+    };
+    let sau = match tables::sau(alloc, table) {
+        Ok(sau) => sau,
+        Err(error) => return Err(error),
+    };
     board_within(numbers, profile, regions, sau)
 }
 
@@ -129,6 +167,8 @@ pub fn read_board(alloc: Global, bytes: &[u8]) -> Result<Board, BoardError>
     ensures ok { IfOk result (λ b. board_of bytes.now ≡ Ok b) }
     ensures err { IfErr result (λ e. IsBoardRefusal e (board_of bytes.now)) }
 {
-    let table = document(alloc, bytes)?;
-    board_in(alloc, &table)
+    match document(alloc, bytes) {
+        Ok(table) => board_in(alloc, &table),
+        Err(error) => Err(error),
+    }
 }

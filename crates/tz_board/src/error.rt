@@ -8,7 +8,7 @@ use std::fmt;
 use thiserror::Error;
 
 /// A key of a board file.
-#[derive(Clone, Copy, Debug)]
+#[derive(Clone, Copy)]
 pub enum Key {
     SecureVtor,
     NonsecureVtor,
@@ -60,7 +60,7 @@ impl fmt::Display for Key {
 
 /// Where a key stands: at the top of the file, or in the table of a region or of an SAU region, which
 /// are counted from 0.
-#[derive(Clone, Copy, Debug)]
+#[derive(Clone, Copy)]
 pub enum Place {
     Top(Key),
     Region(u32, Key),
@@ -91,7 +91,7 @@ impl fmt::Display for Place {
 }
 
 /// Why a board file is refused: the first reason in the order of the file's grammar.
-#[derive(Clone, Copy, Debug, Drop, Error)]
+#[derive(Clone, Copy, Drop, Error)]
 pub enum BoardError {
     /// The bytes are no TOML document.
     #[error("B1")]
@@ -116,8 +116,15 @@ pub enum BoardError {
     Memory,
 }
 
+/// The text, as it is displayed.
+impl fmt::Debug for BoardError {
+    fn fmt<W: fmt::Write>(&self, f: &mut fmt::Formatter<W>) -> fmt::Result {
+        fmt::Display::fmt(self, f)
+    }
+}
+
 /// Why a script is refused: the first reason by line, with the number of the line, counted from 1.
-#[derive(Clone, Copy, Debug, Drop, Error)]
+#[derive(Clone, Copy, Drop, Error)]
 pub enum ScriptError {
     /// The line is no event, no comment and not empty.
     #[error("C1 {0}")]
@@ -134,4 +141,11 @@ pub enum ScriptError {
     /// There is no memory for the script.
     #[error("no memory")]
     Memory,
+}
+
+/// The text, as it is displayed.
+impl fmt::Debug for ScriptError {
+    fn fmt<W: fmt::Write>(&self, f: &mut fmt::Formatter<W>) -> fmt::Result {
+        fmt::Display::fmt(self, f)
+    }
 }

@@ -2,8 +2,6 @@ use Rattle.std.proofs.Common.{◌-◌, arith}
 use Rattle.std.proofs.lemmas.Grind.{common_steps}
 use Rattle.tz_syntax.proofs.Lists.{listed_from_step, listed_from_none}
 use Rattle.tz_syntax.proofs.pieces.push_list.Goals as goal
-use Rattle.std.proofs.Common.{rules, tests}
-use Rattle.std.proofs.lemmas.Grind.{elements}
 
 pub loop-register-preserved : goal.loop-register-preserved
 loop-register-preserved g c =
@@ -15,6 +13,5 @@ returns-clause-bytes g c =
     let none = listed_from_none c.args.list c.loop-register.register (16 - c.loop-register.register) (omega arith) in
     grind (arith, common_steps, none)
 
--- What the tactics try, by name: a body that is refused is then told without a search for what to offer.
 pub returns-clause-len : goal.returns-clause-len
-returns-clause-len g c = first_of (assumption, search (tests, rules), grind (arith, common_steps), grind (arith, elements))
+returns-clause-len g c = grind (arith, common_steps)
