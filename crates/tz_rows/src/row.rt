@@ -40,9 +40,12 @@ impl<'a> Row<'a> {
         }
     }
 
-    /// Gives the row its fields.
+    /// Makes it another row: these fields, and no answer so far. That memory was refused stays.
     pub fn ask(&mut self, fields: &'a str) {
         self.fields = fields;
+        self.step = "";
+        self.is_unread = false;
+        self.answer.clear();
     }
 
     /// Says that the row can't be read.
@@ -61,18 +64,21 @@ impl<'a> Row<'a> {
         }
     }
 
-    /// The field at a place, counted from 0, without blanks around it. Empty where there is none.
+    /// The field at a place, counted from 0, without blanks around it.
+    fn find_field(&self, index: usize) -> Option<&'a str> {
+        let field = self.fields.split('|').nth(index)?;
+        Some(field.trim())
+    }
+
+    /// The field at a place. Empty where there is none.
     pub fn field_or_empty(&self, index: usize) -> &'a str {
-        match self.fields.split('|').nth(index) {
-            Some(field) => field.trim(),
-            None => "",
-        }
+        self.find_field(index).unwrap_or("")
     }
 
     /// The field at a place, which has to be there.
     pub fn field(&mut self, index: usize) -> &'a str {
-        match self.fields.split('|').nth(index) {
-            Some(field) => field.trim(),
+        match self.find_field(index) {
+            Some(field) => field,
             None => {
                 self.is_unread = true;
                 ""
@@ -168,13 +174,27 @@ impl<'a> Row<'a> {
 /// The answer to the row.
 impl Row<'_> {
     /// The answer without blanks around it. None where the row can't be read.
-    pub fn answer(&self) -> Result<Option<&str>, AllocError> {
+    pub fn answer(&self) -> Option<&str> {
+        if self.is_unread {
+            None
+        } else {
+            Some(self.answer.as_str().trim())
+        }
+    }
+
+    /// Keeps whether memory was refused to another row.
+    pub fn share(&mut self, other: &Row<'_>) {
+        if other.is_short {
+            self.is_short = true;
+        }
+    }
+
+    /// All that was told. An error where memory was refused.
+    pub fn text(self) -> Result<String, AllocError> {
         if self.is_short {
             Err(AllocError)
-        } else if self.is_unread {
-            Ok(None)
         } else {
-            Ok(Some(self.answer.as_str().trim()))
+            Ok(self.answer)
         }
     }
 
