@@ -8,9 +8,9 @@
 mod row;
 mod words;
 
-pub use row::{Row, number_of};
+pub use row::{Row, field_of, number_of};
 use std::alloc::{AllocError, Global};
-pub use words::{events_of, profile_in, side_word};
+pub use words::{events_of, place_of, profile_in, side_word};
 
 /// What is asked of rows.
 pub trait Answers {

@@ -25,6 +25,12 @@ pub fn number_of(text: &str) -> Option<u32> {
     }
 }
 
+/// The field at a place, counted from 0, without blanks around it.
+pub fn field_of(fields: &str, index: usize) -> Option<&str> {
+    let field = fields.split('|').nth(index)?;
+    Some(field.trim())
+}
+
 /// What the row asks.
 impl<'a> Row<'a> {
     /// A row of a text, without fields and without an answer.
@@ -64,20 +70,20 @@ impl<'a> Row<'a> {
         }
     }
 
-    /// The field at a place, counted from 0, without blanks around it.
-    fn find_field(&self, index: usize) -> Option<&'a str> {
-        let field = self.fields.split('|').nth(index)?;
-        Some(field.trim())
+    /// Gives it the fields of the row that a line is.
+    pub fn turn_to(&mut self, line: &'a str) {
+        let (fields, _) = line.split_once("=>").unwrap_or((line, ""));
+        self.fields = fields;
     }
 
     /// The field at a place. Empty where there is none.
     pub fn field_or_empty(&self, index: usize) -> &'a str {
-        self.find_field(index).unwrap_or("")
+        field_of(self.fields, index).unwrap_or("")
     }
 
     /// The field at a place, which has to be there.
     pub fn field(&mut self, index: usize) -> &'a str {
-        match self.find_field(index) {
+        match field_of(self.fields, index) {
             Some(field) => field,
             None => {
                 self.is_unread = true;
@@ -127,9 +133,14 @@ impl<'a> Row<'a> {
         self.step = step;
     }
 
-    /// The step.
-    pub fn step(&self) -> &'a str {
-        self.step
+    /// What stands behind so many words of the step.
+    pub fn behind(&self, words: usize) -> &'a str {
+        let mut rest = self.step.trim();
+        for _ in 0..words {
+            let (_, behind) = rest.split_once(' ').unwrap_or((rest, ""));
+            rest = behind.trim();
+        }
+        rest
     }
 
     /// The word at a place, which has to be there.
