@@ -17,7 +17,7 @@ mod steps;
 mod values;
 
 use tz_model::Profile;
-use tz_rows::Row;
+use tz_rows::{Row, place_of};
 
 /// Registers 0x10 to 0x1c, as the rows of frames have them.
 const FRAME: &str = "registers=0x10 lr=0x1e";
@@ -31,15 +31,18 @@ const ENTRY: &str =
     "registers=0x100 lr=0x0eeeeee1 pc=0x10000200 apsr=0x80000000 t=1 s.msp=0x30001000 s.psp=0x30002000 \
 ns.msp=0x20001000 ns.psp=0x20002000 enable=5s enable=6s enable=6ns enable=7s";
 
+/// The kinds of rows.
+static KINDS: [&str; 6] = ["ended", "steps", "steps of v8.1", "frame", "gate", "entry"];
+
 /// Tells a row of a kind its answer. Whether there is such a kind.
 pub fn answer(row: &mut Row<'_>, kind: &str) -> bool {
-    match kind {
-        "ended" => steps::ended(row),
-        "steps" => steps::stepped(row, Profile::V80),
-        "steps of v8.1" => steps::stepped(row, Profile::V81),
-        "frame" => bench::followed(row, FRAME),
-        "gate" => bench::followed(row, GATE),
-        "entry" => bench::followed(row, ENTRY),
+    match place_of(&KINDS, kind) {
+        0 => steps::ended(row),
+        1 => steps::stepped(row, Profile::V80),
+        2 => steps::stepped(row, Profile::V81),
+        3 => bench::followed(row, FRAME),
+        4 => bench::followed(row, GATE),
+        5 => bench::followed(row, ENTRY),
         _ => return false,
     }
     true

@@ -7,7 +7,7 @@ use crate::values::core_value;
 use tz_core::Machine;
 use tz_model::{Profile, Report, Side, Size, StepKind};
 use tz_nvic::Exceptions;
-use tz_rows::{Row, events_of, number_of};
+use tz_rows::{Row, events_of, number_of, place_of};
 
 /// The most steps before what is told.
 const MOST: u32 = 200;
@@ -94,16 +94,22 @@ fn tell_timers(row: &mut Row<'_>, exceptions: &Exceptions) {
     row.tell_hex(ns.csr);
 }
 
+/// What is asked of a step, but for values.
+static PARTS: [&str; 5] = ["report", "kind", "shown", "timers", "event"];
+
 /// Tells what is asked of a step and of the machine after it: the report, its kind, the machine as a line, both timers,
-/// the event flag, or a value.
+/// the event flag, or a value. The places are those of `PARTS`.
 fn tell_part(row: &mut Row<'_>, machine: &Machine, report: &Report, part: &str) {
-    match part {
-        "report" => tell_report(row, report),
-        "kind" => row.tell(kind_text(report.kind)),
-        "shown" => tell_machine(row, machine),
-        "timers" => tell_timers(row, machine.exceptions()),
-        "event" if machine.core().event => row.tell("event"),
-        "event" => row.tell("no event"),
+    match place_of(&PARTS, part) {
+        0 => tell_report(row, report),
+        1 => row.tell(kind_text(report.kind)),
+        2 => tell_machine(row, machine),
+        3 => tell_timers(row, machine.exceptions()),
+        4 => row.tell(if machine.core().event {
+            "event"
+        } else {
+            "no event"
+        }),
         _ => tell_value(row, machine, part),
     }
 }

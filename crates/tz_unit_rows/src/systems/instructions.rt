@@ -4,52 +4,59 @@ use crate::words::tell_flag;
 use tz_access::Bus;
 use tz_model::{BarrierOp, Fault, Insn, Outcome, Side, Size};
 use tz_regs::Core;
-use tz_rows::Row;
+use tz_rows::{Row, place_of};
 use tz_system::execute;
 
-/// An instruction that names registers or state.
+/// The names of instructions, in the order of the places by which they are made: those that name registers or state, then
+/// those with a number, from "hint" on, or with nothing.
+static NAMES: [&str; 12] = [
+    "mrs", "msr", "cps", "tt", "lazy", "barrier", "hint", "svc", "bkpt", "udf", "sg", "preload",
+];
+
+/// An instruction that names registers or state, or one of the others.
 fn named(row: &mut Row<'_>) -> Insn {
-    match row.word(1) {
-        "mrs" => Insn::ReadSpecial {
+    let name = row.word(1);
+    match place_of(&NAMES, name) {
+        0 => Insn::ReadSpecial {
             rd: row.byte(2),
             sysm: row.byte(3),
         },
-        "msr" => Insn::WriteSpecial {
+        1 => Insn::WriteSpecial {
             sysm: row.byte(2),
             rn: row.byte(3),
         },
-        "cps" => Insn::ChangeState {
+        2 => Insn::ChangeState {
             disable: row.flag(2),
             i: row.flag(3),
             f: row.flag(4),
         },
-        "tt" => Insn::TestTarget {
+        3 => Insn::TestTarget {
             a: row.flag(2),
             t: row.flag(3),
             rd: row.byte(4),
             rn: row.byte(5),
         },
-        "lazy" => Insn::LazyState {
+        4 => Insn::LazyState {
             load: row.flag(2),
             rn: row.byte(3),
         },
-        "barrier" => Insn::Barrier {
+        5 => Insn::Barrier {
             op: barrier(row),
             option: row.byte(3),
         },
-        _ => numbered(row),
+        place => numbered(row, place),
     }
 }
 
 /// An instruction with a number, or with nothing.
-fn numbered(row: &mut Row<'_>) -> Insn {
-    match row.word(1) {
-        "hint" => Insn::Hint { op: row.byte(2) },
-        "svc" => Insn::Supervisor { imm: row.half(2) },
-        "bkpt" => Insn::Breakpoint { imm: row.half(2) },
-        "udf" => Insn::Undefined { imm: row.half(2) },
-        "sg" => Insn::SecureGateway,
-        "preload" => Insn::Preload,
+fn numbered(row: &mut Row<'_>, place: usize) -> Insn {
+    match place {
+        6 => Insn::Hint { op: row.byte(2) },
+        7 => Insn::Supervisor { imm: row.half(2) },
+        8 => Insn::Breakpoint { imm: row.half(2) },
+        9 => Insn::Undefined { imm: row.half(2) },
+        10 => Insn::SecureGateway,
+        11 => Insn::Preload,
         _ => {
             row.refuse();
             Insn::Preload

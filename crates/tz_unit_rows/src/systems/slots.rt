@@ -3,7 +3,7 @@
 use crate::words::{side_at, tell_count, tell_flag, tell_number};
 use tz_model::{Side, Slot};
 use tz_nvic::{Exceptions, PLACES, SlotState};
-use tz_rows::{Row, events_of, side_word};
+use tz_rows::{Row, events_of, place_of, side_word};
 
 /// The slot of a step: its number and its side.
 pub fn slot_of(row: &mut Row<'_>) -> Slot {
@@ -13,18 +13,28 @@ pub fn slot_of(row: &mut Row<'_>) -> Slot {
     }
 }
 
-/// Changes a slot as a word tells. A number is its priority.
+/// The words that change a slot.
+static CHANGES: [&str; 6] = [
+    "pend",
+    "unpend",
+    "activate",
+    "deactivate",
+    "enable",
+    "disable",
+];
+
+/// Changes a slot as a word tells, whose places are those of `CHANGES`. A number is its priority.
 fn change_to(exceptions: &mut Exceptions, row: &mut Row<'_>, slot: Slot, word: &str) {
     if !exceptions.exists(slot) {
         return row.refuse();
     }
-    match word {
-        "pend" => exceptions.pend(slot),
-        "unpend" => exceptions.unpend(slot),
-        "activate" => exceptions.activate(slot),
-        "deactivate" => exceptions.deactivate(slot),
-        "enable" => exceptions.set_enabled(slot, true),
-        "disable" => exceptions.set_enabled(slot, false),
+    match place_of(&CHANGES, word) {
+        0 => exceptions.pend(slot),
+        1 => exceptions.unpend(slot),
+        2 => exceptions.activate(slot),
+        3 => exceptions.deactivate(slot),
+        4 => exceptions.set_enabled(slot, true),
+        5 => exceptions.set_enabled(slot, false),
         _ => {
             let number = row.number_in(word);
             exceptions.set_priority(slot, row.byte_in(number));
