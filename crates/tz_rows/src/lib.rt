@@ -17,12 +17,11 @@ mod words;
 
 pub use frames_double::TableFrames;
 pub use port_double::{TableEntry, TablePort};
-pub use row::{Row, number_of};
+pub use row::{Row, field_of, number_of};
 pub use shelf_double::{FailingShelf, File, MemoryShelf};
 pub use sink_double::{FailingSink, MemorySink};
 use std::alloc::{AllocError, Global};
-use std::fmt::Write;
-pub use words::{events_of, profile_in, side_word};
+pub use words::{events_of, place_of, profile_in, side_word};
 
 /// What is asked of rows.
 pub trait Answers {
@@ -45,43 +44,62 @@ fn ask<'a, A: Answers>(answers: &A, line: &'a str, row: &mut Row<'a>) -> &'a str
             wanted.trim()
         }
         None => {
+            row.ask("");
             row.refuse();
             ""
         }
     }
 }
 
-/// Adds what is to be told of a row where its answer isn't the wanted one. Tells whether it is.
-fn tell_row(
-    number: usize,
-    row: &Row<'_>,
-    wanted: &str,
-    text: &mut String,
-) -> Result<bool, AllocError> {
-    match row.answer()? {
-        Some(found) if found == wanted => return Ok(true),
-        Some(found) => write!(text, "line {number}: found {found}, not {wanted}\n")?,
-        None => write!(text, "line {number}: unread\n")?,
+/// Tells a report of a row where its answer isn't the wanted one. Whether it is.
+fn tell_row(report: &mut Row<'_>, number: u32, row: &Row<'_>, wanted: &str) -> bool {
+    let found = row.answer();
+    if matches!(found, Some(found) if found == wanted) {
+        return true;
     }
-    Ok(false)
+    report.tell("line ");
+    report.tell_decimal(i64::from(number));
+    match found {
+        Some(found) => {
+            report.tell(": found ");
+            report.tell(found);
+            report.tell(", not ");
+            report.tell(wanted);
+            report.tell("\n");
+        }
+        None => report.tell(": unread\n"),
+    }
+    false
 }
 
-/// Asks for the answer to each row of a text, and tells those that aren't the wanted ones, by their lines, and how many
+/// Asks for the answer to each row, and tells a report those that aren't the wanted ones, by their lines, and how many
 /// rows there are.
-pub fn told<A: Answers>(alloc: Global, answers: &A, rows: &str) -> Result<String, AllocError> {
-    let mut text = String::new(alloc);
-    let mut count = 0u32;
-    let mut differing = 0u32;
-    for (index, line) in rows.lines().enumerate() {
+fn tell_rows<'a, A: Answers>(answers: &A, rows: &'a str, row: &mut Row<'a>, report: &mut Row<'_>) {
+    let mut number = 0u32;
+    let mut count = 0i64;
+    let mut differing = 0i64;
+    for line in rows.lines() {
+        number = number.saturating_add(1);
         if is_row(line) {
             count = count.saturating_add(1);
-            let mut row = Row::new(alloc, rows);
-            let wanted = ask(answers, line, &mut row);
-            if !tell_row(index.saturating_add(1), &row, wanted, &mut text)? {
+            let wanted = ask(answers, line, row);
+            if !tell_row(report, number, row, wanted) {
                 differing = differing.saturating_add(1);
             }
         }
     }
-    write!(text, "{count} rows, {differing} differ\n")?;
-    Ok(text)
+    report.tell_decimal(count);
+    report.tell(" rows, ");
+    report.tell_decimal(differing);
+    report.tell(" differ\n");
+}
+
+/// The report of the rows of a text: those whose answers aren't the wanted ones, by their lines, and how many rows there
+/// are. One row stands for all in turn, and the report is told as an answer is.
+pub fn told<A: Answers>(alloc: Global, answers: &A, rows: &str) -> Result<String, AllocError> {
+    let mut row = Row::new(alloc, rows);
+    let mut report = Row::new(alloc, rows);
+    tell_rows(answers, rows, &mut row, &mut report);
+    report.share(&row);
+    report.text()
 }

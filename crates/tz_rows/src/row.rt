@@ -25,6 +25,12 @@ pub fn number_of(text: &str) -> Option<u32> {
     }
 }
 
+/// The field at a place, counted from 0, without blanks around it.
+pub fn field_of(fields: &str, index: usize) -> Option<&str> {
+    let field = fields.split('|').nth(index)?;
+    Some(field.trim())
+}
+
 /// What the row asks.
 impl<'a> Row<'a> {
     /// A row of a text, without fields and without an answer.
@@ -40,9 +46,12 @@ impl<'a> Row<'a> {
         }
     }
 
-    /// Gives the row its fields.
+    /// Makes it another row: these fields, and no answer so far. That memory was refused stays.
     pub fn ask(&mut self, fields: &'a str) {
         self.fields = fields;
+        self.step = "";
+        self.is_unread = false;
+        self.answer.clear();
     }
 
     /// Says that the row can't be read.
@@ -61,18 +70,21 @@ impl<'a> Row<'a> {
         }
     }
 
-    /// The field at a place, counted from 0, without blanks around it. Empty where there is none.
+    /// Gives it the fields of the row that a line is.
+    pub fn turn_to(&mut self, line: &'a str) {
+        let (fields, _) = line.split_once("=>").unwrap_or((line, ""));
+        self.fields = fields;
+    }
+
+    /// The field at a place. Empty where there is none.
     pub fn field_or_empty(&self, index: usize) -> &'a str {
-        match self.fields.split('|').nth(index) {
-            Some(field) => field.trim(),
-            None => "",
-        }
+        field_of(self.fields, index).unwrap_or("")
     }
 
     /// The field at a place, which has to be there.
     pub fn field(&mut self, index: usize) -> &'a str {
-        match self.fields.split('|').nth(index) {
-            Some(field) => field.trim(),
+        match field_of(self.fields, index) {
+            Some(field) => field,
             None => {
                 self.is_unread = true;
                 ""
@@ -121,9 +133,14 @@ impl<'a> Row<'a> {
         self.step = step;
     }
 
-    /// The step.
-    pub fn step(&self) -> &'a str {
-        self.step
+    /// What stands behind so many words of the step.
+    pub fn behind(&self, words: usize) -> &'a str {
+        let mut rest = self.step.trim();
+        for _ in 0..words {
+            let (_, behind) = rest.split_once(' ').unwrap_or((rest, ""));
+            rest = behind.trim();
+        }
+        rest
     }
 
     /// The word at a place, which has to be there.
@@ -168,13 +185,27 @@ impl<'a> Row<'a> {
 /// The answer to the row.
 impl Row<'_> {
     /// The answer without blanks around it. None where the row can't be read.
-    pub fn answer(&self) -> Result<Option<&str>, AllocError> {
+    pub fn answer(&self) -> Option<&str> {
+        if self.is_unread {
+            None
+        } else {
+            Some(self.answer.as_str().trim())
+        }
+    }
+
+    /// Keeps whether memory was refused to another row.
+    pub fn share(&mut self, other: &Row<'_>) {
+        if other.is_short {
+            self.is_short = true;
+        }
+    }
+
+    /// All that was told. An error where memory was refused.
+    pub fn text(self) -> Result<String, AllocError> {
         if self.is_short {
             Err(AllocError)
-        } else if self.is_unread {
-            Ok(None)
         } else {
-            Ok(Some(self.answer.as_str().trim()))
+            Ok(self.answer)
         }
     }
 

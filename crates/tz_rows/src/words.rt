@@ -3,6 +3,19 @@
 use crate::Row;
 use tz_model::{Profile, ScriptEvent, Side};
 
+/// The place of a name among names, counted from 0. Behind the last where it is none of them. One search takes less proof
+/// than a comparison with each name.
+pub fn place_of(names: &[&str], name: &str) -> usize {
+    let mut place = 0usize;
+    for each in names.iter() {
+        if *each == name {
+            return place;
+        }
+        place = place.saturating_add(1);
+    }
+    place
+}
+
 /// The word of a side.
 pub fn side_word(side: Side) -> &'static str {
     match side {

@@ -1,0 +1,187 @@
+//! Machines on the built-in board, from rows.
+//!
+//! Secure code writes words in turn and goes on at a place of its own. The handler of exception N stands 0x800 and 16 N
+//! bytes behind its side's vectors.
+
+ghost use Rattle.std.specs.Prelude.{◌<◌, ◌^◌, length};
+
+use std::alloc::{AllocError, Global};
+use tz_asm::assemble;
+use tz_board::demo_board;
+use tz_core::Machine;
+use tz_model::{Image, Profile};
+use tz_rows::Row;
+
+/// The Secure vectors, with a stack pointer and a start, and the code that writes words. MSP_NS is set first, and R4 is
+/// where the Non-secure code stands.
+const SECURE: &str = ".org 0x10000000
+ .word 0x30001000
+ .word 0x10000081
+ .word 0x10000821
+ .word 0x10000831
+ .word 0x10000841
+ .word 0x10000851
+ .word 0x10000861
+ .word 0x10000871
+ .word 0x10000881
+ .word 0x10000891
+ .word 0x100008A1
+ .word 0x100008B1
+ .word 0x100008C1
+ .word 0x100008D1
+ .word 0x100008E1
+ .word 0x100008F1
+ .word 0x10000901
+ .word 0x10000911
+ .word 0x10000921
+ .word 0x10000931
+ .word 0x10000941
+ .word 0x10000951
+ .word 0x10000961
+ .word 0x10000971
+.org 0x10000080
+ ldr r0, stack
+ msr msp_ns, r0
+ ldr r0, table
+ ldr r3, after
+ ldr r4, nonsecure
+next: ldm r0!, {r1, r2}
+ cbz r1, done
+ str r2, [r1, #0]
+ b next
+done: bx r3
+.align 4
+stack: .word 0x20001000
+table: .word writes
+after: .word 0x10000401
+nonsecure: .word 0x00200400
+writes:
+";
+
+/// Where the Secure code goes on, behind the words that it writes.
+const SECURE_CODE: &str = " .word 0
+ .word 0
+.org 0x10000400
+";
+
+/// The Non-secure vectors, of which nothing reads the first two words.
+const NONSECURE: &str = ".org 0x00200000
+ .word 0
+ .word 0
+ .word 0x00200821
+ .word 0x00200831
+ .word 0x00200841
+ .word 0x00200851
+ .word 0x00200861
+ .word 0x00200871
+ .word 0x00200881
+ .word 0x00200891
+ .word 0x002008A1
+ .word 0x002008B1
+ .word 0x002008C1
+ .word 0x002008D1
+ .word 0x002008E1
+ .word 0x002008F1
+ .word 0x00200901
+ .word 0x00200911
+ .word 0x00200921
+ .word 0x00200931
+ .word 0x00200941
+ .word 0x00200951
+ .word 0x00200961
+ .word 0x00200971
+";
+
+/// Where the Non-secure code stands.
+const NONSECURE_CODE: &str = ".org 0x00200400
+";
+
+/// Adds addresses with their words.
+fn push_writes(text: &mut Row<'_>, writes: &str) {
+    for each in writes.split_whitespace() {
+        let (address, word) = each.split_once('=').unwrap_or((each, ""));
+        text.tell(" .word ");
+        text.tell(address);
+        text.tell("\n .word ");
+        text.tell(word);
+        text.tell("\n");
+    }
+}
+
+/// Adds the lines of code.
+fn push_code(text: &mut Row<'_>, code: &str) {
+    for line in code.split(';') {
+        text.tell(line.trim());
+        text.tell("\n");
+    }
+}
+
+/// A source: vectors, the words that are written, and code at a place of its own. It is told as an answer is.
+fn source_of(
+    alloc: Global,
+    vectors: &str,
+    writes: &str,
+    place: &str,
+    code: &str,
+) -> Result<String, AllocError> {
+    let mut text = Row::new(alloc, "");
+    text.tell(vectors);
+    push_writes(&mut text, writes);
+    text.tell(place);
+    push_code(&mut text, code);
+    text.text()
+}
+
+/// The image of a source.
+fn image_of(alloc: Global, source: &[u8]) -> Option<Image>
+    requires { length source.now < 2 ^ 32 }
+{
+    assemble(alloc, source).ok()
+}
+
+/// The image of a source, where it has one.
+fn assembled(alloc: Global, source: &str) -> Option<Image> {
+    let bytes = source.as_bytes();
+    if bytes.len() < 0x1_0000_0000 {
+        image_of(alloc, bytes)
+    } else {
+        None
+    }
+}
+
+/// The image of the Secure code of a row, with the words that it writes.
+fn secure_image(row: &mut Row<'_>) -> Option<Image> {
+    let writes = row.field(1);
+    let code = row.field(2);
+    let source = source_of(row.alloc, SECURE, writes, SECURE_CODE, code);
+    let source = row.kept(source)?;
+    assembled(row.alloc, source.as_str())
+}
+
+/// The image of the Non-secure code of a row.
+fn nonsecure_image(row: &mut Row<'_>) -> Option<Image> {
+    let code = row.field(3);
+    let source = source_of(row.alloc, NONSECURE, "", NONSECURE_CODE, code);
+    let source = row.kept(source)?;
+    assembled(row.alloc, source.as_str())
+}
+
+/// The machine of images on the built-in board.
+fn machine_over(
+    alloc: Global,
+    profile: Profile,
+    secure: &Image,
+    nonsecure: &Image,
+) -> Result<Machine, AllocError> {
+    let mut board = demo_board(alloc)?;
+    board.profile = profile;
+    Machine::new(alloc, &board, secure, nonsecure)
+}
+
+/// The machine of a row, from its fields 1 to 3.
+pub fn machine_of(row: &mut Row<'_>, profile: Profile) -> Option<Machine> {
+    let secure = secure_image(row)?;
+    let nonsecure = nonsecure_image(row)?;
+    let made = machine_over(row.alloc, profile, &secure, &nonsecure);
+    row.kept(made)
+}

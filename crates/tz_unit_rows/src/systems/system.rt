@@ -1,0 +1,53 @@
+//! Accesses to the system registers.
+
+use crate::systems::machine::Machine;
+use crate::words::{side_at, size_at, tell_number};
+use tz_access::{Bus, is_aligned};
+use tz_rows::Row;
+use tz_scs::System;
+
+/// The system registers, and what they stand in.
+fn system_of(machine: &mut Machine) -> System<'_> {
+    System {
+        core: &mut machine.core,
+        exceptions: &mut machine.exceptions,
+        bus: &mut machine.bus,
+    }
+}
+
+/// Reads the words at addresses, and shows them: `read SIDE SIZE ADDRESS ..`.
+pub fn read(machine: &mut Machine, row: &mut Row<'_>) {
+    let side = side_at(row, 1);
+    let size = size_at(row, 2);
+    let mut system = system_of(machine);
+    for word in row.behind(3).split_whitespace() {
+        let addr = row.number_in(word);
+        if !is_aligned(size, addr) {
+            return row.refuse();
+        }
+        let value = system.read(addr, size, side);
+        tell_number(row, value);
+    }
+}
+
+/// Writes a value to addresses: `write SIDE SIZE VALUE ADDRESS ..`.
+pub fn write(machine: &mut Machine, row: &mut Row<'_>) {
+    let side = side_at(row, 1);
+    let size = size_at(row, 2);
+    let value = row.number(3);
+    let mut system = system_of(machine);
+    for word in row.behind(4).split_whitespace() {
+        let addr = row.number_in(word);
+        if !is_aligned(size, addr) {
+            return row.refuse();
+        }
+        system.write(addr, size, side, value);
+    }
+}
+
+/// Sets a register of the SAU, or of the MPU of a side: `unit SIDE ADDRESS VALUE`.
+pub fn set_unit(bus: &mut Bus, row: &mut Row<'_>) {
+    let side = side_at(row, 1);
+    let addr = row.number(2);
+    bus.set_register(addr, side, row.number(3));
+}
