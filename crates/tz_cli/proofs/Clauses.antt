@@ -9,8 +9,8 @@ use Rattle.tz_twin.specs.Seen.{Agree}
 use Rattle.tz_twin.specs.Trace.{text_from}
 use Rattle.tz_run.specs.Events.{events_of}
 use Rattle.tz_twin.proofs.TwoRuns.{isolated}
-use Rattle.tz_edge.specs.Run.{RunWords}
-use Rattle.tz_edge.specs.Commands.{Command, Run, Asm, Dis, command_of}
+use Rattle.tz_cli.specs.Run.{RunWords}
+use Rattle.tz_cli.specs.Commands.{Command, Run, Asm, Dis, command_of}
 use Rattle.tz_cli.specs.Told.{Stop, BadWords, TooManySteps, Unread, TooLong, BadBoard, BadImage, BadScript, BadSource, Told, Unknown, Stops, Gives, told_then, Job, Task, run_task, told, IsDone, job_told, trace_of, state_of}
 use Rattle.tz_cli.specs.Reads.{reads_of, TellsOf}
 use Rattle.tz_cli.specs.Lines.{stop_line, status_of}

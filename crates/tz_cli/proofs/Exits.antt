@@ -6,11 +6,11 @@ use Rattle.tz_model.specs.declared.outside.SinkError.{SinkError}
 use Rattle.tz_model.specs.declared.outside.SinkError.TheVariants.{Failed}
 use Rattle.tz_model.specs.Outside.{Held, Rose, Gains, Put}
 use Rattle.tz_model.specs.Image.{ImageValue, SegmentValue}
-use Rattle.tz_edge.specs.Run.{RunWords}
-use Rattle.tz_edge.specs.Asm.{AsmWords}
-use Rattle.tz_edge.specs.Dis.{DisWords}
-use Rattle.tz_edge.specs.Commands.{Command, Run, Asm, Dis, command_of, longest, names_of}
-use Rattle.tz_edge.proofs.FileNames.{names_of-longest}
+use Rattle.tz_cli.specs.Run.{RunWords}
+use Rattle.tz_cli.specs.Asm.{AsmWords}
+use Rattle.tz_cli.specs.Dis.{DisWords}
+use Rattle.tz_cli.specs.Commands.{Command, Run, Asm, Dis, command_of, longest, names_of}
+use Rattle.tz_cli.proofs.FileNames.{names_of-longest}
 use Rattle.tz_cli.specs.declared.stops.LoadError.{LoadError}
 use Rattle.tz_cli.specs.declared.stops.LoadError.TheVariants.{Unread, Long, Board, Image, Script, Source, Memory}
 use Rattle.tz_cli.specs.declared.stops.File.{File}

@@ -1,3 +1,13 @@
+pub mod Reading
+pub mod Looks
+pub mod WordTurns
+pub mod WordWalks
+pub mod WordValues
+pub mod WordAnswers
+pub mod Numbers
+pub mod Choices
+pub mod Sides
+pub mod FileNames
 pub mod Clauses
 pub mod Exits
 pub mod Reached

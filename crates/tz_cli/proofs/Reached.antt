@@ -6,10 +6,10 @@ use Rattle.tz_table.specs.declared.units.Side.{Side}
 use Rattle.tz_table.specs.declared.units.Side.TheVariants as sides
 use Rattle.tz_model.specs.Board.{BoardValue}
 use Rattle.tz_model.specs.Outside.{Held, Absent}
-use Rattle.tz_edge.specs.Run.{RunWords}
-use Rattle.tz_edge.specs.Asm.{AsmWords}
-use Rattle.tz_edge.specs.Dis.{DisWords}
-use Rattle.tz_edge.specs.Commands.{Command, Run, Asm, Dis}
+use Rattle.tz_cli.specs.Run.{RunWords}
+use Rattle.tz_cli.specs.Asm.{AsmWords}
+use Rattle.tz_cli.specs.Dis.{DisWords}
+use Rattle.tz_cli.specs.Commands.{Command, Run, Asm, Dis}
 use Rattle.tz_cli.specs.declared.stops.File.{File}
 use Rattle.tz_cli.specs.declared.stops.File.TheVariants.{Board, First, Second, Script, Source}
 use Rattle.tz_cli.specs.Told.{Stop, TooManySteps, Unread, Told, Unknown, Stops, Gives, told_then, Job, told, is_demo, is_none_script, board_told, board_file, image_told, script_told, script_file, secure_told, nonsecure_told, start_told, job_told, source_told, listed_told, step_limit}

@@ -6,8 +6,8 @@ use Rattle.tz_model.specs.Board.{BoardValue}
 use Rattle.tz_model.specs.Image.{ImageValue}
 use Rattle.tz_model.specs.Outside.{Held, Rose}
 use Rattle.tz_board.specs.Scripts.{Timed}
-use Rattle.tz_edge.specs.Run.{RunWords}
-use Rattle.tz_edge.specs.Dis.{DisWords}
+use Rattle.tz_cli.specs.Run.{RunWords}
+use Rattle.tz_cli.specs.Dis.{DisWords}
 use Rattle.tz_cli.specs.declared.stops.LoadError.{LoadError}
 use Rattle.tz_cli.specs.declared.stops.LoadError.TheVariants.{Unread, Long, Board, Image, Script, Source, Memory}
 use Rattle.tz_cli.specs.declared.stops.File.{File}

@@ -1,7 +1,7 @@
 -- The answers of a call with what the outside had before and after it.
 use Rattle.std.specs.Prelude.{◌≡◌, ◌⊎◌, ℕ, ◌+◌, ◌≤◌, Bool, List, [], ◌++◌, length, codes, Option, Some, None, IsTrue, IfSome}
 use Rattle.tz_model.specs.Outside.{Held, Absent, Rose, Gains}
-use Rattle.tz_edge.specs.Commands.{Command, command_of, longest}
+use Rattle.tz_cli.specs.Commands.{Command, command_of, longest}
 use Rattle.tz_cli.specs.Told.{Stop, BadWords, TooManySteps, Unread, TooLong, BadBoard, BadImage, BadScript, BadSource, Told, Unknown, Stops, Gives, Task, told, IsDone}
 use Rattle.tz_cli.specs.Reads.{Reading, Form, reads_of, IsOneOf, TellsOf}
 use Rattle.tz_cli.specs.Lines.{stop_line, status_of, unread_line}

@@ -15,9 +15,9 @@ use Rattle.tz_cli.specs.declared.stops.LoadError.{LoadError}
 use Rattle.tz_cli.specs.declared.stops.LoadError.TheVariants.{Unread, Long, Board, Image, Script, Source, Memory}
 use Rattle.tz_cli.specs.declared.files.Files.{Files}
 use Rattle.tz_cli.specs.declared.stops.FileNames.{FileNames}
-use Rattle.tz_edge.specs.Run.{RunWords}
-use Rattle.tz_edge.specs.Asm.{AsmWords}
-use Rattle.tz_edge.specs.Dis.{DisWords}
+use Rattle.tz_cli.specs.Run.{RunWords}
+use Rattle.tz_cli.specs.Asm.{AsmWords}
+use Rattle.tz_cli.specs.Dis.{DisWords}
 use Rattle.tz_asm.specs.Refusals.{Refusal as AsmRefusal}
 use Rattle.tz_asm.specs.Refusals as sources
 use Rattle.tz_asm.specs.declared.error.AsmError.{AsmError}

@@ -1,3 +1,12 @@
+pub mod Parts
+pub mod Leaf
+pub mod Found
+pub mod Counts
+pub mod Choices
+pub mod Run
+pub mod Asm
+pub mod Dis
+pub mod Commands
 pub mod Told
 pub mod Lines
 pub mod Reads

@@ -1,10 +1,10 @@
 -- The files that a command reads.
 use Rattle.std.specs.Prelude.{◌≡◌, ◌⊎◌, ℕ, nat_lt, ◌&&◌, Bool, true, false, not, if◌then◌else◌, List, [], ◌∷◌, Option, Some, None}
 use Rattle.tz_model.specs.Outside.{Held}
-use Rattle.tz_edge.specs.Run.{RunWords}
-use Rattle.tz_edge.specs.Asm.{AsmWords}
-use Rattle.tz_edge.specs.Dis.{DisWords}
-use Rattle.tz_edge.specs.Commands.{Command, Run, Asm, Dis}
+use Rattle.tz_cli.specs.Run.{RunWords}
+use Rattle.tz_cli.specs.Asm.{AsmWords}
+use Rattle.tz_cli.specs.Dis.{DisWords}
+use Rattle.tz_cli.specs.Commands.{Command, Run, Asm, Dis}
 use Rattle.tz_cli.specs.Told.{Stop, BadWords, TooManySteps, Unread, TooLong, BadBoard, BadImage, BadScript, BadSource, Told, Unknown, Stops, Gives, is_demo, is_none_script, board_told, secure_told, nonsecure_told, step_limit}
 
 -- nothing that is settled stops the command

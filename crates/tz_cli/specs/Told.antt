@@ -19,12 +19,12 @@ use Rattle.tz_elf.specs.PlainImage.{plain_text}
 use Rattle.tz_elf.specs.ElfImage.{elf_bytes}
 use Rattle.tz_asm.specs.Refusals.{Refusal as AsmRefusal}
 use Rattle.tz_asm.specs.Told.{assembled}
-use Rattle.tz_edge.specs.Run.{RunWords}
-use Rattle.tz_edge.specs.Asm.{AsmWords}
-use Rattle.tz_edge.specs.Dis.{DisWords}
-use Rattle.tz_edge.specs.Commands.{Command, Run, Asm, Dis}
-use Rattle.tz_edge.specs.declared.words.asm.Form.{Form}
-use Rattle.tz_edge.specs.declared.words.asm.Form.TheVariants.{Hex, Elf}
+use Rattle.tz_cli.specs.Run.{RunWords}
+use Rattle.tz_cli.specs.Asm.{AsmWords}
+use Rattle.tz_cli.specs.Dis.{DisWords}
+use Rattle.tz_cli.specs.Commands.{Command, Run, Asm, Dis}
+use Rattle.tz_cli.specs.declared.words.asm.Form.{Form}
+use Rattle.tz_cli.specs.declared.words.asm.Form.TheVariants.{Hex, Elf}
 
 -- why a command stops before it begins
 pub data Stop : Type 0 where

@@ -2,15 +2,15 @@
 
 ghost use Rattle.std.specs.Prelude.{◌≡◌, ◌<◌, ◌≤◌, ◌+◌, ◌++◌, ◌^◌, IfOk, Err, length, Some};
 ghost use Rattle.tz_model.specs.Outside.{HasCause, Put};
-ghost use Rattle.tz_edge.specs.Asm.{asm_in, asm_names};
-ghost use Rattle.tz_edge.specs.Commands.{Asm, longest};
+ghost use Rattle.tz_cli.specs.Asm.{asm_in, asm_names};
+ghost use Rattle.tz_cli.specs.Commands.{Asm, longest};
 ghost use Rattle.tz_cli.specs.Told.{image_bytes};
 ghost use Rattle.tz_cli.specs.Answer.{Answer};
 
 use crate::files::{load_assembled, names_of_asm};
 use crate::lines::{refuse, refuse_fault};
+use crate::words::{AsmWords, Form};
 use std::alloc::{AllocError, Global};
-use tz_edge::{AsmWords, Form};
 use tz_elf::{write_image, write_plain};
 use tz_model::{Image, Shelf, Sink, SinkError};
 

@@ -1,14 +1,14 @@
 //! The command `dis`: its files, the lines of the image, and the status.
 
 ghost use Rattle.std.specs.Prelude.{◌+◌, Some};
-ghost use Rattle.tz_edge.specs.Dis.{dis_in, dis_names};
-ghost use Rattle.tz_edge.specs.Commands.{Dis, longest};
+ghost use Rattle.tz_cli.specs.Dis.{dis_in, dis_names};
+ghost use Rattle.tz_cli.specs.Commands.{Dis, longest};
 ghost use Rattle.tz_cli.specs.Answer.{Answer};
 
 use crate::files::{load_listed, names_of_dis};
 use crate::lines::refuse_fault;
+use crate::words::DisWords;
 use std::alloc::Global;
-use tz_edge::DisWords;
 use tz_model::{Shelf, Sink};
 use tz_text::disassemble;
 

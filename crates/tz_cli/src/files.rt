@@ -5,19 +5,19 @@ ghost use Rattle.std.specs.Str.{bytes_eq};
 ghost use Rattle.tz_model.specs.Outside.{Held, Absent, Rose};
 ghost use Rattle.tz_cli.specs.declared.stops.File.TheVariants as files;
 ghost use Rattle.tz_cli.specs.declared.stops.LoadError.TheVariants as faults;
-ghost use Rattle.tz_edge.specs.Run.{run_in};
-ghost use Rattle.tz_edge.specs.Asm.{asm_in};
-ghost use Rattle.tz_edge.specs.Dis.{dis_in};
+ghost use Rattle.tz_cli.specs.Run.{run_in};
+ghost use Rattle.tz_cli.specs.Asm.{asm_in};
+ghost use Rattle.tz_cli.specs.Dis.{dis_in};
 ghost use Rattle.tz_cli.specs.Told.{file_with, board_told, image_told, script_told, source_told, start_told, listed_told, is_demo, is_none_script, TooLong};
 ghost use Rattle.tz_cli.specs.Reads.{AsImage};
 ghost use Rattle.tz_cli.specs.Answer.{Allows, AllowsStop};
 ghost use Rattle.tz_cli.specs.Faults.{form_of, name_in, names_read, run_files, asm_files, dis_files, unread_in, IsReached, IsListed, IsSource, IsStageFault, IsFault, start_in};
 
 use crate::stops::{File, FileNames, LoadError};
+use crate::words::{AsmWords, DisWords, RunWords};
 use std::alloc::{AllocError, Global};
 use tz_asm::assemble;
 use tz_board::{Script, demo_board, read_board, read_script};
-use tz_edge::{AsmWords, DisWords, RunWords};
 use tz_elf::read_image;
 use tz_model::{Board, Image, Shelf, ShelfError, Side};
 

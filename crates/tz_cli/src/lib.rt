@@ -2,14 +2,25 @@
 //! image from its source, or an image as the text of its instructions.
 //!
 //! `top` does all that the program does, over any shelf of files and any two sinks.
+//!
+//! The edge of the program is `words`, `shelf` and `output`. `words` reads the words of the command line by
+//! `clap`, and says all that they mean. `shelf` and `output` stand over the system and tell no contents, since
+//! no proof knows what a file holds or a stream takes. They are thin, and count a fault where the system
+//! answers an error.
 #![tactic(auto)]
 
 mod asm;
 mod dis;
 mod files;
 mod lines;
+mod output;
 mod program;
 mod run;
+mod shelf;
 mod stops;
+mod words;
 
+pub use output::OutSink;
 pub use program::top;
+pub use shelf::{FileShelf, read_to_limit};
+pub use words::{AsmWords, Command, DisWords, Form, RunWords, command_words};

@@ -6,7 +6,7 @@ ghost use Rattle.std.specs.Prelude.{◌≡◌, ◌⊎◌, ◌≤◌, ◌+◌, �
 ghost use Rattle.tz_elf.specs.Images.{Refusal};
 ghost use Rattle.tz_board.specs.BoardErrors.{refusal_of, place_of};
 ghost use Rattle.tz_board.specs.ScriptErrors.{script_refusal_of};
-ghost use Rattle.tz_edge.specs.Commands.{longest};
+ghost use Rattle.tz_cli.specs.Commands.{longest};
 ghost use Rattle.tz_cli.specs.Answer.{IsTold};
 ghost use Rattle.tz_cli.specs.Lines.{board_code, image_code, script_code, source_code, place_text, refused_line, unread_line, limit_line};
 ghost use Rattle.tz_cli.specs.Faults.{Names, image_refusal, source_refusal, line_with, list_of, names_read, status_with, stop_of, code_with};

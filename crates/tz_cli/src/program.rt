@@ -15,8 +15,8 @@ ghost use Rattle.tz_elf.specs.Images.{image_of};
 ghost use Rattle.tz_twin.specs.Seen.{Agree};
 ghost use Rattle.tz_twin.specs.Trace.{text_from};
 ghost use Rattle.tz_run.specs.Events.{events_of};
-ghost use Rattle.tz_edge.specs.Run.{RunWords};
-ghost use Rattle.tz_edge.specs.Commands.{Run, command_of};
+ghost use Rattle.tz_cli.specs.Run.{RunWords};
+ghost use Rattle.tz_cli.specs.Commands.{Run, command_of};
 ghost use Rattle.tz_cli.specs.Told.{Stop, Job, Task, Stops, Gives, IsDone, told, job_told, trace_of, state_of};
 ghost use Rattle.tz_cli.specs.Reads.{reads_of};
 ghost use Rattle.tz_cli.specs.Lines.{stop_line, status_of};
@@ -26,8 +26,8 @@ use crate::asm::asm_files;
 use crate::dis::dis_files;
 use crate::lines::refuse;
 use crate::run::run_files;
+use crate::words::{Command, command_words};
 use std::alloc::Global;
-use tz_edge::{Command, command_words};
 use tz_model::{Shelf, Sink};
 
 /// Does all that the program does, and answers its status.

@@ -2,17 +2,17 @@
 
 ghost use Rattle.std.specs.Prelude.{◌+◌, [], Some, IfOk, IfErr};
 ghost use Rattle.tz_model.specs.Outside.{Gains};
-ghost use Rattle.tz_edge.specs.Run.{run_in, run_names};
-ghost use Rattle.tz_edge.specs.Commands.{Run, longest};
+ghost use Rattle.tz_cli.specs.Run.{run_in, run_names};
+ghost use Rattle.tz_cli.specs.Commands.{Run, longest};
 ghost use Rattle.tz_cli.specs.Told.{trace_of};
 ghost use Rattle.tz_cli.specs.Answer.{Answer, IsTold};
 ghost use Rattle.tz_cli.specs.Faults.{start_in};
 
 use crate::files::{Files, load, names_of_run};
 use crate::lines::{refuse, refuse_fault};
+use crate::words::RunWords;
 use std::alloc::{AllocError, Global};
 use tz_core::Machine;
-use tz_edge::RunWords;
 use tz_model::{Shelf, Sink};
 use tz_run::run;
 

@@ -8,8 +8,7 @@ use std::alloc::{AllocError, Global};
 use std::env::{self, Env};
 use std::io::ErrorKind;
 use std::process::ExitCode;
-use tz_cli::top;
-use tz_edge::{FileShelf, OutSink};
+use tz_cli::{FileShelf, OutSink, top};
 use tz_model::Sink;
 
 /// How many bytes of standard output are kept before they go out.

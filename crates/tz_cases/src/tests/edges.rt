@@ -4,7 +4,7 @@ use crate::tests::doubles::answer_of;
 use std::alloc::{AllocError, Global};
 use std::io::{self, ErrorKind, Read, Write};
 use std::test::Fail;
-use tz_edge::{OutSink, read_to_limit};
+use tz_cli::{OutSink, read_to_limit};
 use tz_model::Sink;
 
 /// A reader whose first reads are interrupted.

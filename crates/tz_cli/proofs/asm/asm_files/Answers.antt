@@ -1,7 +1,7 @@
 -- Each exit is its answer.
 use Rattle.std.proofs.Common.{◌∙◌, refl, arith, subst, List, ℕ, Ok, Err}
 use Rattle.tz_model.specs.Outside.{Put}
-use Rattle.tz_edge.specs.Asm.{asm_in}
+use Rattle.tz_cli.specs.Asm.{asm_in}
 use Rattle.tz_cli.specs.Told.{asm_task}
 use Rattle.tz_cli.specs.Faults.{IsSource, asm_files}
 use Rattle.tz_cli.proofs.Exits.{gains_nothing, answer_memory, answer_told, answer_put, answer_cut, asm_loads, asm_of_segments, failed_alone}

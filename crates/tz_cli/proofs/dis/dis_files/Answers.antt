@@ -1,6 +1,6 @@
 -- Each exit is its answer.
 use Rattle.std.proofs.Common.{refl}
-use Rattle.tz_edge.specs.Dis.{dis_in}
+use Rattle.tz_cli.specs.Dis.{dis_in}
 use Rattle.tz_cli.specs.Told.{dis_task}
 use Rattle.tz_cli.specs.Faults.{IsListed, dis_files}
 use Rattle.tz_cli.proofs.Exits.{gains_nothing, answer_told, answer_put, answer_cut, dis_loads, dis_of_image, failed_alone}

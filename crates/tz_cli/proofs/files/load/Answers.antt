@@ -1,7 +1,7 @@
 -- Each exit by the files that were read before it.
 use Rattle.std.proofs.Common.{◌≡◌, ◌∙◌, refl, ap, arith, []}
 use Rattle.tz_model.specs.Board.{BoardValue}
-use Rattle.tz_edge.specs.Run.{run_in}
+use Rattle.tz_cli.specs.Run.{run_in}
 use Rattle.tz_cli.specs.Answer.{Shelved}
 use Rattle.tz_cli.specs.Told.{Start, no_image}
 use Rattle.tz_cli.proofs.Stages.{Within, board_fault, secure_fault, nonsecure_fault, script_fault, board_allowed, secure_allowed, nonsecure_allowed, script_allowed}

@@ -1,6 +1,6 @@
 -- Each fault by the files that were read before it.
 use Rattle.std.proofs.Common.{refl, arith}
-use Rattle.tz_edge.specs.Dis.{dis_in}
+use Rattle.tz_cli.specs.Dis.{dis_in}
 use Rattle.tz_cli.specs.Answer.{Shelved}
 use Rattle.tz_cli.proofs.Stages.{Within, listed_board_fault, listed_fault}
 use Rattle.tz_cli.proofs.files.load_listed.Goals as goal

@@ -1,10 +1,10 @@
 -- Each exit is its answer.
 use Rattle.std.proofs.Common.{refl, sym, arith, map, Global}
 use Rattle.std.specs.String.{string_bytes}
-use Rattle.tz_edge.specs.Commands.{Run, Asm, Dis}
-use Rattle.tz_edge.specs.Run.{run_in}
-use Rattle.tz_edge.specs.Asm.{asm_in}
-use Rattle.tz_edge.specs.Dis.{dis_in}
+use Rattle.tz_cli.specs.Commands.{Run, Asm, Dis}
+use Rattle.tz_cli.specs.Run.{run_in}
+use Rattle.tz_cli.specs.Asm.{asm_in}
+use Rattle.tz_cli.specs.Dis.{dis_in}
 use Rattle.tz_cli.proofs.Exits.{gains_nothing, answer_words, answer_memory, answer_command}
 use Rattle.tz_cli.proofs.program.answer.Goals as goal
 

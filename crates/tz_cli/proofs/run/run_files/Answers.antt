@@ -1,6 +1,6 @@
 -- Each exit is its answer.
 use Rattle.std.proofs.Common.{refl, arith}
-use Rattle.tz_edge.specs.Run.{run_in}
+use Rattle.tz_cli.specs.Run.{run_in}
 use Rattle.tz_cli.specs.Told.{run_task}
 use Rattle.tz_cli.specs.Faults.{IsReached, run_files, start_in}
 use Rattle.tz_cli.proofs.Exits.{gains_nothing, answer_memory, answer_steps, answer_told, answer_task, run_loads, run_of_start}

@@ -1,0 +1,37 @@
+-- What the words behind `asm` mean.
+use Rattle.std.specs.Prelude.{ℕ, List, [], ◌∷◌, Option, Some, None, codes, option_and_then}
+use Rattle.tz_cli.specs.Choices.{chosen_of}
+use Rattle.tz_cli.specs.Parts.{Text, Parts, AnyWord, parts_of}
+use Rattle.tz_cli.specs.declared.words.asm.AsmWords.{AsmWords as ReadWords}
+use Rattle.tz_cli.specs.declared.words.asm.Form.{Form}
+use Rattle.tz_cli.specs.declared.words.asm.Form.TheVariants.{Hex, Elf}
+
+-- what `asm` is told: the name of a file, and the form of the image
+pub record AsmWords : Type 0 where
+  pub source : List ℕ
+  pub form : Form
+
+-- what the program read, as such a record
+abbrev pub asm_in : ReadWords → AsmWords
+asm_in w = record { source = w.source.now; form = w.form }
+
+-- the form that the option's values choose: one at most, and `hex` where there is none
+abbrev pub form_of : List Text → Option Form
+form_of values = chosen_of (codes "hex") Hex (codes "elf") Elf values
+
+-- one positional word, and a form
+abbrev pub asm_with : Option Form → List Text → Option AsmWords
+asm_with (Some form) (source ∷ []) = Some (record { source = source; form = form })
+asm_with _ _ = None
+
+-- what these parts tell `asm`
+abbrev pub asm_parts : Parts → Option AsmWords
+asm_parts p = asm_with (form_of p.values) p.positionals
+
+-- the words behind `asm`, which has the option `--form`
+abbrev pub asm_behind : List Text → Option AsmWords
+asm_behind words = option_and_then asm_parts (parts_of (codes "form") AnyWord words)
+
+-- the names of files
+abbrev pub asm_names : AsmWords → List Text
+asm_names a = a.source ∷ []

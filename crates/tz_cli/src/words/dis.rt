@@ -1,0 +1,68 @@
+//! The words of `dis`: two names of files and a side.
+
+ghost use Rattle.std.specs.Prelude.{◌≡◌, [], IfOk, map, string_bytes, option_map};
+ghost use Rattle.tz_cli.specs.Dis.{dis_behind, dis_in, dis_parts, side_named};
+ghost use Rattle.tz_cli.specs.Found.{parts_in};
+
+use crate::words::leaf::matches;
+use clap::ArgMatches;
+use std::alloc::{AllocError, Global};
+use tz_model::Side;
+
+/// No value: `dis` has no option.
+static NO_VALUES: [&str; 0] = [];
+
+/// What `dis` is told.
+#[derive(Clone, Copy)]
+pub struct DisWords<'a> {
+    /// The name of the board's file.
+    pub board: &'a str,
+    /// The name of the image's file.
+    pub image: &'a str,
+    /// The side that the image is of.
+    pub side: Side,
+}
+
+/// The side of a word.
+fn side_in(word: &str) -> Option<Side>
+    ensures { result ≡ side_named word.now }
+{
+    match word {
+        "s" => Some(Side::Secure),
+        "ns" => Some(Side::NonSecure),
+        _ => None,
+    }
+}
+
+/// The words of `dis` in what clap found.
+fn dis_found<'a>(found: &ArgMatches<'a>) -> Option<DisWords<'a>>
+    ensures { option_map dis_in result ≡ dis_parts (parts_in found.now) }
+{
+    if let Some(values) = found.get_strs("option")
+        && !values.is_empty()
+    {
+        return None;
+    }
+    let words = found.get_strs("words")?;
+    if words.len() != 3 {
+        return None;
+    }
+    Some(DisWords {
+        board: words[0],
+        image: words[1],
+        side: side_in(words[2])?,
+    })
+}
+
+/// `BOARD IMAGE SIDE`, as they stand behind `dis`; `None` where they are refused.
+pub fn words_behind_dis<'a>(
+    alloc: Global,
+    words: &'a [String],
+) -> Result<Option<DisWords<'a>>, AllocError>
+    ensures { IfOk result (λ r. option_map dis_in r ≡ dis_behind (map string_bytes words.now)) }
+{
+    match matches(alloc, "", NO_VALUES.as_slice(), words)? {
+        Some(found) => Ok(dis_found(&found)),
+        None => Ok(None),
+    }
+}

@@ -1,9 +1,0 @@
-pub mod Parts
-pub mod Leaf
-pub mod Found
-pub mod Counts
-pub mod Choices
-pub mod Run
-pub mod Asm
-pub mod Dis
-pub mod Commands
