@@ -1,10 +1,9 @@
-use Rattle.std.proofs.Common.{arith, rules, tests}
-use Rattle.std.proofs.lemmas.Grind.{common_steps, elements}
+use Rattle.std.proofs.Common.{rules, tests}
 use Rattle.tz_frames.proofs.machine.of_side.Goals as goal
 
--- What the tactics try, by name: a body that is refused is then told without a search for what to offer.
+-- What the tactics try first, by name: a body that is refused is then told without a search for what to offer.
 pub returns-in-Secure : goal.returns-in-Secure
-returns-in-Secure c = first_of (assumption, search (tests, rules), grind (arith, common_steps), grind (arith, elements))
+returns-in-Secure c = first_of (assumption, search (tests, rules))
 
 pub returns-in-NonSecure : goal.returns-in-NonSecure
-returns-in-NonSecure c = first_of (assumption, search (tests, rules), grind (arith, common_steps), grind (arith, elements))
+returns-in-NonSecure c = first_of (assumption, search (tests, rules))

@@ -1,13 +1,12 @@
-use Rattle.std.proofs.Common.{arith, rules, tests}
-use Rattle.std.proofs.lemmas.Grind.{common_steps, elements}
+use Rattle.std.proofs.Common.{rules, tests}
 use Rattle.tz_frames.proofs.machine.vector_word.Goals as goal
 
--- What the tactics try, by name: a body that is refused is then told without a search for what to offer.
+-- What the tactics try first, by name: a body that is refused is then told without a search for what to offer.
 pub returns-then-not-may_touch : goal.returns-then-not-may_touch
-returns-then-not-may_touch c = first_of (assumption, search (tests, rules), grind (arith, common_steps), grind (arith, elements))
+returns-then-not-may_touch c = first_of (assumption, search (tests, rules))
 
 pub returns-in-Ok : goal.returns-in-Ok
-returns-in-Ok c = first_of (assumption, search (tests, rules), grind (arith, common_steps), grind (arith, elements))
+returns-in-Ok c = first_of (assumption, search (tests, rules))
 
 pub returns-in-Err : goal.returns-in-Err
-returns-in-Err c = first_of (assumption, search (tests, rules), grind (arith, common_steps), grind (arith, elements))
+returns-in-Err c = first_of (assumption, search (tests, rules))

@@ -1,16 +1,15 @@
-use Rattle.std.proofs.Common.{arith, rules, tests}
-use Rattle.std.proofs.lemmas.Grind.{common_steps, elements}
+use Rattle.std.proofs.Common.{rules, tests}
 use Rattle.tz_frames.proofs.machine.BusFramesFrames.frame_store.Goals as goal
 
--- What the tactics try, by name: a body that is refused is then told without a search for what to offer.
+-- What the tactics try first, by name: a body that is refused is then told without a search for what to offer.
 pub returns-clause-answer : goal.returns-clause-answer
-returns-clause-answer c = first_of (assumption, search (tests, rules), grind (arith, common_steps), grind (arith, elements))
+returns-clause-answer c = first_of (assumption, search (tests, rules))
 
 pub returns-clause-fault : goal.returns-clause-fault
-returns-clause-fault c = first_of (assumption, search (tests, rules), grind (arith, common_steps), grind (arith, elements))
+returns-clause-fault c = first_of (assumption, search (tests, rules))
 
 pub returns-clause-room : goal.returns-clause-room
-returns-clause-room c = first_of (assumption, search (tests, rules), grind (arith, common_steps), grind (arith, elements))
+returns-clause-room c = first_of (assumption, search (tests, rules))
 
 pub returns-clause-lent : goal.returns-clause-lent
-returns-clause-lent c = first_of (assumption, search (tests, rules), grind (arith, common_steps), grind (arith, elements))
+returns-clause-lent c = first_of (assumption, search (tests, rules))
