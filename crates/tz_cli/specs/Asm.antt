@@ -1,6 +1,6 @@
 -- What the words behind `asm` mean.
 use Rattle.std.specs.Prelude.{ℕ, List, [], ◌∷◌, Option, Some, None, codes, option_and_then}
-use Rattle.tz_cli.specs.Choices.{chosen_of}
+use Rattle.tz_cli.specs.Choices.{named_of, chosen_of}
 use Rattle.tz_cli.specs.Parts.{Text, Parts, AnyWord, parts_of}
 use Rattle.tz_cli.specs.declared.words.asm.AsmWords.{AsmWords as ReadWords}
 use Rattle.tz_cli.specs.declared.words.asm.Form.{Form}
@@ -14,6 +14,10 @@ pub record AsmWords : Type 0 where
 -- what the program read, as such a record
 abbrev pub asm_in : ReadWords → AsmWords
 asm_in w = record { source = w.source.now; form = w.form }
+
+-- the form of a name
+abbrev pub form_named : Text → Option Form
+form_named name = named_of (codes "hex") Hex (codes "elf") Elf name
 
 -- the form that the option's values choose: one at most, and `hex` where there is none
 abbrev pub form_of : List Text → Option Form

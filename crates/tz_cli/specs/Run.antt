@@ -3,7 +3,7 @@ use Rattle.std.specs.Prelude.{ℕ, List, [], ◌∷◌, Option, Some, None, code
 use Rattle.tz_model.specs.declared.report.View.{View}
 use Rattle.tz_model.specs.declared.report.View.TheVariants.{Ns, All}
 use Rattle.tz_cli.specs.Parts.{Text, Parts, AnyWord, parts_of}
-use Rattle.tz_cli.specs.Choices.{chosen_of}
+use Rattle.tz_cli.specs.Choices.{named_of, chosen_of}
 use Rattle.tz_cli.specs.Counts.{count_of}
 use Rattle.tz_cli.specs.declared.words.run.RunWords.{RunWords as ReadWords}
 
@@ -26,6 +26,10 @@ run_in w = record {
   steps = w.steps;
   view = w.view;
 }
+
+-- the view of a name
+abbrev pub view_named : Text → Option View
+view_named name = named_of (codes "ns") Ns (codes "all") All name
 
 -- the view that the option's values choose: one at most, and `ns` where there is none
 abbrev pub view_of : List Text → Option View

@@ -5,10 +5,7 @@
 //! Whether a named file is there, and whether a number is past its limit, isn't known here.
 
 ghost use Rattle.std.specs.Prelude.{◌≡◌, IfOk, map, string_bytes, option_map};
-ghost use Rattle.tz_cli.specs.Asm.{asm_behind};
-ghost use Rattle.tz_cli.specs.Commands.{Run, Asm, Dis, command_in, command_of};
-ghost use Rattle.tz_cli.specs.Dis.{dis_behind};
-ghost use Rattle.tz_cli.specs.Run.{run_behind};
+ghost use Rattle.tz_cli.specs.Commands.{command_in, command_of};
 
 mod asm;
 mod counts;
@@ -16,9 +13,9 @@ mod dis;
 mod leaf;
 mod run;
 
-use crate::words::asm::words_behind_asm;
-use crate::words::dis::words_behind_dis;
-use crate::words::run::words_behind_run;
+use crate::words::asm::asm_command;
+use crate::words::dis::dis_command;
+use crate::words::run::run_command;
 pub use asm::{AsmWords, Form};
 pub use dis::DisWords;
 pub use run::RunWords;
@@ -33,36 +30,6 @@ pub enum Command<'a> {
     Asm(AsmWords<'a>),
     /// An image as the text of its instructions.
     Dis(DisWords<'a>),
-}
-
-/// The command `run` of the words behind its own.
-fn run_command<'a>(alloc: Global, words: &'a [String]) -> Result<Option<Command<'a>>, AllocError>
-    ensures { IfOk result (λ r. option_map command_in r ≡ option_map Run (run_behind (map string_bytes words.now))) }
-{
-    match words_behind_run(alloc, words)? {
-        Some(run) => Ok(Some(Command::Run(run))),
-        None => Ok(None),
-    }
-}
-
-/// The command `asm` of the words behind its own.
-fn asm_command<'a>(alloc: Global, words: &'a [String]) -> Result<Option<Command<'a>>, AllocError>
-    ensures { IfOk result (λ r. option_map command_in r ≡ option_map Asm (asm_behind (map string_bytes words.now))) }
-{
-    match words_behind_asm(alloc, words)? {
-        Some(asm) => Ok(Some(Command::Asm(asm))),
-        None => Ok(None),
-    }
-}
-
-/// The command `dis` of the words behind its own.
-fn dis_command<'a>(alloc: Global, words: &'a [String]) -> Result<Option<Command<'a>>, AllocError>
-    ensures { IfOk result (λ r. option_map command_in r ≡ option_map Dis (dis_behind (map string_bytes words.now))) }
-{
-    match words_behind_dis(alloc, words)? {
-        Some(dis) => Ok(Some(Command::Dis(dis))),
-        None => Ok(None),
-    }
 }
 
 /// The command of a command line, which begins with the program's name; `None` where the words are

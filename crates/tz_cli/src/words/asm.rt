@@ -1,9 +1,11 @@
 //! The words of `asm`: the name of a file, and the option `--form`.
 
-ghost use Rattle.std.specs.Prelude.{◌≡◌, IfOk, map, string_bytes, option_map, codes};
-ghost use Rattle.tz_cli.specs.Asm.{asm_behind, asm_in, asm_parts, form_of};
-ghost use Rattle.tz_cli.specs.Found.{parts_in, values_in};
+ghost use Rattle.std.specs.Prelude.{◌≡◌, [], IfOk, map, string_bytes, option_map, unwrap_or};
+ghost use Rattle.tz_cli.specs.Asm.{asm_behind, asm_parts, form_named, form_of};
+ghost use Rattle.tz_cli.specs.Commands.{Asm, command_in};
+ghost use Rattle.tz_cli.specs.Found.{parts_in};
 
+use crate::words::Command;
 use crate::words::leaf::matches;
 use clap::ArgMatches;
 use std::alloc::{AllocError, Global};
@@ -28,48 +30,51 @@ pub struct AsmWords<'a> {
     pub form: Form,
 }
 
-/// The form that the option's values choose.
-fn form_in(found: &ArgMatches) -> Option<Form>
-    ensures { result ≡ form_of (values_in found.now (codes "option")) }
+/// The form of a name.
+fn form_named(name: &str) -> Option<Form>
+    ensures { result ≡ form_named name.now }
 {
-    let Some(values) = found.get_strs("option") else {
-        return Some(Form::Hex);
-    };
+    match name {
+        "hex" => Some(Form::Hex),
+        "elf" => Some(Form::Elf),
+        _ => None,
+    }
+}
+
+/// The form that the option's values choose.
+fn form_in(values: Option<&[&str]>) -> Option<Form>
+    ensures { result ≡ form_of (unwrap_or (option_map (λ s. map (λ v. v.now) s.now) values.entry) []) }
+{
     match values {
-        [] => Some(Form::Hex),
-        [name] => match *name {
-            "hex" => Some(Form::Hex),
-            "elf" => Some(Form::Elf),
-            _ => None,
-        },
+        None | Some([]) => Some(Form::Hex),
+        Some([name]) => form_named(name),
         _ => None,
     }
 }
 
 /// The words of `asm` in what clap found.
-fn asm_found<'a>(found: &ArgMatches<'a>) -> Option<AsmWords<'a>>
-    ensures { option_map asm_in result ≡ asm_parts (parts_in found.now) }
+fn asm_found<'a>(found: &ArgMatches<'a>) -> Option<Command<'a>>
+    ensures { option_map command_in result ≡ option_map Asm (asm_parts (parts_in found.now)) }
 {
-    let form = form_in(found)?;
-    let words = found.get_strs("words")?;
-    if words.len() != 1 {
+    let Some(form) = form_in(found.get_strs("option")) else {
         return None;
+    };
+    match found.get_strs("words") {
+        Some(&[source]) => Some(Command::Asm(AsmWords { source, form })),
+        _ => None,
     }
-    Some(AsmWords {
-        source: words[0],
-        form,
-    })
 }
 
 /// `SOURCE [--form hex or elf]`, as they stand behind `asm`; `None` where they are refused.
-pub fn words_behind_asm<'a>(
+pub fn asm_command<'a>(
     alloc: Global,
     words: &'a [String],
-) -> Result<Option<AsmWords<'a>>, AllocError>
-    ensures { IfOk result (λ r. option_map asm_in r ≡ asm_behind (map string_bytes words.now)) }
+) -> Result<Option<Command<'a>>, AllocError>
+    ensures { IfOk result (λ r. option_map command_in r ≡ option_map Asm (asm_behind (map string_bytes words.now))) }
 {
-    match matches(alloc, "form", FORMS.as_slice(), words)? {
-        Some(found) => Ok(asm_found(&found)),
-        None => Ok(None),
+    match matches(alloc, "form", FORMS.as_slice(), words) {
+        Ok(Some(found)) => Ok(asm_found(&found)),
+        Ok(None) => Ok(None),
+        Err(error) => Err(error),
     }
 }

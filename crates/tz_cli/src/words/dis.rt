@@ -1,9 +1,11 @@
 //! The words of `dis`: two names of files and a side.
 
 ghost use Rattle.std.specs.Prelude.{◌≡◌, [], IfOk, map, string_bytes, option_map};
-ghost use Rattle.tz_cli.specs.Dis.{dis_behind, dis_in, dis_parts, side_named};
+ghost use Rattle.tz_cli.specs.Commands.{Dis, command_in};
+ghost use Rattle.tz_cli.specs.Dis.{dis_behind, dis_parts, side_named};
 ghost use Rattle.tz_cli.specs.Found.{parts_in};
 
+use crate::words::Command;
 use crate::words::leaf::matches;
 use clap::ArgMatches;
 use std::alloc::{AllocError, Global};
@@ -35,34 +37,33 @@ fn side_in(word: &str) -> Option<Side>
 }
 
 /// The words of `dis` in what clap found.
-fn dis_found<'a>(found: &ArgMatches<'a>) -> Option<DisWords<'a>>
-    ensures { option_map dis_in result ≡ dis_parts (parts_in found.now) }
+fn dis_found<'a>(found: &ArgMatches<'a>) -> Option<Command<'a>>
+    ensures { option_map command_in result ≡ option_map Dis (dis_parts (parts_in found.now)) }
 {
     if let Some(values) = found.get_strs("option")
         && !values.is_empty()
     {
         return None;
     }
-    let words = found.get_strs("words")?;
-    if words.len() != 3 {
+    let Some(&[board, image, side]) = found.get_strs("words") else {
         return None;
+    };
+    match side_in(side) {
+        Some(side) => Some(Command::Dis(DisWords { board, image, side })),
+        None => None,
     }
-    Some(DisWords {
-        board: words[0],
-        image: words[1],
-        side: side_in(words[2])?,
-    })
 }
 
 /// `BOARD IMAGE SIDE`, as they stand behind `dis`; `None` where they are refused.
-pub fn words_behind_dis<'a>(
+pub fn dis_command<'a>(
     alloc: Global,
     words: &'a [String],
-) -> Result<Option<DisWords<'a>>, AllocError>
-    ensures { IfOk result (λ r. option_map dis_in r ≡ dis_behind (map string_bytes words.now)) }
+) -> Result<Option<Command<'a>>, AllocError>
+    ensures { IfOk result (λ r. option_map command_in r ≡ option_map Dis (dis_behind (map string_bytes words.now))) }
 {
-    match matches(alloc, "", NO_VALUES.as_slice(), words)? {
-        Some(found) => Ok(dis_found(&found)),
-        None => Ok(None),
+    match matches(alloc, "", NO_VALUES.as_slice(), words) {
+        Ok(Some(found)) => Ok(dis_found(&found)),
+        Ok(None) => Ok(None),
+        Err(error) => Err(error),
     }
 }

@@ -66,7 +66,10 @@ pub fn matches<'a>(
     ensures { IfOk result (λ r. option_map parts_in r
         ≡ with_one (is_one_of (map (λ s. s.now) values.now)) (parts_of option.now AnyWord (map string_bytes words.now))) }
 {
-    let command = leaf(alloc, option, values)?;
+    let command = match leaf(alloc, option, values) {
+        Ok(command) => command,
+        Err(error) => return Err(error),
+    };
     match command.try_get_matches_from(words) {
         Ok(found) => Ok(Some(found)),
         Err(error) => match error.kind() {

@@ -1,9 +1,11 @@
 //! The words of `run`: four names of files, a number of steps, and the option `--view`.
 
-ghost use Rattle.std.specs.Prelude.{◌≡◌, IfOk, map, string_bytes, option_map, codes};
-ghost use Rattle.tz_cli.specs.Found.{parts_in, values_in};
-ghost use Rattle.tz_cli.specs.Run.{run_behind, run_in, run_parts, view_of};
+ghost use Rattle.std.specs.Prelude.{◌≡◌, [], IfOk, map, string_bytes, option_map, unwrap_or};
+ghost use Rattle.tz_cli.specs.Found.{parts_in};
+ghost use Rattle.tz_cli.specs.Commands.{Run, command_in};
+ghost use Rattle.tz_cli.specs.Run.{run_behind, run_parts, view_named, view_of};
 
+use crate::words::Command;
 use crate::words::counts::count_in;
 use crate::words::leaf::matches;
 use clap::ArgMatches;
@@ -29,53 +31,62 @@ pub struct RunWords<'a> {
     pub view: View,
 }
 
-/// The view that the option's values choose.
-fn view_in(found: &ArgMatches) -> Option<View>
-    ensures { result ≡ view_of (values_in found.now (codes "option")) }
+/// The view of a name.
+fn view_named(name: &str) -> Option<View>
+    ensures { result ≡ view_named name.now }
 {
-    let Some(values) = found.get_strs("option") else {
-        return Some(View::Ns);
-    };
+    match name {
+        "ns" => Some(View::Ns),
+        "all" => Some(View::All),
+        _ => None,
+    }
+}
+
+/// The view that the option's values choose.
+fn view_in(values: Option<&[&str]>) -> Option<View>
+    ensures { result ≡ view_of (unwrap_or (option_map (λ s. map (λ v. v.now) s.now) values.entry) []) }
+{
     match values {
-        [] => Some(View::Ns),
-        [name] => match *name {
-            "ns" => Some(View::Ns),
-            "all" => Some(View::All),
-            _ => None,
-        },
+        None | Some([]) => Some(View::Ns),
+        Some([name]) => view_named(name),
         _ => None,
     }
 }
 
 /// The words of `run` in what clap found.
-fn run_found<'a>(found: &ArgMatches<'a>) -> Option<RunWords<'a>>
-    ensures { option_map run_in result ≡ run_parts (parts_in found.now) }
+fn run_found<'a>(found: &ArgMatches<'a>) -> Option<Command<'a>>
+    ensures { option_map command_in result ≡ option_map Run (run_parts (parts_in found.now)) }
 {
-    let view = view_in(found)?;
-    let words = found.get_strs("words")?;
-    if words.len() != 5 {
+    let Some(view) = view_in(found.get_strs("option")) else {
         return None;
-    }
-    Some(RunWords {
-        board: words[0],
-        secure: words[1],
-        nonsecure: words[2],
-        script: words[3],
-        steps: count_in(words[4])?,
+    };
+    let Some(&[board, secure, nonsecure, script, steps]) = found.get_strs("words") else {
+        return None;
+    };
+    let Some(steps) = count_in(steps) else {
+        return None;
+    };
+    Some(Command::Run(RunWords {
+        board,
+        secure,
+        nonsecure,
+        script,
+        steps,
         view,
-    })
+    }))
 }
 
 /// `BOARD SECURE NONSECURE SCRIPT STEPS [--view ns or all]`, as they stand behind `run`; `None` where
 /// they are refused.
-pub fn words_behind_run<'a>(
+pub fn run_command<'a>(
     alloc: Global,
     words: &'a [String],
-) -> Result<Option<RunWords<'a>>, AllocError>
-    ensures { IfOk result (λ r. option_map run_in r ≡ run_behind (map string_bytes words.now)) }
+) -> Result<Option<Command<'a>>, AllocError>
+    ensures { IfOk result (λ r. option_map command_in r ≡ option_map Run (run_behind (map string_bytes words.now))) }
 {
-    match matches(alloc, "view", VIEWS.as_slice(), words)? {
-        Some(found) => Ok(run_found(&found)),
-        None => Ok(None),
+    match matches(alloc, "view", VIEWS.as_slice(), words) {
+        Ok(Some(found)) => Ok(run_found(&found)),
+        Ok(None) => Ok(None),
+        Err(error) => Err(error),
     }
 }
