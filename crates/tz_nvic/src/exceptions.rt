@@ -155,14 +155,9 @@ impl Exceptions {
         ensures { self.new ≡ pended self.old slot }
     {
         let index = self.place_of(slot);
-        let state = self.at(index);
-        self.put_at(
-            index,
-            SlotState {
-                pending: true,
-                ..state
-            },
-        );
+        let mut state = self.at(index);
+        state.pending = true;
+        self.put_at(index, state);
     }
 
     /// Sets a slot not pending. The slot exists.
@@ -171,14 +166,9 @@ impl Exceptions {
         ensures { self.new ≡ unpended self.old slot }
     {
         let index = self.place_of(slot);
-        let state = self.at(index);
-        self.put_at(
-            index,
-            SlotState {
-                pending: false,
-                ..state
-            },
-        );
+        let mut state = self.at(index);
+        state.pending = false;
+        self.put_at(index, state);
     }
 
     /// Makes a slot active and not pending, as when it is taken (DDI0553, `ActivateException`). It exists.
@@ -187,15 +177,10 @@ impl Exceptions {
         ensures { self.new ≡ activated self.old slot }
     {
         let index = self.place_of(slot);
-        let state = self.at(index);
-        self.put_at(
-            index,
-            SlotState {
-                pending: false,
-                active: true,
-                ..state
-            },
-        );
+        let mut state = self.at(index);
+        state.pending = false;
+        state.active = true;
+        self.put_at(index, state);
     }
 
     /// Makes a slot not active (DDI0553, `DeActivate`). The slot exists.
@@ -204,14 +189,9 @@ impl Exceptions {
         ensures { self.new ≡ deactivated self.old slot }
     {
         let index = self.place_of(slot);
-        let state = self.at(index);
-        self.put_at(
-            index,
-            SlotState {
-                active: false,
-                ..state
-            },
-        );
+        let mut state = self.at(index);
+        state.active = false;
+        self.put_at(index, state);
     }
 
     /// Writes the priority register of a slot, all eight bits; NMI and HardFault keep theirs. It exists.
@@ -251,14 +231,9 @@ impl Exceptions {
     {
         let _interrupts = self.interrupts;
         let index = usize::from(number) + 16;
-        let state = self.at(index);
-        self.put_at(
-            index,
-            SlotState {
-                target: side,
-                ..state
-            },
-        );
+        let mut state = self.at(index);
+        state.target = side;
+        self.put_at(index, state);
     }
 
     /// Whether a slot is active. The slot exists.

@@ -5,7 +5,7 @@ ghost use Rattle.tz_regs.specs.Timers.{counts, interrupts, runs_out, counted_dow
 
 use crate::exceptions::Exceptions;
 use tz_model::Side;
-use tz_regs::{SlotState, Timer};
+use tz_regs::Timer;
 
 /// SYST_CSR.ENABLE: whether a timer counts.
 fn counts(timer: &Timer) -> bool
@@ -58,14 +58,9 @@ impl Exceptions {
         ensures { self.new ≡ pended_by timer.now index self.old }
     {
         if runs_out(timer) && interrupts(timer) {
-            let state = self.at(index);
-            self.put_at(
-                index,
-                SlotState {
-                    pending: true,
-                    ..state
-                },
-            );
+            let mut state = self.at(index);
+            state.pending = true;
+            self.put_at(index, state);
         }
     }
 

@@ -5,3 +5,6 @@ use Rattle.tz_nvic.proofs.exceptions.Exceptions.put_at.Goals as goal
 -- What the tactics try, by name: a body that is refused is then told without a search for what to offer.
 pub returns : goal.returns
 returns c = first_of (assumption, search (tests, rules), grind (arith, common_steps), grind (arith, elements))
+
+pub invariant_of-self : goal.invariant_of-self
+invariant_of-self c = first_of (assumption, search (tests, rules), grind (arith, common_steps), grind (arith, elements))
