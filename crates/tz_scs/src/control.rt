@@ -78,20 +78,14 @@ fn chosen_counted<L: Ledger>(blank: Blank, exceptions: &Exceptions) -> Option<Sl
     exceptions.chosen(&mut looks)
 }
 
-/// The exception that comes first.
-fn chosen(exceptions: &Exceptions) -> Option<Slot>
-    ensures { result ≡ chosen exceptions.now }
-{
-    chosen_counted::<Brand>(Blank::new(1), exceptions)
-}
-
 /// What ICSR shows, where `ipsr` is the number of the exception that is handled, 0 for none.
 pub(crate) fn icsr_value(exceptions: &Exceptions, side: Side, ipsr: u16) -> u32
     ensures { result ≡ icsr_value side exceptions.now ipsr }
 {
+    let first = chosen_counted::<Brand>(Blank::new(1), exceptions);
     u32::from(ipsr)
         | flag(exceptions.returns_to_base(ipsr), 11)
-        | pending_number(side, chosen(exceptions)) * 0x1000
+        | pending_number(side, first) * 0x1000
         | flag(exceptions.is_interrupt_pending(), 22)
         | pending_flag(exceptions, side, 15, 26)
         | pending_flag(exceptions, side, 14, 28)

@@ -1,7 +1,6 @@
-use Rattle.std.proofs.Common.{arith, rules, tests}
-use Rattle.std.proofs.lemmas.Grind.{common_steps, elements}
+use Rattle.std.proofs.Common.{rules, tests}
 use Rattle.tz_alu.proofs.products.signed_quotient.Goals as goal
 
--- What the tactics try, by name: a body that is refused is then told without a search for what to offer.
+-- The call that closes it, by name: a body that is refused is then told without a search for what to offer.
 pub returns : goal.returns
-returns c = first_of (assumption, search (tests, rules), grind (arith, common_steps), grind (arith, elements))
+returns c = first_of (assumption, search (tests, rules))

@@ -1,7 +1,7 @@
-use Rattle.std.proofs.Common.{arith, rules, tests}
-use Rattle.std.proofs.lemmas.Grind.{common_steps, elements}
+use Rattle.std.proofs.Common.{arith}
+use Rattle.std.proofs.lemmas.Grind.{elements}
 use Rattle.tz_scs.proofs.control.icsr_value.Goals as goal
 
--- What the tactics try, by name: a body that is refused is then told without a search for what to offer.
+-- The call that closes it, by name: a body that is refused is then told without a search for what to offer.
 pub returns : goal.returns
 returns c = first_of (assumption, grind (arith, elements))
