@@ -41,36 +41,12 @@ fn read_numbers(table: &Table) -> Result<Numbers, BoardError>
     ensures err { IfErr result (λ e. IsBoardRefusal e (numbers_at (table_view table.now))) }
     ensures within { IfOk result AreWithin }
 {
-    let secure_vtor = match keys::number(table, Place::Top(Key::SecureVtor), 0, 0xFFFF_FFFF, 128) {
-        Ok(secure_vtor) => secure_vtor,
-        Err(error) => return Err(error),
-    };
-    let nonsecure_vtor = match keys::number(
-        table,
-        Place::Top(Key::NonsecureVtor),
-        0,
-        0xFFFF_FFFF,
-        128,
-    ) {
-        Ok(nonsecure_vtor) => nonsecure_vtor,
-        Err(error) => return Err(error),
-    };
-    let interrupts = match count(table, Key::Interrupts, 1, 240) {
-        Ok(interrupts) => interrupts,
-        Err(error) => return Err(error),
-    };
-    let sau_regions = match count(table, Key::SauRegions, 0, 8) {
-        Ok(sau_regions) => sau_regions,
-        Err(error) => return Err(error),
-    };
-    let mpu_secure = match count(table, Key::MpuSecure, 0, 16) {
-        Ok(mpu_secure) => mpu_secure,
-        Err(error) => return Err(error),
-    };
-    let mpu_nonsecure = match count(table, Key::MpuNonsecure, 0, 16) {
-        Ok(mpu_nonsecure) => mpu_nonsecure,
-        Err(error) => return Err(error),
-    };
+    let secure_vtor = keys::number(table, Place::Top(Key::SecureVtor), 0, 0xFFFF_FFFF, 128)?;
+    let nonsecure_vtor = keys::number(table, Place::Top(Key::NonsecureVtor), 0, 0xFFFF_FFFF, 128)?;
+    let interrupts = count(table, Key::Interrupts, 1, 240)?;
+    let sau_regions = count(table, Key::SauRegions, 0, 8)?;
+    let mpu_secure = count(table, Key::MpuSecure, 0, 16)?;
+    let mpu_nonsecure = count(table, Key::MpuNonsecure, 0, 16)?;
     Ok(Numbers {
         secure_vtor,
         nonsecure_vtor,

@@ -3,7 +3,7 @@
 use tz_bits::FieldName;
 
 /// Why there is no code.
-#[derive(Clone, Copy, PartialEq, Eq, Debug)]
+#[derive(Clone, Copy, PartialEq)]
 pub enum EncodeError {
     /// There are no codes of this shape at that width, whatever numbers stand in them: of this variant,
     /// operation, flags, sizes and kind of address.
