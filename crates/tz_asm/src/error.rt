@@ -1,9 +1,10 @@
 //! Why source is refused. The text of an error is its code and its line.
 
+use std::fmt;
 use thiserror::Error;
 
 /// The first refusal of a source with its line, which counts from 1, or want of memory.
-#[derive(Clone, Copy, Debug, Drop, Error)]
+#[derive(Clone, Copy, Drop, Error)]
 pub enum AsmError {
     /// The line without its comment isn't a list of tokens.
     #[error("A1 {0}")]
@@ -33,4 +34,11 @@ pub enum AsmError {
     /// Memory ran out.
     #[error("no memory")]
     Memory,
+}
+
+/// An error is shown by its text.
+impl fmt::Debug for AsmError {
+    fn fmt<W: fmt::Write>(&self, f: &mut fmt::Formatter<W>) -> fmt::Result {
+        fmt::Display::fmt(self, f)
+    }
 }

@@ -244,8 +244,12 @@ fn entry_at(tokens: &[Token]) -> Option<(u32, u8)>
     ensures below { IfSome result (λ read. read.0 < 16) }
     ensures within { IfSome result (λ read. 2 ≤ length tokens.now) }
 {
-    let (first, behind) = tokens.split_first()?;
-    let (second, _) = behind.split_first()?;
+    let Some((first, behind)) = tokens.split_first() else {
+        return None;
+    };
+    let Some((second, _)) = behind.split_first() else {
+        return None;
+    };
     match *first {
         Token::Word(word) => match *second {
             Token::Mark(mark) => match tz_syntax::register_of(word) {

@@ -1,6 +1,7 @@
 //! Directives.
 
 ghost use Rattle.std.specs.Prelude.{◌≡◌, option_map};
+ghost use Rattle.std.specs.Str.{bytes_eq};
 ghost use Rattle.tz_asm.specs.Operands.{alignment, expression_of, labelled_value};
 ghost use Rattle.tz_asm.specs.Statements.{directed, directive_of};
 ghost use Rattle.tz_asm.specs.Views.{expression_view, statement_view, views};
@@ -23,20 +24,27 @@ pub enum Directive {
     Data(Size),
 }
 
+/// Whether a word is a name.
+fn is_name(word: &[u8], name: &[u8]) -> bool
+    ensures { result ≡ bytes_eq word.now name.now }
+{
+    word == name
+}
+
 /// The directive that a word is.
 #[tactic(auto, unfolding(crate::specs::Statements::directive_of))]
 pub fn directive_of(word: &[u8]) -> Option<Directive>
     ensures { directive_of word.now ≡ result }
 {
-    if word == b".org".as_slice() {
+    if is_name(word, b".org") {
         Some(Directive::Org)
-    } else if word == b".align".as_slice() {
+    } else if is_name(word, b".align") {
         Some(Directive::Align)
-    } else if word == b".byte".as_slice() {
+    } else if is_name(word, b".byte") {
         Some(Directive::Data(Size::Byte))
-    } else if word == b".half".as_slice() {
+    } else if is_name(word, b".half") {
         Some(Directive::Data(Size::Half))
-    } else if word == b".word".as_slice() {
+    } else if is_name(word, b".word") {
         Some(Directive::Data(Size::Word))
     } else {
         None
