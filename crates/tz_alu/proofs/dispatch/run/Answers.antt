@@ -1,4 +1,3 @@
-use Rattle.std.proofs.lemmas.Grind.{common_steps}
 use Rattle.std.proofs.Common.{arith}
 use Rattle.std.proofs.lemmas.Int.{to_z-of_z}
 use Rattle.tz_alu.proofs.dispatch.run.Goals as goal
@@ -23,6 +22,26 @@ returns-in-Multiply c = rw c.in-Multiply.is (c.multiply_registers.ensures c.args
 pub returns-in-MultiplyLong : goal.returns-in-MultiplyLong
 returns-in-MultiplyLong c = rw c.in-MultiplyLong.is (c.multiply_long_registers.ensures c.args.side c.args.ccr)
 
--- The first call that the prover tries finds nothing here, after long: the one that does is named.
+pub returns-in-Saturate : goal.returns-in-Saturate
+returns-in-Saturate c = rw c.in-Saturate.is (c.saturate_register.ensures c.args.side c.args.ccr)
+
+pub returns-in-BitField : goal.returns-in-BitField
+returns-in-BitField c = rw c.in-BitField.is (c.take_field.ensures c.args.side c.args.ccr)
+
+-- These have the side, and take the CCR as it is.
+
 pub returns-in-DataImm : goal.returns-in-DataImm
-returns-in-DataImm c = grind (arith, common_steps)
+returns-in-DataImm c = rw c.in-DataImm.is (c.with_constant.ensures c.args.ccr)
+
+pub returns-in-DataReg : goal.returns-in-DataReg
+returns-in-DataReg c = rw c.in-DataReg.is (c.with_register.ensures c.args.ccr)
+
+pub returns-in-ShiftReg : goal.returns-in-ShiftReg
+returns-in-ShiftReg c = rw c.in-ShiftReg.is (c.shift_by_register.ensures c.args.ccr)
+
+pub returns-in-AddWide : goal.returns-in-AddWide
+returns-in-AddWide c = rw c.in-AddWide.is (c.add_wide.ensures c.args.ccr)
+
+-- This one has the CCR, and doesn't depend on whose code it is.
+pub returns-in-Divide : goal.returns-in-Divide
+returns-in-Divide c = rw c.in-Divide.is (c.divide_registers.ensures c.args.side)
