@@ -1,11 +1,12 @@
 //! Why a file is refused as an image. The text of an error is its code and its place.
 
+use std::fmt;
 use thiserror::Error;
 
 /// The first refusal of a file, or want of memory. The numbers are those of segments, which count
 /// from 0 (the lines with bytes of a plain image, the program headers of an ELF file), and of lines,
 /// which count from 1.
-#[derive(Clone, Copy, Debug, Drop, Error)]
+#[derive(Clone, Copy, Drop, Error)]
 pub enum ElfError {
     /// The file doesn't begin with the four bytes of ELF.
     #[error("L1")]
@@ -37,4 +38,11 @@ pub enum ElfError {
     /// Memory ran out.
     #[error("no memory")]
     Memory,
+}
+
+/// The text, as it is displayed.
+impl fmt::Debug for ElfError {
+    fn fmt<W: fmt::Write>(&self, f: &mut fmt::Formatter<W>) -> fmt::Result {
+        fmt::Display::fmt(self, f)
+    }
 }
