@@ -27,3 +27,10 @@ returns-in-StoreMany-clause-executes g c =
 pub returns-in-StoreRelease-clause-executes : goal.returns-in-StoreRelease-clause-executes
 returns-in-StoreRelease-clause-executes g c =
     ap (λ (i : Insn). load_store_over g.P.Port.answer i c.args.core.now (g.P.Port.held c.args.port.now)) c.in-StoreRelease.is ∙ c.store_release.ensures.executes
+
+pub returns-in-Store-clause-executes : goal.returns-in-Store-clause-executes
+returns-in-Store-clause-executes g c =
+    ap (λ (i : Insn). load_store_over g.P.Port.answer i c.args.core.now (g.P.Port.held c.args.port.now)) c.in-Store.is ∙ c.store.ensures.executes
+
+pub returns-in-LoadAcquire-clause-executes : goal.returns-in-LoadAcquire-clause-executes
+returns-in-LoadAcquire-clause-executes g c = rw c.in-LoadAcquire.is (rw c.reg-addr.ensures at c.load_aligned-in-LoadAcquire.ensures.executes)
