@@ -8,7 +8,7 @@ ghost use Rattle.tz_table.specs.Forms.{form_of};
 use tz_table::{Address, Insn};
 
 /// A field of an instruction, by its name in `Insn` or in `Address`.
-#[derive(Clone, Copy, PartialEq, Eq, Debug)]
+#[derive(Clone, Copy, PartialEq, Eq)]
 pub enum FieldName {
     Op,
     Flags,
