@@ -29,10 +29,8 @@ fn count(table: &Table, key: Key, low: u8, high: u8) -> Result<u8, BoardError>
     ensures err { IfErr result (λ e. IsBoardRefusal e (number_at (place_of (Place.Top key)) low high 1 (table_view table.now))) }
     ensures within { IfOk result (λ n. (low ≤ n) × (n ≤ high)) }
 {
-    match keys::number(table, Place::Top(key), u32::from(low), u32::from(high), 1) {
-        Ok(number) => Ok(number as u8),
-        Err(error) => Err(error),
-    }
+    let number = keys::number(table, Place::Top(key), u32::from(low), u32::from(high), 1)?;
+    Ok(number as u8)
 }
 
 /// The numbers at the top.
@@ -96,22 +94,10 @@ fn board_in(alloc: Global, table: &Table) -> Result<Board, BoardError>
     ensures ok { IfOk result (λ b. board_in (table_view table.now) ≡ Ok b) }
     ensures err { IfErr result (λ e. IsBoardRefusal e (board_in (table_view table.now))) }
 {
-    let numbers = match read_numbers(table) {
-        Ok(numbers) => numbers,
-        Err(error) => return Err(error),
-    };
-    let profile = match keys::read_profile(table, Place::Top(Key::Profile)) {
-        Ok(profile) => profile,
-        Err(error) => return Err(error),
-    };
-    let regions = match tables::regions(alloc, table) {
-        Ok(regions) => regions,
-        Err(error) => return Err(error),
-    };
-    let sau = match tables::sau(alloc, table) {
-        Ok(sau) => sau,
-        Err(error) => return Err(error),
-    };
+    let numbers = read_numbers(table)?;
+    let profile = keys::read_profile(table, Place::Top(Key::Profile))?;
+    let regions = tables::regions(alloc, table)?;
+    let sau = tables::sau(alloc, table)?;
     board_within(numbers, profile, regions, sau)
 }
 
@@ -143,8 +129,6 @@ pub fn read_board(alloc: Global, bytes: &[u8]) -> Result<Board, BoardError>
     ensures ok { IfOk result (λ b. board_of bytes.now ≡ Ok b) }
     ensures err { IfErr result (λ e. IsBoardRefusal e (board_of bytes.now)) }
 {
-    match document(alloc, bytes) {
-        Ok(table) => board_in(alloc, &table),
-        Err(error) => Err(error),
-    }
+    let table = document(alloc, bytes)?;
+    board_in(alloc, &table)
 }

@@ -29,9 +29,7 @@ pub enum LineRead {
 fn read_event(parts: &[u8]) -> Option<Named>
     ensures { event_of (parts_of parts.now) ≡ option_map event_named result }
 {
-    let Some((name, rest)) = text::first_part(parts) else {
-        return None;
-    };
+    let (name, rest) = text::first_part(parts)?;
     match text::first_part(rest) {
         None => {
             if name == b"nmi".as_slice() {
@@ -42,10 +40,7 @@ fn read_event(parts: &[u8]) -> Option<Named>
         }
         Some((number, rest)) => {
             if name == b"irq".as_slice() && text::first_part(rest).is_none() {
-                match text::number(number) {
-                    Some(number) => Some(Named::Irq(number)),
-                    None => None,
-                }
+                text::number(number).map(Named::Irq)
             } else {
                 None
             }

@@ -1,9 +1,9 @@
 //! The tables of a board file: its regions and SAU regions, each with its keys in their order.
 
-ghost use Rattle.std.specs.Prelude.{◌≡◌, ◌<◌, ◌≤◌, ◌-◌, IfOk, IfErr, IsTrue, length, Ok, Some};
+ghost use Rattle.std.specs.Prelude.{◌≡◌, ◌<◌, ◌≤◌, ◌-◌, ◌%◌, IfOk, IfErr, IsTrue, length, Ok, Some};
 ghost use Rattle.toml.specs.View.{items_view, table_view, view};
 ghost use Rattle.tz_model.specs.Board.{are_regions, are_sau_regions, is_region, is_sau_region};
-ghost use Rattle.tz_board.specs.Boards.{each, of_kind, region_in, regions_at, regions_listed, sau_at, sau_listed, sau_region_in, tables_in, tables_of};
+ghost use Rattle.tz_board.specs.Boards.{each, last_in_block, of_kind, region_in, regions_at, regions_listed, sau_at, sau_listed, sau_region_in, tables_in, tables_of};
 ghost use Rattle.tz_board.specs.BoardErrors.{IsBoardRefusal, place_of};
 ghost use Rattle.tz_board.specs.Tables.{views};
 
@@ -26,28 +26,29 @@ fn region(table: &Table, index: u32) -> Result<Region, BoardError>
     ensures err { IfErr result (λ e. IsBoardRefusal e (region_in index (table_view table.now))) }
     ensures good { IfOk result (λ r. IsTrue (is_region r)) }
 {
-    let base = match keys::number(table, Place::Region(index, Key::Base), 0, 0xFFFF_FFFF, 32) {
-        Ok(base) => base,
-        Err(error) => return Err(error),
-    };
-    let size = match keys::number(table, Place::Region(index, Key::Size), 32, room(base), 32) {
-        Ok(size) => size,
-        Err(error) => return Err(error),
-    };
-    let kind = match keys::kind(table, Place::Region(index, Key::Kind)) {
-        Ok(kind) => kind,
-        Err(error) => return Err(error),
-    };
-    let side = match keys::side(table, Place::Region(index, Key::Side)) {
-        Ok(side) => side,
-        Err(error) => return Err(error),
-    };
+    let base = keys::number(table, Place::Region(index, Key::Base), 0, 0xFFFF_FFFF, 32)?;
+    let size = keys::number(table, Place::Region(index, Key::Size), 32, room(base), 32)?;
+    let kind = keys::kind(table, Place::Region(index, Key::Kind))?;
+    let side = keys::side(table, Place::Region(index, Key::Side))?;
     Ok(Region {
         base,
         size,
         kind,
         side,
     })
+}
+
+/// The number, if it is the last byte of a block of 32.
+fn last_in_block(place: Place, number: u32) -> Result<u32, BoardError>
+    ensures ok { IfOk result (λ n. last_in_block (place_of place) number ≡ Ok n) }
+    ensures err { IfErr result (λ e. IsBoardRefusal e (last_in_block (place_of place) number)) }
+    ensures last { IfOk result (λ n. (n ≡ number) × (n % 32 ≡ 31)) }
+{
+    if number % 32 == 31 {
+        Ok(number)
+    } else {
+        Err(BoardError::Range(place))
+    }
 }
 
 /// An SAU region, in the table at an index.
@@ -57,22 +58,9 @@ fn sau_region(table: &Table, index: u32) -> Result<SauRegion, BoardError>
     ensures good { IfOk result (λ r. IsTrue (is_sau_region r)) }
 {
     let place = Place::Sau(index, Key::Limit);
-    let base = match keys::number(table, Place::Sau(index, Key::Base), 0, 0xFFFF_FFFF, 32) {
-        Ok(base) => base,
-        Err(error) => return Err(error),
-    };
-    let limit = match keys::number(table, place, base, 0xFFFF_FFFF, 1) {
-        Ok(limit) => limit,
-        Err(error) => return Err(error),
-    };
-    // The limit is the last byte of a block of 32.
-    if limit % 32 != 31 {
-        return Err(BoardError::Range(place));
-    }
-    let nsc = match keys::flag(table, Place::Sau(index, Key::Nsc)) {
-        Ok(nsc) => nsc,
-        Err(error) => return Err(error),
-    };
+    let base = keys::number(table, Place::Sau(index, Key::Base), 0, 0xFFFF_FFFF, 32)?;
+    let limit = last_in_block(place, keys::number(table, place, base, 0xFFFF_FFFF, 1)?)?;
+    let nsc = keys::flag(table, Place::Sau(index, Key::Nsc))?;
     Ok(SauRegion { base, limit, nsc })
 }
 
@@ -189,10 +177,8 @@ fn sau_listed(alloc: Global, value: &Value) -> Result<Vec<SauRegion>, BoardError
     ensures err { IfErr result (λ e. IsBoardRefusal e (sau_listed (view value.now))) }
     ensures good { IfOk result (λ v. IsTrue (are_sau_regions v.items)) }
 {
-    match tables(alloc, value, Place::Top(Key::Sau)) {
-        Ok(tables) => each_sau_region(alloc, &tables),
-        Err(error) => Err(error),
-    }
+    let tables = tables(alloc, value, Place::Top(Key::Sau))?;
+    each_sau_region(alloc, &tables)
 }
 
 /// The SAU regions of a board, of which there may be none.
