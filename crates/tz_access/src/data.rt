@@ -3,7 +3,6 @@
 ghost use Rattle.std.specs.Prelude.{◌≡◌, MatchResult, None, Some, if◌then◌else◌};
 ghost use Rattle.tz_regs.specs.declared.request.Kind.TheVariants.{Read, Write};
 ghost use Rattle.tz_regs.specs.Memory.{every, value_at, with_value};
-ghost use Rattle.tz_regs.specs.Attribution.{is_open};
 ghost use Rattle.tz_regs.specs.State.{map_in, with_memory};
 ghost use Rattle.tz_regs.specs.Access.{is_aligned, is_crooked, may_touch, is_let, lets, takes, is_private, verdict, request_by};
 ghost use Rattle.tz_access.specs.Checks.{is_system, left_by};
@@ -56,14 +55,6 @@ fn request_by(
 }
 
 impl Bus {
-    /// Whether Non-secure code may access each byte.
-    fn all_open(&self, size: Size, addr: u32) -> bool
-        ensures { result ≡ every (is_open (map_in self.now)) addr size }
-    {
-        let last = last_of(size, addr);
-        self.is_open(addr) && (is_one_block(addr, last) || self.is_open(last))
-    }
-
     /// Whether attribution lets code of a side access each byte.
     #[tactic(auto, unfolding(tz_regs::specs::Access::may_touch))]
     fn may_touch(&self, side: Side, size: Size, addr: u32) -> bool
@@ -71,7 +62,10 @@ impl Bus {
     {
         match side {
             Side::Secure => true,
-            Side::NonSecure => self.all_open(size, addr),
+            Side::NonSecure => {
+                let last = last_of(size, addr);
+                self.is_open(addr) && (is_one_block(addr, last) || self.is_open(last))
+            }
         }
     }
 
@@ -131,10 +125,9 @@ impl Bus {
             (λ fault. verdict self.old request.now ≡ Some fault) }
         ensures kept { self.new ≡ self.old }
     {
-        match self.guard(request) {
-            Err(fault) => Err(fault),
-            Ok(Place::System) => Ok(Place::System),
-            Ok(Place::Memory) => {
+        match self.guard(request)? {
+            Place::System => Ok(Place::System),
+            Place::Memory => {
                 if self.all_taken(request.kind, request.size, request.addr) {
                     Ok(Place::Memory)
                 } else {
@@ -162,10 +155,9 @@ impl Bus {
             (λ fault. verdict self.now (request_by asker.now Read size addr must_align user) ≡ Some fault) }
     {
         let request = request_by(asker, Kind::Read, size, addr, must_align, user);
-        match self.guard(&request) {
-            Err(fault) => Err(fault),
-            Ok(Place::System) => Ok(None),
-            Ok(Place::Memory) => match self.memory.read(addr, size) {
+        match self.guard(&request)? {
+            Place::System => Ok(None),
+            Place::Memory => match self.memory.read(addr, size) {
                 Err(_) => Err(Fault::Precise(addr)),
                 Ok(value) => Ok(Some(value)),
             },
@@ -192,10 +184,9 @@ impl Bus {
             (λ fault. (verdict self.old (request_by asker.now Write size addr must_align user) ≡ Some fault) × (self.new ≡ self.old)) }
     {
         let request = request_by(asker, Kind::Write, size, addr, must_align, user);
-        match self.guard(&request) {
-            Err(fault) => Err(fault),
-            Ok(Place::System) => Ok(Place::System),
-            Ok(Place::Memory) => match self.memory.write(addr, size, value) {
+        match self.guard(&request)? {
+            Place::System => Ok(Place::System),
+            Place::Memory => match self.memory.write(addr, size, value) {
                 Err(_) => Err(Fault::Precise(addr)),
                 Ok(()) => Ok(Place::Memory),
             },

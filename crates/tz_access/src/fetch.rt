@@ -75,13 +75,6 @@ impl Bus {
         let _side = side;
     }
 
-    /// Whether a byte is of the side that fetches it.
-    fn is_own_byte(&self, side: Side, addr: u32) -> bool
-        ensures { result ≡ is_own_byte (map_in self.now) side addr }
-    {
-        is_own(side, self.sau.fetch_attribution(side, addr))
-    }
-
     /// Whether both bytes of a halfword are of the side that fetches it.
     #[tactic(auto, unfolding(tz_regs::specs::Fetch::is_own_fetch))]
     pub fn is_own_fetch(&self, side: Side, addr: u32) -> bool
@@ -98,7 +91,8 @@ impl Bus {
     {
         self.know_own(side);
         let last = addr.wrapping_add(1);
-        is_own(side, attributed) && (is_one_block(addr, last) || self.is_own_byte(side, last))
+        is_own(side, attributed)
+            && (is_one_block(addr, last) || is_own(side, self.sau.fetch_attribution(side, last)))
     }
 
     /// Whether the second halfword at PC is of the side that fetches it, where the first is.
@@ -109,14 +103,6 @@ impl Bus {
     {
         self.know_own(side);
         is_one_block(pc, pc.wrapping_add(3)) || self.is_own_fetch(side, pc.wrapping_add(2))
-    }
-
-    /// The MPU of a side lets code run by blocks.
-    #[tactic(auto, using(crate::proofs::Blocks::runs_by_blocks))]
-    fn know_runs(&self, side: Side, privileged: bool, negative: bool)
-        ensures { IsByBlocks (lets_run self.now side privileged negative) }
-    {
-        let _asked = (side, privileged, negative);
     }
 
     /// Whether the MPU of a side lets code run at both bytes of a halfword.
@@ -130,12 +116,11 @@ impl Bus {
     }
 
     /// Whether the MPU lets code run at the second halfword at PC, where it does at the first.
-    #[tactic(auto, using(crate::proofs::Blocks::second_in_block), unfolding(tz_regs::specs::Fetch::is_runnable))]
+    #[tactic(auto, unfolding(tz_regs::specs::Fetch::is_runnable))]
     fn is_second_runnable(&self, side: Side, privileged: bool, negative: bool, pc: u32) -> bool
         requires { is_runnable self.now side privileged negative pc ≡ true }
         ensures { result ≡ is_runnable self.now side privileged negative (wrap (pc + 2)) }
     {
-        self.know_runs(side, privileged, negative);
         is_one_block(pc, pc.wrapping_add(3))
             || self.is_runnable(side, privileged, negative, pc.wrapping_add(2))
     }
@@ -145,17 +130,10 @@ impl Bus {
         requires { is_entry_at (map_in self.now) pc ≡ true }
         ensures { result ≡ is_entry_at (map_in self.now) (wrap (pc + 2)) }
     {
-        self.know_entry();
+        self.know_regions();
         let next = pc.wrapping_add(2);
         is_one_block(pc, next)
             || self.sau.fetch_attribution(Side::NonSecure, next) == RegionSide::Nsc
-    }
-
-    /// Entries are by blocks.
-    fn know_entry(&self)
-        ensures { IsByBlocks (is_entry_at (map_in self.now)) }
-    {
-        self.know_regions();
     }
 
     /// The instruction at PC, where its first halfword is of the side that fetches it.
@@ -213,15 +191,9 @@ impl Bus {
             return Err(Fault::Exec(Side::Secure));
         }
         match self.memory.read_code(pc) {
-            Err(_) => Err(Fault::ExecBus),
-            Ok((_, None)) => Err(Fault::ExecBus),
-            Ok((first, Some(second))) => {
-                if first == 0xe97f && second == 0xe97f {
-                    Ok(wide(0xe97f, 0xe97f, true))
-                } else {
-                    Err(Fault::EntryPoint)
-                }
-            }
+            Ok((0xe97f, Some(0xe97f))) => Ok(wide(0xe97f, 0xe97f, true)),
+            Ok((_, Some(_))) => Err(Fault::EntryPoint),
+            Ok((_, None)) | Err(_) => Err(Fault::ExecBus),
         }
     }
 

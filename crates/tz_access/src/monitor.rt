@@ -1,21 +1,11 @@
 //! The exclusive monitor: one address and size, or nothing.
 
 ghost use Rattle.std.specs.Prelude.{◌≡◌, MatchOption, Some, None};
-ghost use Rattle.tz_regs.specs.State.{is_same_size, is_held, with_monitor};
+ghost use Rattle.tz_regs.specs.State.{is_held, with_monitor};
 
 use crate::bus::Bus;
 use tz_model::Size;
 use tz_regs::Exclusive;
-
-fn is_same_size(size: Size, other: Size) -> bool
-    ensures { result ≡ is_same_size size other }
-{
-    match size {
-        Size::Byte => matches!(other, Size::Byte),
-        Size::Half => matches!(other, Size::Half),
-        Size::Word => matches!(other, Size::Word),
-    }
-}
 
 /// Whether the monitor holds an address and a size.
 fn is_held(monitor: &Option<Exclusive>, addr: u32, size: Size) -> bool
@@ -23,7 +13,7 @@ fn is_held(monitor: &Option<Exclusive>, addr: u32, size: Size) -> bool
 {
     match monitor {
         None => false,
-        Some(held) => held.addr == addr && is_same_size(held.size, size),
+        Some(held) => held.addr == addr && held.size == size,
     }
 }
 

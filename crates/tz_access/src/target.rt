@@ -133,13 +133,6 @@ impl Bus {
         }
     }
 
-    /// Whether an access of a kind is permitted, and the address Non-secure.
-    fn may_openly(&self, probe: &Probe, kind: Kind, nonsecure: bool) -> bool
-        ensures { result ≡ (may self.now probe.now kind && nonsecure) }
-    {
-        self.may(probe, kind) && nonsecure
-    }
-
     /// What Secure state learns beside it: SREGION, NSR, NSRW, S and IREGION.
     fn secure_part(&self, probe: &Probe) -> u32
         ensures value { result ≡ secure_part self.now probe.now }
@@ -147,33 +140,16 @@ impl Bus {
     {
         let told = self.attributed(probe);
         sregion_bits(told.sregion)
-            + flag(
-                0x10_0000,
-                self.may_openly(probe, Kind::Read, told.nonsecure),
-            )
-            + flag(
-                0x20_0000,
-                self.may_openly(probe, Kind::Write, told.nonsecure),
-            )
+            + flag(0x10_0000, self.may(probe, Kind::Read) & told.nonsecure)
+            + flag(0x20_0000, self.may(probe, Kind::Write) & told.nonsecure)
             + flag(0x40_0000, !told.nonsecure)
             + iregion_bits(told.iregion)
-    }
-
-    /// The word for what is asked.
-    #[tactic(auto, unfolding(tz_regs::specs::Target::target_word))]
-    fn target_word(&self, probe: &Probe) -> u32
-        ensures { result ≡ target_word self.now probe.now }
-    {
-        let common = self.common_part(probe);
-        match probe.side {
-            Side::NonSecure => common,
-            Side::Secure => common + self.secure_part(probe),
-        }
     }
 
     /// What TT tells code of a side about an address. `privileged` is its privilege in the state whose MPU is
     /// looked at, which is the Non-secure one with `alternate`; `user` asks for an access without privilege;
     /// `negative` says that the execution priority is below 0.
+    #[tactic(auto, unfolding(tz_regs::specs::Target::target_word))]
     pub fn test_target(
         &self,
         addr: u32,
@@ -185,13 +161,18 @@ impl Bus {
     ) -> u32
         ensures { result ≡ target_word self.now (record { addr = addr; side = side; privileged = privileged; negative = negative; alternate = alternate; user = user }) }
     {
-        self.target_word(&Probe {
+        let probe = Probe {
             addr,
             side,
             privileged,
             negative,
             alternate,
             user,
-        })
+        };
+        let common = self.common_part(&probe);
+        match side {
+            Side::NonSecure => common,
+            Side::Secure => common + self.secure_part(&probe),
+        }
     }
 }

@@ -1,7 +1,15 @@
-use Rattle.std.proofs.Common.{arith, rules, tests}
-use Rattle.std.proofs.lemmas.Grind.{common_steps, elements}
+use Rattle.std.proofs.Common.{arith}
+use Rattle.std.proofs.lemmas.Grind.{common_steps}
+use Rattle.tz_regs.specs.Fetch.{is_entry}
+use Rattle.tz_regs.specs.State.{map_in}
+use Rattle.tz_access.specs.Checks.{IsByBlocks}
+use Rattle.tz_access.proofs.Blocks.{entry_by_blocks}
 use Rattle.tz_access.proofs.bus.Bus.is_second_entry.Goals as goal
 
--- What the tactics try, by name: a body that is refused is then told without a search for what to offer.
+pub returns-then-is_one_block : goal.returns-then-is_one_block
+returns-then-is_one_block c =
+    let blocks : IsByBlocks (is_entry (map_in c.args.self.now)) = entry_by_blocks _ c.know_regions.ensures in
+    grind (arith, common_steps)
+
 pub returns-else-is_one_block : goal.returns-else-is_one_block
-returns-else-is_one_block c = first_of (assumption, search (tests, rules), grind (arith, common_steps), grind (arith, elements))
+returns-else-is_one_block c = grind (arith, common_steps)
