@@ -1,9 +1,9 @@
 //! One MPU.
 
-ghost use Rattle.std.specs.Prelude.{◌≡◌, ◌≤◌, ◌<◌, ◌&&◌, None, Some, MatchOption, MatchResult, length, replicate};
+ghost use Rattle.std.specs.Prelude.{◌≡◌, ◌≤◌, ◌<◌, ◌&&◌, None, Some, MatchOption, MatchResult, length, replicate, slice_set};
 ghost use Rattle.tz_regs.specs.Protection.{permission, permission_by, mpu_region, is_mpu_on, has_privileged_default, default_permits};
 ghost use Rattle.tz_regs.specs.Regions.{no_bounds, holding};
-ghost use Rattle.tz_regs.specs.UnitRegisters.{bounds_at, selected, mpu_register, mpu_value, mpu_read, with_mpu_value, mpu_written, with_rbar, with_rlar, rlar_bits, reset_mpu};
+ghost use Rattle.tz_regs.specs.UnitRegisters.{bounds_at, selected, mpu_register, mpu_value, mpu_read, with_mpu_value, mpu_written, rlar_bits, reset_mpu};
 ghost use Rattle.tz_mpu.specs.Units.{with_registers};
 
 use crate::found::{Found, look};
@@ -62,24 +62,6 @@ fn unset(count: u8) -> ArrayVec<Bounds, 16>
         regions.push(Bounds { rbar: 0, rlar: 0 });
     }
     regions
-}
-
-/// Replaces RBAR of a region, if there is one of this number.
-fn put_rbar(regions: &mut [Bounds], index: usize, value: u32)
-    ensures { regions.new ≡ with_rbar regions.old index value }
-{
-    if index < regions.len() {
-        regions[index].rbar = value;
-    }
-}
-
-/// Replaces RLAR of a region, if there is one of this number.
-fn put_rlar(regions: &mut [Bounds], index: usize, value: u32)
-    ensures { regions.new ≡ with_rlar regions.old index value }
-{
-    if index < regions.len() {
-        regions[index].rlar = value;
-    }
 }
 
 impl Mpu {
@@ -233,21 +215,14 @@ impl Mpu {
         }
     }
 
-    /// Writes RBAR of the region that RNR and an alias select, if there is one.
-    fn set_rbar(&mut self, alias: u8, value: u32)
-        ensures { self.new ≡ with_registers self.old (with_mpu_value self.old.profile self.old.mpu (MpuRegister.Rbar alias) value) }
+    /// Replaces the registers of the region that RNR and an alias select, if there is one.
+    fn select(&mut self, alias: u8, bounds: Bounds)
+        ensures { self.new ≡ with_registers self.old (record self.old.mpu { regions = slice_set self.old.mpu.regions (selected self.old.mpu alias) bounds }) }
     {
         let index = self.selected(alias);
-        put_rbar(&mut self.regions, index, value);
-    }
-
-    /// Writes RLAR of the region that RNR and an alias select, if there is one.
-    fn set_rlar(&mut self, alias: u8, value: u32)
-        ensures { self.new ≡ with_registers self.old (with_mpu_value self.old.profile self.old.mpu (MpuRegister.Rlar alias) value) }
-    {
-        let index = self.selected(alias);
-        let bits = rlar_bits(self.profile, value);
-        put_rlar(&mut self.regions, index, bits);
+        if index < self.regions.len() {
+            self.regions[index] = bounds;
+        }
     }
 
     /// Writes a register by its name: each keeps the bits that it has, TYPE none.
@@ -258,8 +233,21 @@ impl Mpu {
             MpuRegister::Type => (),
             MpuRegister::Ctrl => self.ctrl = value % 8,
             MpuRegister::Rnr => self.rnr = value % 256,
-            MpuRegister::Rbar(alias) => self.set_rbar(alias, value),
-            MpuRegister::Rlar(alias) => self.set_rlar(alias, value),
+            MpuRegister::Rbar(alias) => {
+                let bounds = self.selected_bounds(alias);
+                self.select(
+                    alias,
+                    Bounds {
+                        rbar: value,
+                        ..bounds
+                    },
+                );
+            }
+            MpuRegister::Rlar(alias) => {
+                let bounds = self.selected_bounds(alias);
+                let rlar = rlar_bits(self.profile, value);
+                self.select(alias, Bounds { rlar, ..bounds });
+            }
             MpuRegister::Mair0 => self.mair0 = value,
             MpuRegister::Mair1 => self.mair1 = value,
         }
