@@ -1,8 +1,13 @@
 -- What a look finds doesn't depend on the timers.
-use Rattle.std.proofs.Common.{◌≡◌, ℕ, zero, suc, Option, Some, None, refl, ap, sym, ◌∙◌}
+use Rattle.std.proofs.Common.{◌≡◌, ℕ, zero, suc, false, Option, Some, None, refl, ap, sym, ◌∙◌, arith}
+use Rattle.std.proofs.lemmas.Grind.{common_steps}
+use Rattle.tz_table.specs.declared.units.Side.{Side}
+use Rattle.tz_table.specs.declared.units.Side.TheVariants.{Secure, NonSecure}
+use Rattle.tz_regs.specs.SlotChanges.{with_timer}
+use Rattle.tz_regs.specs.Timers.{counts, counted_down, pended_by}
 use Rattle.std.specs.Prelude.{min, if◌then◌else◌, IfSome}
 use Rattle.tz_regs.specs.declared.slot.Timer.{Timer}
-use Rattle.tz_regs.specs.Slots.{ExceptionsValue, number_at}
+use Rattle.tz_regs.specs.Slots.{ExceptionsValue, number_at, timer_of}
 use Rattle.tz_regs.specs.Priority.{rank_of, priority_of, subpriority_of, chosen_place}
 use Rattle.tz_regs.specs.Execution.{is_active, active_below}
 use Rattle.tz_nvic.specs.declared.known.Known.{Known}
@@ -49,3 +54,8 @@ still_known e s ns k h =
 pub known_with_timers : (e : ExceptionsValue) (s ns : Timer) (o : Option Known) → IfSome o (λ k. IsKnown e k) → IfSome o (λ k. IsKnown (timed e s ns) k)
 known_with_timers e s ns None h = h
 known_with_timers e s ns (Some k) h = still_known e s ns k h
+
+-- a timer that doesn't count stays, and pends nothing
+pub uncounted : (e : ExceptionsValue) (side : Side) (i : ℕ) → counts (timer_of e side) ≡ false → e ≡ with_timer (pended_by (timer_of e side) i e) side (counted_down (timer_of e side))
+uncounted e Secure i h = grind (arith, common_steps)
+uncounted e NonSecure i h = grind (arith, common_steps)

@@ -62,11 +62,10 @@ impl Exceptions {
         let bus = self.slots[10];
         let hard_s = self.slots[6];
         let hard_ns = self.slots[7];
-        nmi.pending
-            || nmi.active
-            || (bus.pending || bus.active)
-            || (hard_s.pending || hard_s.active)
-            || (hard_ns.pending || hard_ns.active)
+        (nmi.pending | nmi.active)
+            || (bus.pending | bus.active)
+            || (hard_s.pending | hard_s.active)
+            || (hard_ns.pending | hard_ns.active)
     }
 
     /// Writes AIRCR.BFHFNMINS, except while NMI, BusFault or a HardFault of either side is pending or active;

@@ -1,7 +1,9 @@
 //! The count of both timers.
 
 ghost use Rattle.std.specs.Prelude.{◌≡◌, ◌<◌};
-ghost use Rattle.tz_regs.specs.Timers.{counts, interrupts, runs_out, counted_down, pended_by, ticked_s, ticked_ns, ticked};
+ghost use Rattle.tz_regs.specs.Timers.{counts, interrupts, runs_out, counted_down, pended_by, ticked};
+ghost use Rattle.tz_regs.specs.SlotChanges.{with_timer};
+ghost use Rattle.tz_regs.specs.Slots.{timer_of};
 
 use crate::exceptions::Exceptions;
 use tz_model::Side;
@@ -64,25 +66,16 @@ impl Exceptions {
         }
     }
 
-    /// Counts the Secure SysTick.
-    fn tick_s(&mut self)
-        ensures { self.new ≡ ticked_s self.old }
+    /// Counts the SysTick of a side, whose slot has this place.
+    #[tactic(auto, using(crate::proofs::Timers::uncounted))]
+    fn tick_side(&mut self, side: Side, index: usize)
+        requires { index < 272 }
+        ensures { self.new ≡ with_timer (pended_by (timer_of self.old side) index self.old) side (counted_down (timer_of self.old side)) }
     {
-        let timer = self.timer_s;
+        let timer = self.timer(side);
         if counts(&timer) {
-            self.pend_by(&timer, 30);
-            self.put_timer(Side::Secure, counted_down(&timer));
-        }
-    }
-
-    /// Counts the Non-secure SysTick.
-    fn tick_ns(&mut self)
-        ensures { self.new ≡ ticked_ns self.old }
-    {
-        let timer = self.timer_ns;
-        if counts(&timer) {
-            self.pend_by(&timer, 31);
-            self.put_timer(Side::NonSecure, counted_down(&timer));
+            self.pend_by(&timer, index);
+            self.put_timer(side, counted_down(&timer));
         }
     }
 
@@ -91,7 +84,7 @@ impl Exceptions {
     pub fn tick(&mut self)
         ensures { self.new ≡ ticked self.old }
     {
-        self.tick_s();
-        self.tick_ns();
+        self.tick_side(Side::Secure, 30);
+        self.tick_side(Side::NonSecure, 31);
     }
 }
