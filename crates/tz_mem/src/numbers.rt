@@ -28,7 +28,6 @@ pub fn byte_of(blocks: &[Block], addr: u32) -> Option<u8>
 }
 
 /// The number of a size at an address, byte by byte.
-#[tactic(auto, using(crate::proofs::Places::mapped_at, crate::proofs::Bytes::get_memory_of), unfolding(tz_regs::specs::Memory::half_at, tz_regs::specs::Memory::word_at))]
 fn number_by_bytes(blocks: &[Block], addr: u32, size: Size) -> Option<u32>
     ensures { MatchOption result (every (is_mapped (map region_of blocks.now)) addr size ≡ false)
         (λ value. (every (is_mapped (map region_of blocks.now)) addr size ≡ true) × (value ≡ value_at (memory_of blocks.now) size addr)) }
@@ -177,7 +176,7 @@ fn all_writable(blocks: &[Block], addr: u32, size: Size) -> bool
 }
 
 /// Writes the low part of a number, of a size, byte by byte.
-#[tactic(auto, unfolding(tz_regs::specs::Memory::with_half, tz_regs::specs::Memory::with_word))]
+#[tactic(auto, using(crate::proofs::Over::half_over, crate::proofs::Over::word_over))]
 fn put_bytes(blocks: &mut [Block], addr: u32, size: Size, value: u32)
     ensures { view_of blocks.new ≡ with_bytes (view_of blocks.old) (with_value (memory_of blocks.old) size addr value) }
 {
@@ -185,18 +184,8 @@ fn put_bytes(blocks: &mut [Block], addr: u32, size: Size, value: u32)
         Size::Byte => {
             put_byte(blocks, addr, (value % 0x100) as u8);
         }
-        Size::Half => {
-            let low = ((value % 0x1_0000) as u16).to_le_bytes();
-            put_byte(blocks, addr, low[0]);
-            put_byte(blocks, addr.wrapping_add(1), low[1]);
-        }
-        Size::Word => {
-            let all = value.to_le_bytes();
-            put_byte(blocks, addr, all[0]);
-            put_byte(blocks, addr.wrapping_add(1), all[1]);
-            put_byte(blocks, addr.wrapping_add(2), all[2]);
-            put_byte(blocks, addr.wrapping_add(3), all[3]);
-        }
+        Size::Half => put_all(blocks, addr, &((value % 0x1_0000) as u16).to_le_bytes()),
+        Size::Word => put_all(blocks, addr, &value.to_le_bytes()),
     }
 }
 
