@@ -1,0 +1,7 @@
+use Rattle.std.proofs.Common.{arith}
+use Rattle.std.proofs.lemmas.Grind.{common_steps}
+use Rattle.tz_sau.proofs.boot.kept.Goals as goal
+
+-- The call that closes each goal, by name: what is tried before it finds nothing, after long.
+pub loop-index-preserved : goal.loop-index-preserved
+loop-index-preserved c = grind (arith, common_steps)
