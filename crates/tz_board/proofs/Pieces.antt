@@ -1,12 +1,8 @@
 -- Texts cut at their first separator, and the pieces, lines and parts that this gives.
-use Rattle.std.proofs.Common.{◌≡◌, ◌∙◌, ◌<◌, ◌≤◌, ◌+◌, ◌-◌, ◌==◌, ℕ, zero, suc, refl, sym, ap, arith, Bool, true, false, ◌||◌, ◌&&◌, if◌then◌else◌, List, [], ◌∷◌, ◌++◌, length, drop, take, get_or, filter, Some, None, position}
-use Rattle.std.proofs.lemmas.Bool.{and_right, ne_eqb, eq-eqb, eqb-true, ltb-false, true≢false}
+use Rattle.std.proofs.Common.{◌≡◌, ◌∙◌, ◌<◌, ◌≤◌, ◌+◌, ◌-◌, ◌==◌, ℕ, zero, suc, refl, sym, ap, arith, Bool, true, false, ◌||◌, ◌&&◌, if◌then◌else◌, List, [], ◌∷◌, ◌++◌, length, drop, take, get_or, filter}
+use Rattle.std.proofs.lemmas.Bool.{and_right, ne_eqb, eq-eqb, true≢false}
 use Rattle.std.proofs.lemmas.List.{drop_more, length-drop, nil_from_length, take-append-drop}
-use Rattle.std.proofs.lemmas.List.Sums.{fails_before_first}
 use Rattle.std.proofs.Math.Seq.{take-length}
-use Rattle.std.specs.List.{position_or_len}
-use lib.Dec.{ltb}
-use Rattle.std.proofs.lemmas.List.Quantifiers.{position-Some}
 use Rattle.tz_board.specs.Scripts.{is_part, script_lines, parts_of, pieces, without_returns}
 use Rattle.tz_board.specs.Text.{chomp, has}
 
@@ -17,29 +13,15 @@ has-take s [] (suc i) before h = refl
 has-take s (x ∷ xs) (suc i) before h =
     rw (before 0 (omega arith)) (has-take s xs i (λ k lt. before (suc k) (omega arith)) (omega arith))
 
-pub cut_at : (s : ℕ) (xs : List ℕ) (i : ℕ) → position (λ b. b == s) xs ≡ Some i → (xs ≡ take i xs ++ s ∷ drop (i + 1) xs) × (has s (take i xs) ≡ false)
-cut_at s xs i h =
-    let at = position-Some (λ b. b == s) xs i 0 h in
-    let lt : i < length xs = at.0 in
-    let here : get_or xs i 0 ≡ s = eqb-true (get_or xs i 0) s at.1 in
+-- a text at whose index the separator stands for the first time
+pub cut_at : (s : ℕ) (xs : List ℕ) (i : ℕ) → i < length xs → get_or xs i 0 ≡ s → ((k : ℕ) → k < i → (get_or xs k 0 == s) ≡ false) → (xs ≡ take i xs ++ s ∷ drop (i + 1) xs) × (has s (take i xs) ≡ false)
+cut_at s xs i lt here before =
     let parts : xs ≡ take i xs ++ drop i xs = sym (take-append-drop i xs) in
     let back : drop i xs ≡ s ∷ drop (i + 1) xs = drop_more xs i 0 lt ∙ ap (λ (b : ℕ). b ∷ drop (i + 1) xs) here in
-    (parts ∙ ap (λ (ys : List ℕ). take i xs ++ ys) back, has-take s xs i at.2 (omega arith))
+    (parts ∙ ap (λ (ys : List ℕ). take i xs ++ ys) back, has-take s xs i before (omega arith))
 
-none_is_some : {A : Type 0} → {x : A} → Some x ≡ None → ⊥
-none_is_some h = cc
-
-position-None : (p : ℕ → Bool) (xs : List ℕ) → position p xs ≡ None → length xs ≤ position_or_len p xs
-position-None p xs h = by_test (ltb (position_or_len p xs) (length xs)) refl
-  where
-    by_test : (b : Bool) → ltb (position_or_len p xs) (length xs) ≡ b → length xs ≤ position_or_len p xs
-    by_test true e = absurd (none_is_some (rw e at h))
-    by_test false e = ltb-false (position_or_len p xs) (length xs) e
-
-pub not_cut : (s : ℕ) (xs : List ℕ) → position (λ b. b == s) xs ≡ None → has s xs ≡ false
-not_cut s xs h =
-    let past : length xs ≤ position_or_len (λ b. b == s) xs = position-None (λ b. b == s) xs h in
-    rw (sym (take-length xs)) (has-take s xs (length xs) (λ k lt. fails_before_first (λ b. b == s) xs k 0 (omega arith)) (omega arith))
+pub not_cut : (s : ℕ) (xs : List ℕ) → ((k : ℕ) → k < length xs → (get_or xs k 0 == s) ≡ false) → has s xs ≡ false
+not_cut s xs before = rw (sym (take-length xs)) (has-take s xs (length xs) before (omega arith))
 
 -- the rest of a text, as a slice to its end gives it
 pub to_end : (xs : List ℕ) (n : ℕ) → take (length xs - n) (drop n xs) ≡ drop n xs

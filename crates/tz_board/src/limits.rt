@@ -17,7 +17,11 @@ fn bytes_in(regions: &[Region]) -> u64
     requires { length regions.now ≤ 32 }
     ensures { result ≡ bytes_of regions.now }
 {
-    regions.iter().map(|r| u64::from(r.size)).sum()
+    let mut bytes = 0;
+    for r in regions {
+        bytes += u64::from(r.size);
+    }
+    bytes
 }
 
 /// Whether the board is within the limits.

@@ -1,24 +1,19 @@
 //! Texts of bytes, cut at separators.
 
-ghost use Rattle.std.specs.Prelude.{◌≡◌, ◌<◌, ◌==◌, ◌++◌, [], ◌∷◌, MatchOption, false, length, position};
+ghost use Rattle.std.specs.Prelude.{◌≡◌, ◌<◌, ◌++◌, [], ◌∷◌, MatchOption, false, length};
 ghost use Rattle.tz_board.specs.Scripts.{number_of, parts_of};
 ghost use Rattle.tz_board.specs.Text.{chomp, has};
-
-/// Where a separator first stands.
-fn first_of(text: &[u8], separator: u8) -> Option<usize>
-    ensures { result ≡ position (λ b. b == separator) text.now }
-{
-    text.iter().position(|b| *b == separator)
-}
 
 /// The text before the first separator, and the text after it.
 pub fn cut(text: &[u8], separator: u8) -> Option<(&[u8], &[u8])>
     ensures { MatchOption result (has separator text.now ≡ false) (λ p. (text.now ≡ p.0.now ++ separator ∷ p.1.now) × (has separator p.0.now ≡ false)) }
 {
-    match first_of(text, separator) {
-        None => None,
-        Some(index) => Some((&text[..index], &text[index + 1..])),
+    for (index, b) in text.iter().enumerate() {
+        if *b == separator {
+            return Some((&text[..index], &text[index + 1..]));
+        }
     }
+    None
 }
 
 /// A line without the carriage return at its end.
