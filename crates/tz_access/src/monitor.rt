@@ -46,6 +46,7 @@ impl Bus {
     pub fn monitor(&self) -> Option<(u32, Size)>
         ensures { MatchOption result (self.now.monitor ≡ None) (λ e. self.now.monitor ≡ Some (record { addr = e.0; size = e.1 })) }
     {
-        self.monitor.map(|held| (held.addr, held.size))
+        let held = self.monitor?;
+        Some((held.addr, held.size))
     }
 }

@@ -28,9 +28,8 @@ impl Sau {
         ensures { MatchOption result (length self.now.sau.regions ≤ index)
             (λ pair. (index < length self.now.sau.regions) × (bounds_at self.now.sau.regions index ≡ record { rbar = pair.0; rlar = pair.1 })) }
     {
-        self.bounds
-            .get(index as usize)
-            .map(|bounds| (bounds.rbar, bounds.rlar))
+        let bounds = self.bounds.get(index as usize)?;
+        Some((bounds.rbar, bounds.rlar))
     }
 
     /// The value of a register by its name; RBAR and RLAR are zero where RNR names no region.
