@@ -37,6 +37,15 @@ fn push_number(line: &mut Vec<u8>, number: u32) -> Result<(), AllocError>
     push_text(line, buffer.format(number))
 }
 
+/// Appends a text and a number.
+fn push_code(line: &mut Vec<u8>, text: &str, number: u32) -> Result<(), AllocError>
+    ensures bytes { OnOk result (line.new.items ≡ line.old.items ++ (text.now ++ decimal number)) }
+    ensures len { OnOk result (vec_len line.new ≤ vec_len line.old + length text.now + 10) }
+{
+    push_text(line, text)?;
+    push_number(line, number)
+}
+
 /// Appends a place of a board file.
 fn push_place(line: &mut Vec<u8>, place: Place) -> Result<(), AllocError>
     ensures bytes { OnOk result (line.new.items ≡ line.old.items ++ place_text (place_of place)) }
@@ -45,26 +54,15 @@ fn push_place(line: &mut Vec<u8>, place: Place) -> Result<(), AllocError>
     match place {
         Place::Top(_) => {}
         Place::Region(index, _) => {
-            push_text(line, "region ")?;
-            push_number(line, index)?;
+            push_code(line, "region ", index)?;
             push_text(line, " ")?;
         }
         Place::Sau(index, _) => {
-            push_text(line, "sau ")?;
-            push_number(line, index)?;
+            push_code(line, "sau ", index)?;
             push_text(line, " ")?;
         }
     }
     push_text(line, place.key().text())
-}
-
-/// Appends a code and a number.
-fn push_code(line: &mut Vec<u8>, code: &str, number: u32) -> Result<(), AllocError>
-    ensures bytes { OnOk result (line.new.items ≡ line.old.items ++ (code.now ++ decimal number)) }
-    ensures len { OnOk result (vec_len line.new ≤ vec_len line.old + length code.now + 10) }
-{
-    push_text(line, code)?;
-    push_number(line, number)
 }
 
 /// Appends the code of an image's refusal with its place; its error is want of memory.
