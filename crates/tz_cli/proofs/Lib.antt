@@ -7,6 +7,7 @@ pub mod WordAnswers
 pub mod Numbers
 pub mod Choices
 pub mod Sides
+pub mod FaultLines
 pub mod FileNames
 pub mod Clauses
 pub mod Exits

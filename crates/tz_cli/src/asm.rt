@@ -1,6 +1,6 @@
 //! The command `asm`: its source, the image in its form, and the status.
 
-ghost use Rattle.std.specs.Prelude.{◌≡◌, ◌<◌, ◌≤◌, ◌+◌, ◌++◌, ◌^◌, IfOk, Err, length, Some};
+ghost use Rattle.std.specs.Prelude.{◌≡◌, ◌<◌, ◌≤◌, ◌+◌, ◌^◌, IfOk, Err, length, Some};
 ghost use Rattle.tz_model.specs.Outside.{HasCause, Put};
 ghost use Rattle.tz_cli.specs.Asm.{asm_in, asm_names};
 ghost use Rattle.tz_cli.specs.Commands.{Asm, longest};
@@ -39,15 +39,6 @@ fn line_length(text: &[u8]) -> usize
     text.len()
 }
 
-/// The first line of a text, with its line feed, and what stands behind it.
-fn cut_line(text: &[u8]) -> (&[u8], &[u8])
-    requires { 0 < length text.now }
-    ensures parts { result.0.now ++ result.1.now ≡ text.now }
-    ensures shorter { length result.1.now < length text.now }
-{
-    text.split_at(line_length(text))
-}
-
 /// Writes a text, each line with its line feed as one put.
 fn put_lines<O: Sink>(text: &[u8], out: &mut O) -> Result<(), SinkError>
     ensures put { Put (O.written out.old) (O.written out.new) (O.space out.old) (O.space out.new) text.now result }
@@ -55,7 +46,7 @@ fn put_lines<O: Sink>(text: &[u8], out: &mut O) -> Result<(), SinkError>
 {
     let mut rest = text;
     'lines: while !rest.is_empty() {
-        let (line, behind) = cut_line(rest);
+        let (line, behind) = rest.split_at(line_length(rest));
         if let Err(error) = out.put(line) {
             return Err(error);
         }

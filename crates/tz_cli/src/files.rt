@@ -270,29 +270,8 @@ pub fn load_listed<H: Shelf>(
     }
 }
 
-/// The image that a source gives.
-#[tactic(auto, unfolding(crate::specs::Told::source_told))]
-fn load_source<H: Shelf>(
-    alloc: Global,
-    shelf: &mut H,
-    names: &FileNames<'_>,
-) -> Result<Image, LoadError>
-    ensures ok { IfOk result (λ i. Allows (source_told (H.held shelf.old) names.now.source.now) i.segments) }
-    ensures few { IfOk result (λ i. length i.segments < 65536) }
-    ensures err { IfErr result (λ e. IsStageFault (record { held = H.held shelf.old; sound = H.sound shelf.old; before = H.faults shelf.old; now = H.faults shelf.new }) (names_read names.now) files.Source (source_told (H.held shelf.old) names.now.source.now) e) }
-    ensures later { H.faults shelf.old ≤ H.faults shelf.new }
-{
-    let bytes = match read(alloc, shelf, names.source, SOURCE_LIMIT) {
-        Ok(bytes) => bytes,
-        Err(error) => return Err(unread(File::Source, error)),
-    };
-    match assemble(alloc, &bytes) {
-        Ok(image) => Ok(image),
-        Err(error) => Err(LoadError::Source(error)),
-    }
-}
-
 /// The image of an assembly.
+#[tactic(auto, unfolding(crate::specs::Told::source_told))]
 pub fn load_assembled<H: Shelf>(
     alloc: Global,
     shelf: &mut H,
@@ -303,8 +282,12 @@ pub fn load_assembled<H: Shelf>(
     ensures err { IfErr result (λ e. IsFault (record { held = H.held shelf.old; sound = H.sound shelf.old; before = H.faults shelf.old; now = H.faults shelf.new }) (asm_files (asm_in words.now)) IsSource (source_told (H.held shelf.old) (asm_in words.now).source) e) }
     ensures later { H.faults shelf.old ≤ H.faults shelf.new }
 {
-    match load_source(alloc, shelf, &names_of_asm(words)) {
+    let bytes = match read(alloc, shelf, words.source, SOURCE_LIMIT) {
+        Ok(bytes) => bytes,
+        Err(error) => return Err(unread(File::Source, error)),
+    };
+    match assemble(alloc, &bytes) {
         Ok(image) => Ok(image),
-        Err(fault) => Err(fault),
+        Err(error) => Err(LoadError::Source(error)),
     }
 }

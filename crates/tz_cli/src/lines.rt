@@ -2,13 +2,13 @@
 //!
 //! A line is built whole and goes out as one put. Its text is exactly the definition's.
 
-ghost use Rattle.std.specs.Prelude.{◌≡◌, ◌⊎◌, ◌≤◌, ◌+◌, ◌++◌, IfOk, OnOk, codes, decimal, length, vec_len};
+ghost use Rattle.std.specs.Prelude.{◌≡◌, ◌⊎◌, ◌≤◌, ◌+◌, ◌++◌, IfOk, OnOk, IsSome, codes, decimal, length, vec_len};
 ghost use Rattle.tz_elf.specs.Images.{Refusal};
 ghost use Rattle.tz_board.specs.BoardErrors.{refusal_of, place_of};
 ghost use Rattle.tz_board.specs.ScriptErrors.{script_refusal_of};
 ghost use Rattle.tz_cli.specs.Commands.{longest};
 ghost use Rattle.tz_cli.specs.Answer.{IsTold};
-ghost use Rattle.tz_cli.specs.Lines.{board_code, image_code, script_code, source_code, place_text, refused_line, unread_line, limit_line};
+ghost use Rattle.tz_cli.specs.Lines.{board_code, image_code, script_code, source_code, place_text};
 ghost use Rattle.tz_cli.specs.Faults.{Names, image_refusal, source_refusal, line_with, list_of, names_read, status_with, stop_of, code_with};
 
 use crate::files::name_of;
@@ -37,6 +37,15 @@ fn push_number(line: &mut Vec<u8>, number: u32) -> Result<(), AllocError>
     push_text(line, buffer.format(number))
 }
 
+/// Appends a text and a number.
+fn push_code(line: &mut Vec<u8>, text: &str, number: u32) -> Result<(), AllocError>
+    ensures bytes { OnOk result (line.new.items ≡ line.old.items ++ (text.now ++ decimal number)) }
+    ensures len { OnOk result (vec_len line.new ≤ vec_len line.old + length text.now + 10) }
+{
+    push_text(line, text)?;
+    push_number(line, number)
+}
+
 /// Appends a place of a board file.
 fn push_place(line: &mut Vec<u8>, place: Place) -> Result<(), AllocError>
     ensures bytes { OnOk result (line.new.items ≡ line.old.items ++ place_text (place_of place)) }
@@ -45,32 +54,22 @@ fn push_place(line: &mut Vec<u8>, place: Place) -> Result<(), AllocError>
     match place {
         Place::Top(_) => {}
         Place::Region(index, _) => {
-            push_text(line, "region ")?;
-            push_number(line, index)?;
+            push_code(line, "region ", index)?;
             push_text(line, " ")?;
         }
         Place::Sau(index, _) => {
-            push_text(line, "sau ")?;
-            push_number(line, index)?;
+            push_code(line, "sau ", index)?;
             push_text(line, " ")?;
         }
     }
     push_text(line, place.key().text())
 }
 
-/// Appends a code and a number.
-fn push_code(line: &mut Vec<u8>, code: &str, number: u32) -> Result<(), AllocError>
-    ensures bytes { OnOk result (line.new.items ≡ line.old.items ++ (code.now ++ decimal number)) }
-    ensures len { OnOk result (vec_len line.new ≤ vec_len line.old + length code.now + 10) }
-{
-    push_text(line, code)?;
-    push_number(line, number)
-}
-
-/// Appends the code of an image's refusal with its place; of want of memory nothing.
+/// Appends the code of an image's refusal with its place; its error is want of memory.
 fn push_image_error(line: &mut Vec<u8>, error: ElfError) -> Result<(), AllocError>
     ensures bytes { OnOk result (line.new.items ≡ line.old.items ++ code_with image_code (image_refusal error)) }
     ensures len { OnOk result (vec_len line.new ≤ vec_len line.old + 24) }
+    ensures told { OnOk result (IsSome (image_refusal error)) }
 {
     match error {
         ElfError::Magic => push_text(line, "L1"),
@@ -85,14 +84,15 @@ fn push_image_error(line: &mut Vec<u8>, error: ElfError) -> Result<(), AllocErro
             push_code(line, " ", index)
         }
         ElfError::Hex(number) => push_code(line, "L9 ", number),
-        ElfError::Memory => Ok(()),
+        ElfError::Memory => Err(AllocError),
     }
 }
 
-/// Appends the code of a board's refusal with its place; of want of memory nothing.
+/// Appends the code of a board's refusal with its place; its error is want of memory.
 fn push_board_error(line: &mut Vec<u8>, error: BoardError) -> Result<(), AllocError>
     ensures bytes { OnOk result (line.new.items ≡ line.old.items ++ code_with board_code (refusal_of error)) }
     ensures len { OnOk result (vec_len line.new ≤ vec_len line.old + 36) }
+    ensures told { OnOk result (IsSome (refusal_of error)) }
 {
     match error {
         BoardError::NotToml => push_text(line, "B1"),
@@ -113,28 +113,30 @@ fn push_board_error(line: &mut Vec<u8>, error: BoardError) -> Result<(), AllocEr
             push_code(line, " ", j)
         }
         BoardError::TooMany => push_text(line, "B6"),
-        BoardError::Memory => Ok(()),
+        BoardError::Memory => Err(AllocError),
     }
 }
 
-/// Appends the code of a script's refusal with its line; of want of memory nothing.
+/// Appends the code of a script's refusal with its line; its error is want of memory.
 fn push_script_error(line: &mut Vec<u8>, error: ScriptError) -> Result<(), AllocError>
     ensures bytes { OnOk result (line.new.items ≡ line.old.items ++ code_with script_code (script_refusal_of error)) }
     ensures len { OnOk result (vec_len line.new ≤ vec_len line.old + 24) }
+    ensures told { OnOk result (IsSome (script_refusal_of error)) }
 {
     match error {
         ScriptError::BadLine(number) => push_code(line, "C1 ", number),
         ScriptError::OutOfOrder(number) => push_code(line, "C2 ", number),
         ScriptError::NoSuchInterrupt(number) => push_code(line, "C3 ", number),
         ScriptError::TooMany => push_text(line, "C4"),
-        ScriptError::Memory => Ok(()),
+        ScriptError::Memory => Err(AllocError),
     }
 }
 
-/// Appends the code of a source's refusal with its line; of want of memory nothing.
+/// Appends the code of a source's refusal with its line; its error is want of memory.
 fn push_source_error(line: &mut Vec<u8>, error: AsmError) -> Result<(), AllocError>
     ensures bytes { OnOk result (line.new.items ≡ line.old.items ++ code_with source_code (source_refusal error)) }
     ensures len { OnOk result (vec_len line.new ≤ vec_len line.old + 24) }
+    ensures told { OnOk result (IsSome (source_refusal error)) }
 {
     match error {
         AsmError::Token(number) => push_code(line, "A1 ", number),
@@ -145,126 +147,74 @@ fn push_source_error(line: &mut Vec<u8>, error: AsmError) -> Result<(), AllocErr
         AsmError::TwoLabels(number) => push_code(line, "A6 ", number),
         AsmError::OrgBackwards(number) => push_code(line, "A7 ", number),
         AsmError::TooLarge(number) => push_code(line, "A8 ", number),
-        AsmError::Memory => Ok(()),
+        AsmError::Memory => Err(AllocError),
     }
 }
 
-/// The line of a file that can't be read.
-fn unread_line(alloc: Global, name: &str) -> Result<Vec<u8>, AllocError>
-    ensures bytes { IfOk result (λ line. line.items ≡ unread_line name.now) }
-    ensures len { IfOk result (λ line. vec_len line ≤ 64 + length name.now) }
+/// Appends the name of a refused file, and what stands between it and the code.
+fn push_name(line: &mut Vec<u8>, name: &str) -> Result<(), AllocError>
+    ensures bytes { OnOk result (line.new.items ≡ line.old.items ++ (name.now ++ codes ": ")) }
+    ensures len { OnOk result (vec_len line.new ≤ vec_len line.old + length name.now + 2) }
 {
-    let mut line = Vec::new(alloc);
-    push_text(&mut line, "cannot read ")?;
-    push_text(&mut line, name)?;
-    push_text(&mut line, "\n")?;
-    Ok(line)
+    push_text(line, name)?;
+    push_text(line, ": ")
 }
 
-/// The line of a file that is too long.
-fn limit_line(alloc: Global, name: &str) -> Result<Vec<u8>, AllocError>
-    ensures bytes { IfOk result (λ line. line.items ≡ limit_line name.now) }
-    ensures len { IfOk result (λ line. vec_len line ≤ 64 + length name.now) }
+/// Appends what is told of a fault, up to the end of its line; its error is want of memory.
+fn push_fault(line: &mut Vec<u8>, names: &FileNames<'_>, fault: LoadError) -> Result<(), AllocError>
+    ensures bytes { OnOk result (line.new.items ++ codes "\n" ≡ line.old.items ++ line_with (stop_of (names_read names.now) fault)) }
+    ensures len { OnOk result (vec_len line.new ≤ vec_len line.old + 63 + longest (list_of (names_read names.now))) }
+    ensures told { OnOk result (IsSome (stop_of (names_read names.now) fault)) }
 {
-    let mut line = Vec::new(alloc);
-    push_text(&mut line, "limit ")?;
-    push_text(&mut line, name)?;
-    push_text(&mut line, "\n")?;
-    Ok(line)
-}
-
-/// The line of a board that is refused.
-fn board_line(alloc: Global, name: &str, error: BoardError) -> Result<Vec<u8>, AllocError>
-    ensures bytes { IfOk result (λ line. line.items ≡ refused_line name.now (code_with board_code (refusal_of error))) }
-    ensures len { IfOk result (λ line. vec_len line ≤ 64 + length name.now) }
-{
-    let mut line = Vec::new(alloc);
-    push_text(&mut line, name)?;
-    push_text(&mut line, ": ")?;
-    push_board_error(&mut line, error)?;
-    push_text(&mut line, "\n")?;
-    Ok(line)
-}
-
-/// The line of an image that is refused.
-fn image_line(alloc: Global, name: &str, error: ElfError) -> Result<Vec<u8>, AllocError>
-    ensures bytes { IfOk result (λ line. line.items ≡ refused_line name.now (code_with image_code (image_refusal error))) }
-    ensures len { IfOk result (λ line. vec_len line ≤ 64 + length name.now) }
-{
-    let mut line = Vec::new(alloc);
-    push_text(&mut line, name)?;
-    push_text(&mut line, ": ")?;
-    push_image_error(&mut line, error)?;
-    push_text(&mut line, "\n")?;
-    Ok(line)
-}
-
-/// The line of a script that is refused.
-fn script_line(alloc: Global, name: &str, error: ScriptError) -> Result<Vec<u8>, AllocError>
-    ensures bytes { IfOk result (λ line. line.items ≡ refused_line name.now (code_with script_code (script_refusal_of error))) }
-    ensures len { IfOk result (λ line. vec_len line ≤ 64 + length name.now) }
-{
-    let mut line = Vec::new(alloc);
-    push_text(&mut line, name)?;
-    push_text(&mut line, ": ")?;
-    push_script_error(&mut line, error)?;
-    push_text(&mut line, "\n")?;
-    Ok(line)
-}
-
-/// The line of a source that is refused.
-fn source_line(alloc: Global, name: &str, error: AsmError) -> Result<Vec<u8>, AllocError>
-    ensures bytes { IfOk result (λ line. line.items ≡ refused_line name.now (code_with source_code (source_refusal error))) }
-    ensures len { IfOk result (λ line. vec_len line ≤ 64 + length name.now) }
-{
-    let mut line = Vec::new(alloc);
-    push_text(&mut line, name)?;
-    push_text(&mut line, ": ")?;
-    push_source_error(&mut line, error)?;
-    push_text(&mut line, "\n")?;
-    Ok(line)
+    match fault {
+        LoadError::Unread(file) => {
+            push_text(line, "cannot read ")?;
+            push_text(line, name_of(names, file))
+        }
+        LoadError::Long(file) => {
+            push_text(line, "limit ")?;
+            push_text(line, name_of(names, file))
+        }
+        LoadError::Board(error) => {
+            push_name(line, names.board)?;
+            push_board_error(line, error)
+        }
+        LoadError::Image(file, error) => {
+            push_name(line, name_of(names, file))?;
+            push_image_error(line, error)
+        }
+        LoadError::Script(error) => {
+            push_name(line, names.script)?;
+            push_script_error(line, error)
+        }
+        LoadError::Source(error) => {
+            push_name(line, names.source)?;
+            push_source_error(line, error)
+        }
+        LoadError::Memory => Err(AllocError),
+    }
 }
 
 /// The line of a fault; its error is want of memory.
-pub fn fault_line(
-    alloc: Global,
-    names: &FileNames<'_>,
-    fault: LoadError,
-) -> Result<Vec<u8>, AllocError>
+fn fault_line(alloc: Global, names: &FileNames<'_>, fault: LoadError) -> Result<Vec<u8>, AllocError>
     ensures bytes { IfOk result (λ line. line.items ≡ line_with (stop_of (names_read names.now) fault)) }
     ensures len { IfOk result (λ line. vec_len line ≤ 64 + longest (list_of (names_read names.now))) }
+    ensures told { IfOk result (λ _. IsSome (stop_of (names_read names.now) fault)) }
 {
-    match fault {
-        LoadError::Unread(file) => unread_line(alloc, name_of(names, file)),
-        LoadError::Long(file) => limit_line(alloc, name_of(names, file)),
-        LoadError::Board(BoardError::Memory) => Err(AllocError),
-        LoadError::Image(_, ElfError::Memory) => Err(AllocError),
-        LoadError::Script(ScriptError::Memory) => Err(AllocError),
-        LoadError::Source(AsmError::Memory) => Err(AllocError),
-        LoadError::Memory => Err(AllocError),
-        LoadError::Board(error) => board_line(alloc, names.board, error),
-        LoadError::Script(error) => script_line(alloc, names.script, error),
-        LoadError::Source(error) => source_line(alloc, names.source, error),
-        LoadError::Image(file, error) => image_line(alloc, name_of(names, file), error),
-    }
+    let mut line = Vec::new(alloc);
+    push_fault(&mut line, names, fault)?;
+    push_text(&mut line, "\n")?;
+    Ok(line)
 }
 
-/// The status of a fault: 3, 5, 6, or 7 for want of memory.
+/// The status of a fault that has a line: 3, 5 or 6.
 fn fault_status(fault: LoadError) -> u8
-    ensures { (n : Names) → status_with (stop_of n fault) ≡ result }
+    ensures { (n : Names) → IsSome (stop_of n fault) → status_with (stop_of n fault) ≡ result }
 {
     match fault {
         LoadError::Unread(_) => 3,
         LoadError::Long(_) => 6,
-        LoadError::Board(BoardError::Memory) => 7,
-        LoadError::Image(_, ElfError::Memory) => 7,
-        LoadError::Script(ScriptError::Memory) => 7,
-        LoadError::Source(AsmError::Memory) => 7,
-        LoadError::Memory => 7,
-        LoadError::Board(_) => 5,
-        LoadError::Script(_) => 5,
-        LoadError::Source(_) => 5,
-        LoadError::Image(_, _) => 5,
+        _ => 5,
     }
 }
 

@@ -1,5 +1,7 @@
 -- ELF images as they are written, part by part.
 use Rattle.std.proofs.Common.{◌≡◌, ◌∙◌, ◌<◌, ◌≤◌, ◌+◌, ℕ, zero, suc, refl, sym, ap, arith, List, [], ◌∷◌, ◌++◌, append_assoc, length, drop, get_or, add-one, drop-cons}
+use Rattle.std.specs.Int.{to_le_bytes, w32}
+use Rattle.std.proofs.lemmas.List.{append-nil}
 use Rattle.tz_model.specs.Image.{SegmentValue}
 use Rattle.tz_elf.specs.ElfImage.{all_bytes, entries_bytes, entry_bytes}
 use Rattle.tz_elf.proofs.Counting.{lengths}
@@ -44,3 +46,26 @@ pub lengths-item : (segments : List SegmentValue) (i : ℕ) (s : SegmentValue) �
 lengths-item segments i s h is =
     let rest = drop (suc i) segments in
     rw (add-one, drop-cons segments i s) (ap (λ (x : SegmentValue). length x.bytes + lengths rest) (sym is))
+
+-- numbers of 4 bytes each, the low byte first
+unfoldable pub words_bytes : List ℕ → List ℕ
+words_bytes [] = []
+words_bytes (word ∷ more) = to_le_bytes w32 word ++ words_bytes more
+
+-- a turn over the numbers
+pub words_bytes-item : (words : List ℕ) (i : ℕ) → i < length words
+    → words_bytes (drop i words) ≡ to_le_bytes w32 (get_or words i 0) ++ words_bytes (drop (i + 1) words)
+unfolding words_bytes
+words_bytes-item words i h = rw (add-one, drop-cons words i 0) refl
+
+pub words_bytes-none : (words : List ℕ) (i : ℕ) → length words ≤ i → words_bytes (drop i words) ≡ []
+unfolding words_bytes
+words_bytes-none [] zero h = refl
+words_bytes-none [] (suc i) h = refl
+words_bytes-none (word ∷ more) zero h = absurd (omega arith)
+words_bytes-none (word ∷ more) (suc i) h = words_bytes-none more i (omega arith)
+
+-- a program header is eight numbers
+pub words_bytes-entry : (offset base size : ℕ) → words_bytes (1 ∷ offset ∷ base ∷ base ∷ size ∷ size ∷ 7 ∷ 1 ∷ []) ≡ entry_bytes offset base size
+unfolding words_bytes
+words_bytes-entry offset base size = simp append-nil

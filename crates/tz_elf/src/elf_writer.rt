@@ -5,7 +5,6 @@
 //! sections and no entry point: the machine starts by its vector tables.
 
 ghost use Rattle.std.specs.Prelude.{◌≡◌, ◌+◌, ◌*◌, ◌<◌, ◌≤◌, ◌++◌, length, Ok, IfOk, OnOk};
-ghost use Rattle.std.specs.Int.{to_le_bytes, w32};
 ghost use Rattle.tz_model.specs.Board.{most_bytes};
 ghost use Rattle.tz_model.specs.Image.{bytes_in};
 ghost use Rattle.tz_elf.specs.ElfImage.{elf_bytes, entries_bytes, entry_bytes, header_bytes};
@@ -24,13 +23,6 @@ const FIXED_HEADER: [u8; 44] = [
     52, 0, 32, 0, // e_ehsize, e_phentsize
 ];
 
-/// Writes a number of 4 bytes, the low byte first.
-fn write_word(number: u32, file: &mut Vec<u8>) -> Result<(), AllocError>
-    ensures { OnOk result (file.new.items ≡ file.old.items ++ to_le_bytes w32 number) }
-{
-    file.extend_from_slice(number.to_le_bytes().as_slice())
-}
-
 /// Writes the file header for so many program headers.
 fn write_header(count: u16, file: &mut Vec<u8>) -> Result<(), AllocError>
     ensures { OnOk result (file.new.items ≡ file.old.items ++ header_bytes count) }
@@ -45,14 +37,9 @@ fn write_header(count: u16, file: &mut Vec<u8>) -> Result<(), AllocError>
 fn write_entry(offset: u32, base: u32, size: u32, file: &mut Vec<u8>) -> Result<(), AllocError>
     ensures { OnOk result (file.new.items ≡ file.old.items ++ entry_bytes offset base size) }
 {
-    write_word(1, file)?;
-    write_word(offset, file)?;
-    write_word(base, file)?;
-    write_word(base, file)?;
-    write_word(size, file)?;
-    write_word(size, file)?;
-    write_word(7, file)?;
-    write_word(1, file)?;
+    for word in [1, offset, base, base, size, size, 7, 1].as_slice() {
+        file.extend_from_slice(word.to_le_bytes().as_slice())?;
+    }
     Ok(())
 }
 

@@ -61,11 +61,13 @@ fn serves(side: Side, region: &Region) -> bool
 pub fn regions_for(alloc: Global, side: Side, regions: &[Region]) -> Result<Vec<Region>, AllocError>
     ensures { IfOk result (λ v. v.items ≡ placement.regions_for side regions.now) }
 {
-    regions
-        .iter()
-        .filter(|region| serves(side, *region))
-        .copied()
-        .collect(alloc)
+    let mut usable = Vec::new(alloc);
+    for region in regions {
+        if serves(side, region) {
+            usable.push(*region)?;
+        }
+    }
+    Ok(usable)
 }
 
 /// The place of the first segment that shares a byte with another.

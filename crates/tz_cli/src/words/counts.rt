@@ -14,7 +14,12 @@ const MOST_DIGITS: usize = 8;
 fn are_digits(word: &str) -> bool
     ensures { IsTrue result ↔ EachIndex word.now (λ k. IsInRange 48 57 (slice_index word.now k)) }
 {
-    word.as_bytes().iter().all(|byte| byte.is_ascii_digit())
+    for byte in word.as_bytes() {
+        if !byte.is_ascii_digit() {
+            return false;
+        }
+    }
+    true
 }
 
 /// Whether a word is a number of 1 to 8 decimal digits.

@@ -1,13 +1,17 @@
-use Rattle.tz_elf.proofs.WrittenElf.{appended}
+use Rattle.std.proofs.Common.{◌∙◌, ◌+◌, ◌++◌, ap, drop, sym, List, ℕ}
+use Rattle.tz_elf.proofs.Written.{written-all, written-more}
+use Rattle.tz_elf.proofs.WrittenElf.{words_bytes, words_bytes-entry, words_bytes-item, words_bytes-none}
 use Rattle.tz_elf.proofs.elf_writer.write_entry.Goals as goal
 
+pub loop-word-init : goal.loop-word-init
+loop-word-init c =
+    ap (λ (bytes : List ℕ). c.args.file.now.items ++ bytes) (ap words_bytes c.as_slice-word-items.ensures ∙ words_bytes-entry c.args.offset c.args.base c.args.size)
+
+pub loop-word-preserved : goal.loop-word-preserved
+loop-word-preserved c =
+    written-more _ c.loop-word.file.items c.extend_from_slice.new.self.items c.as_slice.result.now _ _ c.loop-word.invariant c.in_ok-extend_from_slice.ensures.items
+    (words_bytes-item c.as_slice-word-items.result.now c.loop-word.word-index c.loop-word-test.true
+    ∙ ap (λ (bytes : List ℕ). bytes ++ words_bytes (drop (c.loop-word.word-index + 1) c.as_slice-word-items.result.now)) (sym (c.as_slice.ensures ∙ c.to_le_bytes.ensures)))
+
 pub returns : goal.returns
-returns c =
-    let start = c.args.file.now.items in
-    let two = appended start _ _ _ c.write_word.new.file.items c.in_ok-write_word-2.ensures c.in_ok-write_word.ensures in
-    let three = appended start _ _ _ c.write_word-2.new.file.items c.in_ok-write_word-3.ensures two in
-    let four = appended start _ _ _ c.write_word-3.new.file.items c.in_ok-write_word-4.ensures three in
-    let five = appended start _ _ _ c.write_word-4.new.file.items c.in_ok-write_word-5.ensures four in
-    let six = appended start _ _ _ c.write_word-5.new.file.items c.in_ok-write_word-6.ensures five in
-    let seven = appended start _ _ _ c.write_word-6.new.file.items c.in_ok-write_word-7.ensures six in
-    appended start _ _ _ c.write_word-7.new.file.items c.in_ok-write_word-8.ensures seven
+returns c = written-all _ c.loop-word.file.items _ c.loop-word.invariant (words_bytes-none c.as_slice-word-items.result.now c.loop-word.word-index c.loop-word-test.false)
