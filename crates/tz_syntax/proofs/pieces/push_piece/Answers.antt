@@ -2,7 +2,40 @@ use Rattle.std.proofs.Common.{arith}
 use Rattle.std.proofs.lemmas.Grind.{common_steps}
 use Rattle.tz_syntax.proofs.pieces.push_piece.Goals as goal
 
--- What a call gives is said of the variant of its arm.
+-- What a call asks for and what it gives is said of the variant of its arm.
+pub push_constant-requires : goal.push_constant-requires
+push_constant-requires g c = let h = rw c.in-Number.is at c.requires in first_of (assumption, omega arith)
+
+pub push_expanded-requires : goal.push_expanded-requires
+push_expanded-requires g c = let h = rw c.in-Expanded.is at c.requires in first_of (assumption, omega arith)
+
+pub push_target-requires : goal.push_target-requires
+push_target-requires g c = let h = rw c.in-Target.is at c.requires in first_of (assumption, omega arith)
+
+pub push_target-requires-in-AlignedTarget : goal.push_target-requires-in-AlignedTarget
+push_target-requires-in-AlignedTarget g c = let h = rw c.in-AlignedTarget.is at c.requires in first_of (assumption, omega arith)
+
+pub push_list-requires : goal.push_list-requires
+push_list-requires g c = let h = rw c.in-List.is at c.requires in first_of (assumption, omega arith)
+
+pub push_shift-requires : goal.push_shift-requires
+push_shift-requires g c = let h = rw c.in-Shift.is at c.requires in first_of (assumption, omega arith)
+
+pub push_shift-requires-in-Left : goal.push_shift-requires-in-Left
+push_shift-requires-in-Left g c = let h = rw c.in-Left.is at c.requires in first_of (assumption, omega arith)
+
+pub push_shift-requires-in-Right : goal.push_shift-requires-in-Right
+push_shift-requires-in-Right g c = let h = rw c.in-Right.is at c.requires in first_of (assumption, omega arith)
+
+pub push_shift-requires-in-Rotated : goal.push_shift-requires-in-Rotated
+push_shift-requires-in-Rotated g c = let h = rw c.in-Rotated.is at c.requires in first_of (assumption, omega arith)
+
+pub push_letters-requires : goal.push_letters-requires
+push_letters-requires g c = let h = rw c.in-Letters.is at c.requires in first_of (assumption, omega arith)
+
+pub push_masks-requires : goal.push_masks-requires
+push_masks-requires g c = let h = rw c.in-Masks.is at c.requires in first_of (assumption, omega arith)
+
 pub returns-in-Number-clause-len : goal.returns-in-Number-clause-len
 returns-in-Number-clause-len g c = rw c.in-Number.is c.push_constant.ensures.len
 
