@@ -7,9 +7,9 @@ use Rattle.std.specs.List.{list_all}
 use Rattle.std.specs.Str.{bytes_eq}
 use Rattle.tz_syntax.specs.Rows.{TextRow}
 use Rattle.tz_syntax.specs.Text.{texts}
-use Rattle.tz_asm.specs.Index.{letter_sum, part_in, part_of, rows_at, named_at}
+use Rattle.tz_asm.specs.Index.{between, letter_sum, part_in, part_of, rows_at, named_at}
 use Rattle.tz_asm.specs.Mnemonics.{behind, ends_well, is_named, lettered, texts_of}
-use Rattle.tz_asm.specs.declared.code.index.TheConstants.{PARTS}
+use Rattle.tz_asm.specs.declared.code.index.TheConstants.{PARTS, PLACES}
 
 -- ---- the parts hold the numbers of the rows that are in them
 
@@ -26,7 +26,7 @@ parts_hold rows k [] = true
 parts_hold rows k (places ∷ parts) = bytes_eq places (places_of (in_part k) 0 rows) && parts_hold rows (k + 1) parts
 
 abbrev pub parts : List (List ℕ)
-parts = map (λ part. part.now) PARTS
+parts = map (between PLACES) PARTS
 
 parts_hold_here : parts_hold texts 0 parts ≡ true
 unfolding texts
@@ -131,7 +131,7 @@ part_has_all w l =
     ∙ ap (filter (is_named w)) (rows_of_part (part_of w))
     ∙ filter_filter (is_named w) (in_part (part_of w)) texts (named_in_part w) all_fine
 
-pub parts_are : map (λ part. part.now) PARTS ≡ parts
+pub parts_are : map (between PLACES) PARTS ≡ parts
 parts_are = refl
 
 -- the same of what a look-up gives

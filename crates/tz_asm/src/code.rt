@@ -16,5 +16,5 @@ mod rows;
 mod uncoded;
 
 pub use coded::{code_of, coded_once, coded_width, has_shape, width_of};
-pub use operands::is_label;
+pub use operands::{has_dot, is_label};
 pub use uncoded::Uncoded;

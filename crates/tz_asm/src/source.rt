@@ -5,7 +5,6 @@
 //! the module `code` tells its code. What stands in other lines isn't known here.
 
 mod directive;
-mod first;
 mod label;
 mod number;
 mod source_line;

@@ -24,9 +24,9 @@ fn is_load_list(back: u32, base: u32, list: u32) -> bool
 fn is_many(back: u32, base: u32, list: u32) -> bool
     ensures { result ≡ (nat_le 2 (count_ones list) && not (is_listed_of list 14 && is_listed_of list 15) && not (back == 1 && is_listed_of list base)) }
 {
-    let both = words::is_listed(list, 14) && words::is_listed(list, 15);
-    let again = back == 1 && words::is_listed(list, base);
-    list.count_ones() >= 2 && !both && !again
+    let both = words::is_listed(list, 14) & words::is_listed(list, 15);
+    let again = (back == 1) & words::is_listed(list, base);
+    (list.count_ones() >= 2) & !both & !again
 }
 
 /// The base of two registers, whose places follow that of `back`: no PC, and neither of them where it is
@@ -34,8 +34,8 @@ fn is_many(back: u32, base: u32, list: u32) -> bool
 fn is_pair_base(base: u32, earlier: &[i32], back: u8, first: u8, second: u8) -> bool
     ensures { result ≡ (not_pc base && not (nat_le 2 (number_at_of earlier.now back) && (base == number_at_of earlier.now first || base == number_at_of earlier.now second))) }
 {
-    let is_listed = base == at(earlier, first) || base == at(earlier, second);
-    base != 15 && !(at(earlier, back) >= 2 && is_listed)
+    let is_listed = (base == at(earlier, first)) | (base == at(earlier, second));
+    (base != 15) & !((at(earlier, back) >= 2) & is_listed)
 }
 
 /// The register at a place is neither SP nor PC.
@@ -73,27 +73,27 @@ fn allows(limit: Limit, earlier: &[i32], n: u32) -> bool
         Limit::NotBothPc(rd) => words::can_add_high(at(earlier, rd), n),
         Limit::HighOperand(rn) => words::can_compare_high(at(earlier, rn), n),
         Limit::Target(ns) => words::can_exchange(n, at(earlier, ns)),
-        Limit::Either(other) => n == 1 || at(earlier, other) == 1,
-        Limit::ItMask(cond) => n != 0 && (at(earlier, cond) != 14 || words::is_single(n)),
+        Limit::Either(other) => (n == 1) | (at(earlier, other) == 1),
+        Limit::ItMask(cond) => (n != 0) & ((at(earlier, cond) != 14) | words::is_single(n)),
         Limit::StoreList(rn) => words::can_store_many(at(earlier, rn), n),
         Limit::LoadList(back, rn) => is_load_list(at(earlier, back), at(earlier, rn), n),
         Limit::ManyList(back, rn) => is_many(at(earlier, back), at(earlier, rn), n),
-        Limit::PlainOther(other) => words::plain(n) && n != at(earlier, other),
-        Limit::BaseOther(other) => n != 15 && n != at(earlier, other),
+        Limit::PlainOther(other) => words::plain(n) & (n != at(earlier, other)),
+        Limit::BaseOther(other) => (n != 15) & (n != at(earlier, other)),
         Limit::PairBase(back, rt, rt2) => is_pair_base(n, earlier, back, rt, rt2),
-        Limit::SumResult(shift) => words::plain(n) || n == 13 && at(earlier, shift) == 0,
-        Limit::SumOperand(rd) => n != 15 && (is_plain(earlier, rd) || n == 13),
-        Limit::SumAmount(rd) => is_plain(earlier, rd) || n <= 3,
+        Limit::SumResult(shift) => words::plain(n) | (n == 13) & (at(earlier, shift) == 0),
+        Limit::SumOperand(rd) => (n != 15) & (is_plain(earlier, rd) | (n == 13)),
+        Limit::SumAmount(rd) => is_plain(earlier, rd) | (n <= 3),
         Limit::MoveResult(flags, shift) => words::plain(n)
-            || n == 13 && is_bare(earlier, flags, shift),
+            | (n == 13) & is_bare(earlier, flags, shift),
         Limit::MoveSource(flags, shift, rd) => words::plain(n)
-            || n == 13 && is_plain(earlier, rd) && is_bare(earlier, flags, shift),
-        Limit::MoveAmount(rd, rm) => is_plain(earlier, rd) && is_plain(earlier, rm) || n == 0,
+            | (n == 13) & is_plain(earlier, rd) & is_bare(earlier, flags, shift),
+        Limit::MoveAmount(rd, rm) => is_plain(earlier, rd) & is_plain(earlier, rm) | (n == 0),
         Limit::Constant => !words::copies_zero(n),
-        Limit::Saturation(asr) => !(at(earlier, asr) == 1 && n == 0),
+        Limit::Saturation(asr) => !((at(earlier, asr) == 1) & (n == 0)),
         Limit::WidthFrom(low) => ends_in_word(at(earlier, low), n),
         Limit::Special => words::is_special(n),
-        Limit::LoadSign(size) => !(n == 1 && at(earlier, size) == 2),
+        Limit::LoadSign(size) => !((n == 1) & (at(earlier, size) == 2)),
         Limit::LoadResult(size) => words::can_load(at(earlier, size), n),
         Limit::StoreSource(size) => words::can_store(at(earlier, size), n),
     }

@@ -113,13 +113,13 @@ pub fn stands_for(coding: Coding, earlier: &[i32], number: u64, value: i32) -> b
         }
         Coding::Far => is_signed(FAR_HALF, far(number), value),
         Coding::Right => is_number(if number == 0 { 32 } else { number }, value),
-        Coding::Kind => 0 <= value && value < 5,
+        Coding::Kind => (0 <= value) & (value < 5),
         Coding::Amount => is_amount(number, value),
         Coding::UpTo => is_number(
             (number + 1).saturating_sub(u64::from(number_at(earlier, 7))),
             value,
         ),
-        Coding::Unlisted => 0 <= value && value < 2,
+        Coding::Unlisted => (0 <= value) & (value < 2),
         Coding::Again => is_number(0, value),
     }
 }

@@ -27,12 +27,12 @@ pub fn number_at(earlier: &[i32], place: u8) -> u32
 pub fn is_number(number: u64, value: i32) -> bool
     ensures { result ≡ int_eq (pos number) value }
 {
-    value >= 0 && u64::from(value.unsigned_abs()) == number
+    (value >= 0) & (u64::from(value.unsigned_abs()) == number)
 }
 
 /// The value is the number below zero.
 pub fn is_minus(number: u64, value: i32) -> bool
     ensures { result ≡ int_eq (neg_ℤ (pos number)) value }
 {
-    value <= 0 && u64::from(value.unsigned_abs()) == number
+    (value <= 0) & (u64::from(value.unsigned_abs()) == number)
 }

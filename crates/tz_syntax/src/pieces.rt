@@ -65,14 +65,14 @@ fn push_expanded<const N: usize>(line: &mut ArrayString<N>, number: u32)
     }
 }
 
-/// An address.
-fn push_address<const N: usize>(line: &mut ArrayString<N>, address: u32)
+/// The address that the offset at a place leads to.
+fn push_target<const N: usize>(line: &mut ArrayString<N>, base: u32, values: &[i32; 9], place: u8)
     requires { array_string_len line.old + 10 ≤ N }
-    ensures bytes { line.new.bytes ≡ line.old.bytes ++ address_text address }
+    ensures bytes { line.new.bytes ≡ line.old.bytes ++ address_text (target_of base (value_at_of values.now place)) }
     ensures len { array_string_len line.new ≤ array_string_len line.old + 10 }
 {
     line.push_str("0x");
-    push_hex_word(line, address);
+    push_hex_word(line, target(base, value_at(values, place)));
 }
 
 /// A register of a list, where the list has it, behind a comma where it isn't the lowest.
@@ -103,12 +103,13 @@ fn push_list<const N: usize>(line: &mut ArrayString<N>, list: u32)
     line.push_str("}");
 }
 
-/// A shift of the operand before it, by the number of its kind.
-fn push_shift<const N: usize>(line: &mut ArrayString<N>, kind: u32, amount: i32)
+/// A shift of the operand before it, by the number of its kind, and the amount at a place.
+fn push_shift<const N: usize>(line: &mut ArrayString<N>, kind: u32, values: &[i32; 9], place: u8)
     requires { array_string_len line.old + 18 ≤ N }
-    ensures bytes { line.new.bytes ≡ line.old.bytes ++ shift_text kind amount }
+    ensures bytes { line.new.bytes ≡ line.old.bytes ++ shift_text kind (value_at_of values.now place) }
     ensures len { array_string_len line.new ≤ array_string_len line.old + 18 }
 {
+    let amount = value_at(values, place);
     if amount == 0 {
         return;
     }
@@ -164,20 +165,19 @@ fn push_masks<const N: usize>(line: &mut ArrayString<N>, i: u32, f: u32)
     }
 }
 
-/// A mark.
-fn push_mark<const N: usize>(line: &mut ArrayString<N>, mark: Mark)
-    requires { array_string_len line.old + mark_most mark ≤ N }
-    ensures bytes { line.new.bytes ≡ line.old.bytes ++ mark_text mark }
-    ensures len { array_string_len line.new ≤ array_string_len line.old + mark_most mark }
+/// The text of a mark.
+fn mark_text(mark: Mark) -> &'static str
+    ensures text { result.now ≡ mark_text mark }
+    ensures len { length result.now ≡ mark_most mark }
 {
     match mark {
-        Mark::Gap => line.push_str(" "),
-        Mark::Comma => line.push_str(", "),
-        Mark::Open => line.push_str("["),
-        Mark::Close => line.push_str("]"),
-        Mark::Back => line.push_str("!"),
-        Mark::Pc => line.push_str("pc"),
-        Mark::Doubled => line.push_str(", lsl #1"),
+        Mark::Gap => " ",
+        Mark::Comma => ", ",
+        Mark::Open => "[",
+        Mark::Close => "]",
+        Mark::Back => "!",
+        Mark::Pc => "pc",
+        Mark::Doubled => ", lsl #1",
     }
 }
 
@@ -188,20 +188,17 @@ fn push_piece<const N: usize>(line: &mut ArrayString<N>, piece: Piece, values: &
     ensures len { array_string_len line.new ≤ array_string_len line.old + piece_most piece }
 {
     match piece {
-        Piece::Mark(mark) => push_mark(line, mark),
+        Piece::Mark(mark) => line.push_str(mark_text(mark)),
         Piece::Register(a) => line.push_str(register_name(number_at(values, a))),
         Piece::Number(a) => push_constant(line, value_at(values, a)),
         Piece::Expanded(a) => push_expanded(line, number_at(values, a)),
-        Piece::Target(a) => push_address(line, target(program_counter(pc), value_at(values, a))),
-        Piece::AlignedTarget(a) => push_address(
-            line,
-            target(program_counter(pc) / 4 * 4, value_at(values, a)),
-        ),
+        Piece::Target(a) => push_target(line, program_counter(pc), values, a),
+        Piece::AlignedTarget(a) => push_target(line, program_counter(pc) / 4 * 4, values, a),
         Piece::List(a) => push_list(line, number_at(values, a)),
-        Piece::Shift(a, b) => push_shift(line, number_at(values, a), value_at(values, b)),
-        Piece::Left(a) => push_shift(line, 0, value_at(values, a)),
-        Piece::Right(a) => push_shift(line, 2, value_at(values, a)),
-        Piece::Rotated(a) => push_shift(line, 3, value_at(values, a)),
+        Piece::Shift(a, b) => push_shift(line, number_at(values, a), values, b),
+        Piece::Left(a) => push_shift(line, 0, values, a),
+        Piece::Right(a) => push_shift(line, 2, values, a),
+        Piece::Rotated(a) => push_shift(line, 3, values, a),
         Piece::Special(a) => line.push_str(special_name(number_at(values, a))),
         Piece::Condition(a) => line.push_str(condition_name(number_at(values, a))),
         Piece::Letters(a, b) => push_letters(line, number_at(values, a), number_at(values, b)),

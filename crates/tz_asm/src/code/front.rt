@@ -9,12 +9,9 @@ use tz_syntax::Token;
 pub fn mark_at<'t, 's>(tokens: &'t [Token<'s>], mark: u8) -> Option<&'t [Token<'s>]>
     ensures { option_map (λ rest. views rest.now) result ≡ mark_at mark (views tokens.now) }
 {
-    match tokens.split_first() {
-        None => None,
-        Some((first, rest)) => match *first {
-            Token::Mark(byte) => if byte == mark { Some(rest) } else { None },
-            _ => None,
-        },
+    match tokens {
+        [Token::Mark(byte), rest @ ..] => if *byte == mark { Some(rest) } else { None },
+        _ => None,
     }
 }
 
@@ -22,12 +19,9 @@ pub fn mark_at<'t, 's>(tokens: &'t [Token<'s>], mark: u8) -> Option<&'t [Token<'
 pub fn word_at<'t, 's>(tokens: &'t [Token<'s>]) -> Option<(&'s [u8], &'t [Token<'s>])>
     ensures { option_map (λ read. (read.0.now, views read.1.now)) result ≡ word_at (views tokens.now) }
 {
-    match tokens.split_first() {
-        None => None,
-        Some((first, rest)) => match *first {
-            Token::Word(word) => Some((word, rest)),
-            _ => None,
-        },
+    match tokens {
+        [Token::Word(word), rest @ ..] => Some((*word, rest)),
+        _ => None,
     }
 }
 
@@ -35,12 +29,9 @@ pub fn word_at<'t, 's>(tokens: &'t [Token<'s>]) -> Option<(&'s [u8], &'t [Token<
 pub fn number_at<'t, 's>(tokens: &'t [Token<'s>]) -> Option<(u32, &'t [Token<'s>])>
     ensures { option_map (λ read. (read.0, views read.1.now)) result ≡ number_at (views tokens.now) }
 {
-    match tokens.split_first() {
-        None => None,
-        Some((first, rest)) => match *first {
-            Token::Number(number) => Some((number, rest)),
-            _ => None,
-        },
+    match tokens {
+        [Token::Number(number), rest @ ..] => Some((*number, rest)),
+        _ => None,
     }
 }
 

@@ -12,10 +12,10 @@ pub fn behind<'w>(name: &[u8], word: &'w [u8]) -> Option<&'w [u8]>
 {
     let mut letters = name;
     let mut rest = word;
-    while let Some((letter, more_letters)) = letters.split_first() {
-        match rest.split_first() {
-            None => return None,
-            Some((byte, bytes)) => {
+    while let [letter, more_letters @ ..] = letters {
+        match rest {
+            [] => return None,
+            [byte, bytes @ ..] => {
                 if byte.to_ascii_lowercase() != *letter {
                     return None;
                 }

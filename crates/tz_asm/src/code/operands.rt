@@ -244,19 +244,10 @@ fn entry_at(tokens: &[Token]) -> Option<(u32, u8)>
     ensures below { IfSome result (λ read. read.0 < 16) }
     ensures within { IfSome result (λ read. 2 ≤ length tokens.now) }
 {
-    let Some((first, behind)) = tokens.split_first() else {
-        return None;
-    };
-    let Some((second, _)) = behind.split_first() else {
-        return None;
-    };
-    match *first {
-        Token::Word(word) => match *second {
-            Token::Mark(mark) => match tz_syntax::register_of(word) {
-                None => None,
-                Some(register) => Some((register, mark)),
-            },
-            _ => None,
+    match tokens {
+        [Token::Word(word), Token::Mark(mark), ..] => match tz_syntax::register_of(word) {
+            None => None,
+            Some(register) => Some((register, *mark)),
         },
         _ => None,
     }
@@ -340,15 +331,10 @@ pub fn is_label(word: &[u8]) -> bool
 }
 
 /// Whether a `.` stands in a word.
-fn has_dot(word: &[u8]) -> bool
+pub fn has_dot(word: &[u8]) -> bool
     ensures { result ≡ list_any (λ b. b == 46) word.now }
 {
-    for byte in word {
-        if *byte == b'.' {
-            return true;
-        }
-    }
-    false
+    word.contains(&b'.')
 }
 
 /// A label by its word.

@@ -7,7 +7,6 @@ ghost use Rattle.tz_asm.specs.Statements.{directed, directive_of};
 ghost use Rattle.tz_asm.specs.Views.{expression_view, statement_view, views};
 
 use crate::code::is_label;
-use crate::source::first::split;
 use crate::source::number::{Signed, number_of, offset_of};
 use crate::source::statement::{Expression, Statement};
 use tz_syntax::Token;
@@ -86,7 +85,7 @@ fn labelled_value<'s>(name: &'s [u8], tokens: &[Token<'s>]) -> Option<Expression
 fn expression_of<'s>(tokens: &[Token<'s>]) -> Option<Expression<'s>>
     ensures { expression_of (views tokens.now) ≡ option_map expression_view result }
 {
-    if let Some((Token::Word(name), rest)) = split(tokens) {
+    if let [Token::Word(name), rest @ ..] = tokens {
         return labelled_value(name, rest);
     }
     match number_of(tokens) {

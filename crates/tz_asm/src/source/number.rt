@@ -4,7 +4,6 @@ ghost use Rattle.std.specs.Prelude.{◌≡◌};
 ghost use Rattle.tz_asm.specs.Operands.{number_of, offset_of, only_number, with_sign};
 ghost use Rattle.tz_asm.specs.Views.{views};
 
-use crate::source::first::split;
 use tz_syntax::Token;
 
 /// A number with its sign.
@@ -31,14 +30,9 @@ fn with_sign(negative: bool, size: Option<u32>) -> Option<Signed>
 fn only_number(tokens: &[Token<'_>]) -> Option<u32>
     ensures { only_number (views tokens.now) ≡ result }
 {
-    match split(tokens) {
-        None => None,
-        Some((Token::Word(_), _)) => None,
-        Some((Token::Number(size), rest)) => match split(rest) {
-            None => Some(size),
-            Some(_) => None,
-        },
-        Some((Token::Mark(_), _)) => None,
+    match tokens {
+        [Token::Number(size)] => Some(*size),
+        _ => None,
     }
 }
 
@@ -47,17 +41,16 @@ fn only_number(tokens: &[Token<'_>]) -> Option<u32>
 pub fn number_of(tokens: &[Token<'_>]) -> Option<Signed>
     ensures { number_of (views tokens.now) ≡ result }
 {
-    match split(tokens) {
-        None => None,
-        Some((Token::Word(_), _)) => None,
-        Some((Token::Number(_), _)) => with_sign(false, only_number(tokens)),
-        Some((Token::Mark(mark), rest)) => {
-            if mark == b'-' {
+    match tokens {
+        [Token::Number(_), ..] => with_sign(false, only_number(tokens)),
+        [Token::Mark(mark), rest @ ..] => {
+            if *mark == b'-' {
                 with_sign(true, only_number(rest))
             } else {
                 None
             }
         }
+        _ => None,
     }
 }
 
@@ -66,18 +59,17 @@ pub fn number_of(tokens: &[Token<'_>]) -> Option<Signed>
 pub fn offset_of(tokens: &[Token<'_>]) -> Option<Signed>
     ensures { offset_of (views tokens.now) ≡ result }
 {
-    match split(tokens) {
-        None => with_sign(false, Some(0)),
-        Some((Token::Word(_), _)) => None,
-        Some((Token::Number(_), _)) => None,
-        Some((Token::Mark(mark), rest)) => {
-            if mark == b'+' {
+    match tokens {
+        [] => with_sign(false, Some(0)),
+        [Token::Mark(mark), rest @ ..] => {
+            if *mark == b'+' {
                 with_sign(false, only_number(rest))
-            } else if mark == b'-' {
+            } else if *mark == b'-' {
                 with_sign(true, only_number(rest))
             } else {
                 None
             }
         }
+        _ => None,
     }
 }

@@ -5,9 +5,9 @@ ghost use Rattle.tz_asm.specs.SourceLines.{labelled, line_of};
 ghost use Rattle.tz_asm.specs.Statements.{statement_of};
 ghost use Rattle.tz_asm.specs.Views.{line_view, views};
 
-use crate::source::label::{is_register, label_at};
+use crate::source::label::label_at;
 use crate::source::statement::{LineError, Statement, statement_of};
-use tz_syntax::Token;
+use tz_syntax::{Token, register_of};
 
 /// What a line says.
 #[derive(Clone, Copy)]
@@ -30,7 +30,7 @@ fn labelled<'t, 's>(
     match statement_of(tokens) {
         Err(error) => Err(error),
         Ok(statement) => {
-            if is_register(name) {
+            if register_of(name).is_some() {
                 Err(LineError::Operands)
             } else {
                 Ok(SourceLine {

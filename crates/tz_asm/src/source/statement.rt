@@ -6,7 +6,6 @@ ghost use Rattle.tz_asm.specs.Views.{statement_view, views};
 
 use crate::code::{has_shape, width_of};
 use crate::source::directive::{directed, directive_of};
-use crate::source::first::split;
 use crate::source::number::Signed;
 use tz_syntax::Token;
 use tz_table::{Size, Width};
@@ -87,10 +86,9 @@ pub fn statement_of<'t, 's>(tokens: &'t [Token<'s>]) -> Result<Statement<'t, 's>
     ensures ok { IfOk result (λ s. statement_of (views tokens.now) ≡ Ok (statement_view s)) }
     ensures err { IfErr result (λ e. statement_of (views tokens.now) ≡ Err e) }
 {
-    match split(tokens) {
-        None => Ok(Statement::Nothing),
-        Some((Token::Word(word), operands)) => worded(word, operands),
-        Some((Token::Number(_), _)) => Err(LineError::Mnemonic),
-        Some((Token::Mark(_), _)) => Err(LineError::Mnemonic),
+    match tokens {
+        [] => Ok(Statement::Nothing),
+        [Token::Word(word), operands @ ..] => worded(word, operands),
+        _ => Err(LineError::Mnemonic),
     }
 }

@@ -1,4 +1,4 @@
-use Rattle.std.proofs.Common.{◌≡◌, ◌+◌, true, rules, arith, sym, ◌∙◌, get_or, pos, int_eq, FitsSigned, w32}
+use Rattle.std.proofs.Common.{◌+◌, rules, arith, sym, ◌∙◌, get_or, pos, FitsSigned, w32}
 use Rattle.std.proofs.lemmas.Int.{to_z-of_z}
 use Rattle.tz_encode.proofs.Going.{going_from, going_stop, going_on, sound_on}
 use Rattle.tz_encode.proofs.writing.answer.Goals as goal
@@ -9,7 +9,7 @@ pub loop-index-init : goal.loop-index-init
 loop-index-init c =
     let f : FitsSigned w32 (get_or c.args.values.now 0 (pos 0)) = search rules in
     let e = simp (to_z-of_z w32 _ f) at c.is_number.ensures in
-    let same : int_eq (pos c.args.form) (get_or c.args.values.now 0 (pos 0)) ≡ true = cc in
+    let same = rw c.from.ensures at (sym e ∙ c.if-not-is_number.false) in
     record { same = going_from _ _ _ _ c.args.values.now (omega arith) (omega arith) (omega arith) same; sound_rest = c.requires }
 
 pub returns-in_default : goal.returns-in_default

@@ -12,18 +12,18 @@ pub returns-in-Err-clause-err : goal.returns-in-Err-clause-err
 unfolding labelled
 returns-in-Err-clause-err c = first_of (assumption, search (tests, rules), grind (arith, common_steps), grind (arith, elements))
 
-pub returns-then-is_register-clause-ok : goal.returns-then-is_register-clause-ok
+pub returns-then-is_some-clause-ok : goal.returns-then-is_some-clause-ok
 unfolding labelled
-returns-then-is_register-clause-ok c = first_of (assumption, search (tests, rules), grind (arith, common_steps), grind (arith, elements))
+returns-then-is_some-clause-ok c = first_of (assumption, search (tests, rules), grind (arith, common_steps), grind (arith, elements))
 
-pub returns-then-is_register-clause-err : goal.returns-then-is_register-clause-err
+pub returns-then-is_some-clause-err : goal.returns-then-is_some-clause-err
 unfolding labelled
-returns-then-is_register-clause-err c = first_of (assumption, search (tests, rules), grind (arith, common_steps), grind (arith, elements))
+returns-then-is_some-clause-err c = first_of (assumption, search (tests, rules), grind (arith, common_steps), grind (arith, elements))
 
-pub returns-else-is_register-clause-ok : goal.returns-else-is_register-clause-ok
+pub returns-else-is_some-clause-ok : goal.returns-else-is_some-clause-ok
 unfolding labelled
-returns-else-is_register-clause-ok c = first_of (assumption, search (tests, rules), grind (arith, common_steps), grind (arith, elements))
+returns-else-is_some-clause-ok c = first_of (assumption, search (tests, rules), grind (arith, common_steps), grind (arith, elements))
 
-pub returns-else-is_register-clause-err : goal.returns-else-is_register-clause-err
+pub returns-else-is_some-clause-err : goal.returns-else-is_some-clause-err
 unfolding labelled
-returns-else-is_register-clause-err c = first_of (assumption, search (tests, rules), grind (arith, common_steps), grind (arith, elements))
+returns-else-is_some-clause-err c = first_of (assumption, search (tests, rules), grind (arith, common_steps), grind (arith, elements))
