@@ -1,0 +1,17 @@
+use Rattle.std.proofs.Common.{ap}
+use Rattle.tz_sem.specs.Exec.{ported}
+use Rattle.tz_system.proofs.execute.Goals as goal
+
+-- What the callee of each arm says, at the instruction that the arm has.
+
+pub returns-in-Hint : goal.returns-in-Hint
+returns-in-Hint c = rw c.in-Hint.is (ap (ported c.args.bus.now) c.hint.ensures)
+
+pub returns-in-ReadSpecial : goal.returns-in-ReadSpecial
+returns-in-ReadSpecial c = rw c.in-ReadSpecial.is (ap (ported c.args.bus.now) c.read.ensures)
+
+pub returns-in-SecureGateway : goal.returns-in-SecureGateway
+returns-in-SecureGateway c = rw c.in-SecureGateway.is (ap (ported c.args.bus.now) c.pass-in-SecureGateway.ensures)
+
+pub returns-in-LazyState : goal.returns-in-LazyState
+returns-in-LazyState c = rw c.in-LazyState.is (ap (ported c.args.bus.now) c.lazy_state.ensures)
