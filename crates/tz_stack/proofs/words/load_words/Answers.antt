@@ -1,4 +1,5 @@
 use Rattle.std.proofs.Common.{ap, sym, ◌∙◌, arith, rules}
+use Rattle.std.proofs.lemmas.Grind.{common_steps}
 use Rattle.tz_frames.specs.Stack.{word_read}
 use Rattle.tz_stack.proofs.Reading.{reads_fail, reads_more, reads_done}
 use Rattle.tz_stack.proofs.words.load_words.Goals as goal
@@ -28,3 +29,10 @@ pub returns-clause-read : goal.returns-clause-read
 returns-clause-read g c =
     let l = c.loop-index in
     sym (l.invariant.read ∙ reads_done g.P.Frames.answer c.args.side c.args.privileged (g.P.Frames.held c.args.port.now) l.addr g.row.N l.index l.words (omega arith) l.invariant.long)
+
+-- The first call that the prover tries finds nothing here, after long: the one that does is named.
+pub loop-index-init : goal.loop-index-init
+loop-index-init g c = grind (arith, common_steps)
+
+pub bounds-words-index : goal.bounds-words-index
+bounds-words-index g c = grind (arith, common_steps)
