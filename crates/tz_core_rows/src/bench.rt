@@ -1,6 +1,6 @@
 //! Rows of a bench: a core, its exceptions and a table of words, which are set up, called and looked at word by word.
 
-use crate::calls::{entered, gated, left, popped, popped_more, pushed, pushed_more, raised};
+use crate::calls::{called, entered, left, popped, raised};
 use crate::shown::tell_status;
 use crate::values::{core_value, set_value};
 use std::alloc::{AllocError, Global};
@@ -31,8 +31,10 @@ fn slot_of(row: &mut Row<'_>, name: &str) -> Slot {
     Slot { number, side }
 }
 
-/// Gives an external interrupt to its side, and enables it with priority 0x20. Other exceptions stay.
-fn give(exceptions: &mut Exceptions, slot: Slot) {
+/// Sets an exception pending, active or enabled, by the place of the word that says it. An external interrupt is given to
+/// its side before, and enabled with priority 0x20.
+fn set_slot(row: &mut Row<'_>, exceptions: &mut Exceptions, place: usize, name: &str) {
+    let slot = slot_of(row, name);
     if 16 <= slot.number && slot.number < exceptions.interrupts() + 16 {
         exceptions.set_target(slot.number, slot.side);
         if exceptions.exists(slot) {
@@ -40,12 +42,6 @@ fn give(exceptions: &mut Exceptions, slot: Slot) {
             exceptions.set_priority(slot, 0x20);
         }
     }
-}
-
-/// Sets an exception pending, active or enabled, by the place of the word that says it.
-fn set_slot(row: &mut Row<'_>, exceptions: &mut Exceptions, place: usize, name: &str) {
-    let slot = slot_of(row, name);
-    give(exceptions, slot);
     if !exceptions.exists(slot) {
         return row.refuse();
     }
@@ -77,49 +73,39 @@ fn tell_slot(row: &mut Row<'_>, exceptions: &Exceptions, word: &str, name: &str)
     tell_truth(row, stands);
 }
 
-/// Tells the words of the table.
-fn tell_table(row: &mut Row<'_>, frames: &TableFrames) {
-    for entry in frames.port.entries.iter() {
-        row.tell(" [");
-        row.tell_hex(entry.addr);
-        row.tell("] ");
-        row.tell_hex(entry.value);
-    }
-}
-
-/// Tells how many words the table has.
-fn tell_count(row: &mut Row<'_>, frames: &TableFrames) {
-    row.tell(" count ");
-    row.tell_decimal(i64::try_from(frames.port.entries.len()).unwrap_or(0));
-}
-
-/// The word of the table at an address.
-fn word_at(row: &mut Row<'_>, frames: &mut TableFrames, address: u32) -> u32 {
-    match frames.secure_load(address) {
-        Ok(word) => word,
-        Err(_) => {
-            row.refuse();
-            0
-        }
-    }
-}
-
-/// Tells the word at an address, or a value of the core.
+/// Tells the word of the table at an address, or a value of the core.
 fn tell_value(row: &mut Row<'_>, bench: &mut Bench, name: &str) {
     let value = match number_of(name) {
-        Some(address) => word_at(row, &mut bench.frames, address),
+        Some(address) => match bench.frames.secure_load(address) {
+            Ok(word) => word,
+            Err(_) => return row.refuse(),
+        },
         None => core_value(row, &bench.core, name),
     };
     row.tell_value(name, value);
 }
 
-/// Tells what a word without a value asks.
+/// The words without a value that ask for no single word or value.
+static LOOKS: [&str; 4] = ["table", "count", "status", "takes"];
+
+/// Tells what a word without a value asks: the words of the table, how many it has, the fault registers, whether the first
+/// exception is taken, or a value.
 fn look(row: &mut Row<'_>, bench: &mut Bench, name: &str) {
-    match name {
-        "table" => tell_table(row, &bench.frames),
-        "count" => tell_count(row, &bench.frames),
-        "status" => tell_status(row, &bench.core),
-        "takes" => {
+    match place_of(&LOOKS, name) {
+        0 => {
+            for entry in bench.frames.port.entries.iter() {
+                row.tell(" [");
+                row.tell_hex(entry.addr);
+                row.tell("] ");
+                row.tell_hex(entry.value);
+            }
+        }
+        1 => {
+            row.tell(" count ");
+            row.tell_decimal(i64::try_from(bench.frames.port.entries.len()).unwrap_or(0));
+        }
+        2 => tell_status(row, &bench.core),
+        3 => {
             row.tell(" takes");
             tell_truth(row, takes(&bench.core, &mut bench.exceptions));
         }
@@ -127,19 +113,16 @@ fn look(row: &mut Row<'_>, bench: &mut Bench, name: &str) {
     }
 }
 
-/// Adds a word to the table.
-fn push_word(row: &mut Row<'_>, frames: &mut TableFrames, addr: u32, value: u32) {
-    let pushed = frames.port.entries.try_push(TableEntry { addr, value });
-    if pushed.is_err() {
-        row.refuse();
-    }
-}
-
-/// Sets a word of the table, or a value of the core.
-fn put(row: &mut Row<'_>, bench: &mut Bench, name: &str, number: u32) {
+/// Adds a word to the table, or sets a value of the core.
+fn put(row: &mut Row<'_>, bench: &mut Bench, name: &str, value: u32) {
     match number_of(name) {
-        Some(addr) => push_word(row, &mut bench.frames, addr, number),
-        None => set_value(row, &mut bench.core, name, number),
+        Some(addr) => {
+            let entry = TableEntry { addr, value };
+            if bench.frames.port.entries.try_push(entry).is_err() {
+                row.refuse();
+            }
+        }
+        None => set_value(row, &mut bench.core, name, value),
     }
 }
 
@@ -155,27 +138,24 @@ static WORDS: [&str; 20] = [
     "raise",
     "push",
     "push_additional",
-    "pop",
-    "pop_additional",
     "sg",
     "bxns",
     "blxns",
     "fnc_return",
+    "pop",
+    "pop_additional",
     "is_fnc_return",
     "is_exc_return",
     "bfhfnmins",
     "fails",
 ];
 
-/// Calls with a number, tells whether the number is one by which code returns, or sets BFHFNMINS, the address that fails, or
-/// something else.
+/// Calls with a number, tells whether the number is one by which code returns, or sets BFHFNMINS, the address that fails,
+/// or something else.
 fn call(row: &mut Row<'_>, bench: &mut Bench, place: usize, name: &str, value: u32) {
     match place {
-        8 => pushed(row, bench, value),
-        9 => pushed_more(row, bench, value),
-        10 => popped(row, bench, value),
-        11 => popped_more(row, bench, value),
-        12 | 13 | 14 | 15 => gated(row, bench, name, value),
+        8 | 9 | 10 | 11 | 12 | 13 => called(row, bench, place, value),
+        14 | 15 => popped(row, bench, place, value),
         16 => tell_truth(row, is_fnc_return(value)),
         17 => tell_truth(row, is_exc_return(value)),
         18 if value == 1 => bench.exceptions.set_fault_side(true),
@@ -219,18 +199,12 @@ fn bench_of(alloc: Global) -> Result<Bench, AllocError> {
     })
 }
 
-/// Follows the words that set a bench up, and those of a row.
-fn follow_both(row: &mut Row<'_>, bench: &mut Bench, base: &str) {
-    follow(row, bench, base);
-    let words = row.field(1);
-    follow(row, bench, words);
-}
-
 /// Tells what the words of a row tell of a bench, which others set up.
 pub fn followed(row: &mut Row<'_>, base: &str) {
     let made = bench_of(row.alloc);
-    match row.kept(made) {
-        Some(mut bench) => follow_both(row, &mut bench, base),
-        None => (),
+    if let Some(mut bench) = row.kept(made) {
+        follow(row, &mut bench, base);
+        let words = row.field(1);
+        follow(row, &mut bench, words);
     }
 }

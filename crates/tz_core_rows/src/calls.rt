@@ -8,103 +8,69 @@ use tz_model::{Fault, Profile, Side, Slot};
 use tz_rows::{Row, place_of, profile_in, side_word};
 use tz_stack::{StackFault, pop_additional, pop_basic, push_additional, push_basic};
 
-/// A fault of a frame in a word.
-fn fault_word(fault: &StackFault) -> &'static str {
-    match fault {
-        StackFault::Limit(_) | StackFault::Access(Fault::StackLimit(_)) => " limit ",
-        StackFault::Access(Fault::InvPc(_)) => " invpc ",
-        StackFault::Access(Fault::Precise(_)) => " precise ",
-        StackFault::Access(_) => " other fault",
-        StackFault::Signature => " signature",
-    }
-}
-
 /// Tells a fault of a frame.
 fn tell_fault(row: &mut Row<'_>, fault: &StackFault) {
-    row.tell(fault_word(fault));
     match fault {
-        StackFault::Limit(side)
-        | StackFault::Access(Fault::StackLimit(side))
-        | StackFault::Access(Fault::InvPc(side)) => row.tell(side_word(*side)),
-        StackFault::Access(Fault::Precise(addr)) => row.tell_hex(*addr),
-        _ => (),
+        StackFault::Limit(side) | StackFault::Access(Fault::StackLimit(side)) => {
+            row.tell(" limit ");
+            row.tell(side_word(*side))
+        }
+        StackFault::Access(Fault::InvPc(side)) => {
+            row.tell(" invpc ");
+            row.tell(side_word(*side))
+        }
+        StackFault::Access(Fault::Precise(addr)) => row.tell_value("precise", *addr),
+        StackFault::Access(_) => row.tell(" other fault"),
+        StackFault::Signature => row.tell(" signature"),
     }
 }
 
-/// Tells how a frame is pushed.
-fn tell_pushed(row: &mut Row<'_>, end: &Result<(), StackFault>) {
-    match end {
-        Ok(()) => row.tell(" ok"),
-        Err(fault) => tell_fault(row, fault),
-    }
-}
-
-/// Pushes a basic frame with a return address.
-pub fn pushed(row: &mut Row<'_>, bench: &mut Bench, back: u32) {
+/// Makes a call by the place of its word, and tells how it ends: a basic frame is pushed with a return address, or an
+/// additional one, to the process stack where the value isn't 0; or code goes to a target on the other side, or back.
+pub fn called(row: &mut Row<'_>, bench: &mut Bench, place: usize, value: u32) {
     if bench.frames.port.entries.len() > 22 {
         return row.refuse();
     }
-    let end = push_basic(&mut bench.core, &mut bench.frames, back);
-    tell_pushed(row, &end);
-}
-
-/// Pushes an additional frame, to the process stack where the value isn't 0.
-pub fn pushed_more(row: &mut Row<'_>, bench: &mut Bench, value: u32) {
-    if bench.frames.port.entries.len() > 22 {
-        return row.refuse();
+    let (core, frames) = (&mut bench.core, &mut bench.frames);
+    let mut pushed = Ok(());
+    let mut gone = Ok(());
+    match place {
+        8 => pushed = push_basic(core, frames, value),
+        9 => pushed = push_additional(core, frames, value != 0, true),
+        10 => secure_gateway(core),
+        11 => branch_ns(core, value),
+        12 => gone = call_ns(core, &mut frames.port, value, 0x1004),
+        _ => gone = function_return(core, frames),
     }
-    let end = push_additional(&mut bench.core, &mut bench.frames, value != 0, true);
-    tell_pushed(row, &end);
-}
-
-/// Tells registers.
-fn tell_registers(row: &mut Row<'_>, registers: &[u32; 8]) {
-    for register in registers {
-        row.tell(" ");
-        row.tell_hex(*register);
+    match (pushed, gone) {
+        (Ok(()), Ok(())) => row.tell(" ok"),
+        (Err(fault), _) => tell_fault(row, &fault),
+        (_, Err(fault)) => tell_fault(row, &StackFault::Access(fault)),
     }
 }
 
-/// Reads a basic frame of a Non-secure stack at an address.
-pub fn popped(row: &mut Row<'_>, bench: &mut Bench, sp: u32) {
-    match pop_basic(&mut bench.frames, sp, Side::NonSecure, true) {
-        Ok(b) => tell_registers(
-            row,
-            &[b.r0, b.r1, b.r2, b.r3, b.r12, b.lr, b.back, b.retpsr],
-        ),
+/// Reads a basic frame of a Non-secure stack at an address, or an additional frame, and tells its registers.
+pub fn popped(row: &mut Row<'_>, bench: &mut Bench, place: usize, sp: u32) {
+    let found = if place == 14 {
+        match pop_basic(&mut bench.frames, sp, Side::NonSecure, true) {
+            Ok(b) => Ok([b.r0, b.r1, b.r2, b.r3, b.r12, b.lr, b.back, b.retpsr]),
+            Err(fault) => Err(fault),
+        }
+    } else {
+        match pop_additional(&mut bench.frames, sp, true) {
+            Ok(c) => Ok([c.r4, c.r5, c.r6, c.r7, c.r8, c.r9, c.r10, c.r11]),
+            Err(fault) => Err(fault),
+        }
+    };
+    match found {
+        Ok(registers) => {
+            for register in &registers {
+                row.tell(" ");
+                row.tell_hex(*register);
+            }
+        }
         Err(fault) => tell_fault(row, &fault),
     }
-}
-
-/// Reads an additional frame at an address.
-pub fn popped_more(row: &mut Row<'_>, bench: &mut Bench, sp: u32) {
-    match pop_additional(&mut bench.frames, sp, true) {
-        Ok(c) => tell_registers(row, &[c.r4, c.r5, c.r6, c.r7, c.r8, c.r9, c.r10, c.r11]),
-        Err(fault) => tell_fault(row, &fault),
-    }
-}
-
-/// Tells how code goes to the other side or back.
-fn tell_gated(row: &mut Row<'_>, end: Result<(), Fault>) {
-    match end {
-        Ok(()) => row.tell(" ok"),
-        Err(fault) => tell_fault(row, &StackFault::Access(fault)),
-    }
-}
-
-/// Goes to the other side or back, by the instruction's name and its target.
-pub fn gated(row: &mut Row<'_>, bench: &mut Bench, name: &str, target: u32) {
-    if bench.frames.port.entries.len() > 22 {
-        return row.refuse();
-    }
-    let mut end = Ok(());
-    match name {
-        "sg" => secure_gateway(&mut bench.core),
-        "bxns" => branch_ns(&mut bench.core, target),
-        "blxns" => end = call_ns(&mut bench.core, &mut bench.frames.port, target, 0x1004),
-        _ => end = function_return(&mut bench.core, &mut bench.frames),
-    }
-    tell_gated(row, end);
 }
 
 /// Tells how a call ends, what is taken where anything is, and whether the call touched Secure state.
@@ -125,16 +91,17 @@ pub fn entered(row: &mut Row<'_>, bench: &mut Bench, version: &str) {
     }
     let profile = profile_in(row, version);
     let back = bench.core.registers.pc;
-    match enter(
+    let (name, slot, touched) = match enter(
         &mut bench.core,
         &mut bench.exceptions,
         &mut bench.frames,
         back,
         profile,
     ) {
-        Entered::Taken { slot, touched } => tell_end(row, "taken", Some(slot), touched),
-        Entered::Lockup { touched } => tell_end(row, "locks", None, touched),
-    }
+        Entered::Taken { slot, touched } => ("taken", Some(slot), touched),
+        Entered::Lockup { touched } => ("locks", None, touched),
+    };
+    tell_end(row, name, slot, touched);
 }
 
 /// Returns by a value, or by LR.
@@ -146,17 +113,18 @@ pub fn left(row: &mut Row<'_>, bench: &mut Bench, value: &str) {
         "lr" => bench.core.registers.lr,
         _ => row.number_in(value),
     };
-    match leave(
+    let (name, slot, touched) = match leave(
         &mut bench.core,
         &mut bench.exceptions,
         &mut bench.frames,
         value,
         Profile::V80,
     ) {
-        Left::Resumed { touched } => tell_end(row, "resumed", None, touched),
-        Left::Chained { slot, touched } => tell_end(row, "chained", Some(slot), touched),
-        Left::Lockup { touched } => tell_end(row, "locks", None, touched),
-    }
+        Left::Resumed { touched } => ("resumed", None, touched),
+        Left::Chained { slot, touched } => ("chained", Some(slot), touched),
+        Left::Lockup { touched } => ("locks", None, touched),
+    };
+    tell_end(row, name, slot, touched);
 }
 
 /// The names of faults.
@@ -171,9 +139,10 @@ static FAULTS: [&str; 8] = [
     "call",
 ];
 
-/// The fault of a name, whose places are those of `FAULTS`; its address is 0x30, and its MPU that of the Secure side.
-fn fault_of(row: &mut Row<'_>, name: &str) -> Fault {
-    match place_of(&FAULTS, name) {
+/// Raises the fault of a name, whose places are those of `FAULTS`, and tells whether the core has to lock. The address of a
+/// fault is 0x30, and its MPU that of the Secure side.
+pub fn raised(row: &mut Row<'_>, bench: &mut Bench, name: &str) {
+    let fault = match place_of(&FAULTS, name) {
         0 => Fault::Undef,
         1 => Fault::NoCp,
         2 => Fault::DataAccess(0x30, Side::Secure),
@@ -182,16 +151,8 @@ fn fault_of(row: &mut Row<'_>, name: &str) -> Fault {
         5 => Fault::Violation(0x30),
         6 => Fault::Breakpoint,
         7 => Fault::Call,
-        _ => {
-            row.refuse();
-            Fault::Undef
-        }
-    }
-}
-
-/// Raises a fault, and tells whether the core has to lock.
-pub fn raised(row: &mut Row<'_>, bench: &mut Bench, name: &str) {
-    let fault = fault_of(row, name);
+        _ => return row.refuse(),
+    };
     let locks = raise_fault(&mut bench.core, &mut bench.exceptions, fault);
     row.tell(if locks { " locks true" } else { " locks false" });
 }

@@ -13,18 +13,6 @@ pub fn kind_text(kind: StepKind) -> &'static str {
     }
 }
 
-/// A kind of crossing, in a word.
-fn crossing_text(kind: CrossKind) -> &'static str {
-    match kind {
-        CrossKind::Return => "return",
-        CrossKind::Call => "call",
-        CrossKind::ExcReturn => "excreturn",
-        CrossKind::Chain => "chain",
-        CrossKind::Preempt => "preempt",
-        CrossKind::Refused => "refused",
-    }
-}
-
 /// Tells what a step was: an exception that was taken with its number and LR, an instruction with its address.
 fn tell_kind(row: &mut Row<'_>, kind: StepKind) {
     row.tell(kind_text(kind));
@@ -45,9 +33,14 @@ fn tell_kind(row: &mut Row<'_>, kind: StepKind) {
 
 /// Tells how a step crossed out of Secure state.
 fn tell_crossing(row: &mut Row<'_>, way: Way) {
-    row.tell(", ");
-    row.tell(crossing_text(way.kind));
-    row.tell(" ");
+    row.tell(match way.kind {
+        CrossKind::Return => ", return ",
+        CrossKind::Call => ", call ",
+        CrossKind::ExcReturn => ", excreturn ",
+        CrossKind::Chain => ", chain ",
+        CrossKind::Preempt => ", preempt ",
+        CrossKind::Refused => ", refused ",
+    });
     row.tell_decimal(i64::from(way.number));
     if let Some(lr) = way.lr {
         row.tell(" ");

@@ -51,22 +51,17 @@ fn tell_slots(row: &mut Row<'_>, exceptions: &Exceptions) {
     }
 }
 
-/// Whether a core is locked, sleeps or runs.
-fn state_text(core: &Core) -> &'static str {
-    if core.run.locked {
+/// Tells whether a machine is locked, sleeps or runs, and where; its fault registers that aren't 0, HFSR last; and the
+/// exceptions that are pending or active.
+pub fn tell_machine(row: &mut Row<'_>, machine: &Machine) {
+    let core = machine.core();
+    row.tell(if core.run.locked {
         "locked at "
     } else if matches!(core.run.sleep, Sleep::Awake) {
         "runs at "
     } else {
         "sleeps at "
-    }
-}
-
-/// Tells whether a machine is locked, sleeps or runs, and where; its fault registers that aren't 0, HFSR last; and the
-/// exceptions that are pending or active.
-pub fn tell_machine(row: &mut Row<'_>, machine: &Machine) {
-    let core = machine.core();
-    row.tell(state_text(core));
+    });
     row.tell_hex(core.registers.pc);
     tell_status(row, core);
     tell_slots(row, machine.exceptions());

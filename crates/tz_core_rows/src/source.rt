@@ -3,8 +3,6 @@
 //! Secure code writes words in turn and goes on at a place of its own. The handler of exception N stands 0x800 and 16 N
 //! bytes behind its side's vectors.
 
-ghost use Rattle.std.specs.Prelude.{◌<◌, ◌^◌, length};
-
 use std::alloc::{AllocError, Global};
 use tz_asm::assemble;
 use tz_board::demo_board;
@@ -96,27 +94,8 @@ const NONSECURE: &str = ".org 0x00200000
 const NONSECURE_CODE: &str = ".org 0x00200400
 ";
 
-/// Adds addresses with their words.
-fn push_writes(text: &mut Row<'_>, writes: &str) {
-    for each in writes.split_whitespace() {
-        let (address, word) = each.split_once('=').unwrap_or((each, ""));
-        text.tell(" .word ");
-        text.tell(address);
-        text.tell("\n .word ");
-        text.tell(word);
-        text.tell("\n");
-    }
-}
-
-/// Adds the lines of code.
-fn push_code(text: &mut Row<'_>, code: &str) {
-    for line in code.split(';') {
-        text.tell(line.trim());
-        text.tell("\n");
-    }
-}
-
-/// A source: vectors, the words that are written, and code at a place of its own. It is told as an answer is.
+/// A source: vectors, the addresses and words that are written, and lines of code at a place of its own. It is told as an
+/// answer is.
 fn source_of(
     alloc: Global,
     vectors: &str,
@@ -126,44 +105,31 @@ fn source_of(
 ) -> Result<String, AllocError> {
     let mut text = Row::new(alloc, "");
     text.tell(vectors);
-    push_writes(&mut text, writes);
+    for each in writes.split_whitespace() {
+        let (address, word) = each.split_once('=').unwrap_or((each, ""));
+        text.tell(" .word ");
+        text.tell(address);
+        text.tell("\n .word ");
+        text.tell(word);
+        text.tell("\n");
+    }
     text.tell(place);
-    push_code(&mut text, code);
+    for line in code.split(';') {
+        text.tell(line.trim());
+        text.tell("\n");
+    }
     text.text()
 }
 
-/// The image of a source.
-fn image_of(alloc: Global, source: &[u8]) -> Option<Image>
-    requires { length source.now < 2 ^ 32 }
-{
-    assemble(alloc, source).ok()
-}
-
 /// The image of a source, where it has one.
-fn assembled(alloc: Global, source: &str) -> Option<Image> {
+fn image_of(row: &mut Row<'_>, source: Result<String, AllocError>) -> Option<Image> {
+    let source = row.kept(source)?;
     let bytes = source.as_bytes();
     if bytes.len() < 0x1_0000_0000 {
-        image_of(alloc, bytes)
+        assemble(row.alloc, bytes).ok()
     } else {
         None
     }
-}
-
-/// The image of the Secure code of a row, with the words that it writes.
-fn secure_image(row: &mut Row<'_>) -> Option<Image> {
-    let writes = row.field(1);
-    let code = row.field(2);
-    let source = source_of(row.alloc, SECURE, writes, SECURE_CODE, code);
-    let source = row.kept(source)?;
-    assembled(row.alloc, source.as_str())
-}
-
-/// The image of the Non-secure code of a row.
-fn nonsecure_image(row: &mut Row<'_>) -> Option<Image> {
-    let code = row.field(3);
-    let source = source_of(row.alloc, NONSECURE, "", NONSECURE_CODE, code);
-    let source = row.kept(source)?;
-    assembled(row.alloc, source.as_str())
 }
 
 /// The machine of images on the built-in board.
@@ -178,10 +144,15 @@ fn machine_over(
     Machine::new(alloc, &board, secure, nonsecure)
 }
 
-/// The machine of a row, from its fields 1 to 3.
+/// The machine of a row, from its fields 1 to 3: the words that Secure code writes, that code, and Non-secure code.
 pub fn machine_of(row: &mut Row<'_>, profile: Profile) -> Option<Machine> {
-    let secure = secure_image(row)?;
-    let nonsecure = nonsecure_image(row)?;
+    let writes = row.field(1);
+    let code = row.field(2);
+    let source = source_of(row.alloc, SECURE, writes, SECURE_CODE, code);
+    let secure = image_of(row, source)?;
+    let code = row.field(3);
+    let source = source_of(row.alloc, NONSECURE, "", NONSECURE_CODE, code);
+    let nonsecure = image_of(row, source)?;
     let made = machine_over(row.alloc, profile, &secure, &nonsecure);
     row.kept(made)
 }

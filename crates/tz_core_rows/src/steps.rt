@@ -29,55 +29,40 @@ fn run(machine: &mut Machine, address: Option<u32>) -> StepKind {
     kind
 }
 
-/// The word of memory at an address.
-fn word_at(row: &mut Row<'_>, machine: &Machine, address: u32) -> u32 {
-    match machine.bus().read(address, Size::Word) {
-        Ok(word) => word,
-        Err(_) => {
-            row.refuse();
-            0
-        }
-    }
-}
+/// The registers of units that are values of a machine.
+static UNITS: [&str; 3] = ["sau_ctrl", "s.mpu_ctrl", "ns.mpu_ctrl"];
 
-/// A value of a machine: of its core, of its units, or a word of memory.
-fn value_of(row: &mut Row<'_>, machine: &Machine, name: &str) -> u32 {
-    match name {
-        "sau_ctrl" => machine.bus().register(0xE000_EDD0, Side::Secure),
-        "s.mpu_ctrl" => machine.bus().register(0xE000_ED94, Side::Secure),
-        "ns.mpu_ctrl" => machine.bus().register(0xE000_ED94, Side::NonSecure),
-        _ => match number_of(name) {
-            Some(address) => word_at(row, machine, address),
-            None => core_value(row, machine.core(), name),
-        },
-    }
-}
-
-/// Tells a value of a machine by its name.
+/// Tells a value of a machine by its name: a register of its units, a word of memory by its address, or a value of its
+/// core.
 fn tell_value(row: &mut Row<'_>, machine: &Machine, name: &str) {
-    let value = value_of(row, machine, name);
+    let bus = machine.bus();
+    let value = match (place_of(&UNITS, name), number_of(name)) {
+        (0, _) => bus.register(0xE000_EDD0, Side::Secure),
+        (1, _) => bus.register(0xE000_ED94, Side::Secure),
+        (2, _) => bus.register(0xE000_ED94, Side::NonSecure),
+        (_, Some(address)) => match bus.read(address, Size::Word) {
+            Ok(word) => word,
+            Err(_) => return row.refuse(),
+        },
+        (_, None) => core_value(row, machine.core(), name),
+    };
     row.tell(name);
     row.tell(" ");
     row.tell_hex(value);
 }
 
 /// Tells a machine that runs until it takes an exception or locks, and values of it.
-fn tell_end(row: &mut Row<'_>, machine: &mut Machine) {
-    match run(machine, None) {
-        StepKind::Taken { number, lr } => tell_taken(row, machine, number, lr),
-        _ => tell_machine(row, machine),
+pub fn ended(row: &mut Row<'_>) {
+    let Some(mut machine) = machine_of(row, Profile::V80) else {
+        return row.refuse();
+    };
+    match run(&mut machine, None) {
+        StepKind::Taken { number, lr } => tell_taken(row, &machine, number, lr),
+        _ => tell_machine(row, &machine),
     }
     for name in row.field_or_empty(4).split_whitespace() {
         row.tell("; ");
-        tell_value(row, machine, name);
-    }
-}
-
-/// Tells what a machine is in the end.
-pub fn ended(row: &mut Row<'_>) {
-    match machine_of(row, Profile::V80) {
-        Some(mut machine) => tell_end(row, &mut machine),
-        None => row.refuse(),
+        tell_value(row, &machine, name);
     }
 }
 
@@ -129,22 +114,17 @@ fn tell_step(row: &mut Row<'_>, machine: &mut Machine, asked: &str) {
 
 /// Tells what is asked of each step of a machine whose code stands at an address before them. A slash divides the steps,
 /// and their answers.
-fn tell_steps(row: &mut Row<'_>, machine: &mut Machine) {
+pub fn stepped(row: &mut Row<'_>, profile: Profile) {
+    let Some(mut machine) = machine_of(row, profile) else {
+        return row.refuse();
+    };
     let address = row.field(4);
     let address = row.number_in(address);
-    let _kind = run(machine, Some(address));
+    let _kind = run(&mut machine, Some(address));
     for (index, asked) in row.field(5).split('/').enumerate() {
         if index != 0 {
             row.tell(" / ");
         }
-        tell_step(row, machine, asked);
-    }
-}
-
-/// Tells what is asked of each step.
-pub fn stepped(row: &mut Row<'_>, profile: Profile) {
-    match machine_of(row, profile) {
-        Some(mut machine) => tell_steps(row, &mut machine),
-        None => row.refuse(),
+        tell_step(row, &mut machine, asked);
     }
 }

@@ -33,9 +33,9 @@ static VALUES: [&str; 13] = [
     "faultmask",
 ];
 
-/// What they are.
-fn values_of(core: &Core) -> [u32; 13] {
-    [
+/// A value of a core: a register of a side's stacks by the side and a dot, R0 to R14, or another.
+pub fn core_value(row: &mut Row<'_>, core: &Core, name: &str) -> u32 {
+    let values = [
         core.stacks_s.msp,
         core.stacks_s.psp,
         core.stacks_ns.msp,
@@ -49,39 +49,10 @@ fn values_of(core: &Core) -> [u32; 13] {
         u32::from(core.registers.ipsr),
         core.special(3),
         core.faultmask(Side::Secure),
-    ]
-}
-
-/// A value of a core: a register of a side's stacks by the side and a dot, R0 to R14, or another.
-pub fn core_value(row: &mut Row<'_>, core: &Core, name: &str) -> u32 {
-    let values = values_of(core);
+    ];
     match values.get(place_of(&VALUES, name)) {
         Some(value) => *value,
         None => register_value(row, core, name),
-    }
-}
-
-/// The names of what is set of a side's stacks.
-static STACKS: [&str; 5] = ["msp", "psp", "msplim", "psplim", "spsel"];
-
-/// Sets a stack pointer, a limit or SPSEL of a side by its name, whose places are those of `STACKS`.
-fn set_stack(row: &mut Row<'_>, stacks: &mut Stacks, name: &str, value: u32) {
-    match place_of(&STACKS, name) {
-        0 => stacks.msp = value,
-        1 => stacks.psp = value,
-        2 => stacks.msplim = value,
-        3 => stacks.psplim = value,
-        4 => stacks.spsel = value != 0,
-        _ => row.refuse(),
-    }
-}
-
-/// Sets R0 to R12 to numbers in turn.
-fn fill(core: &mut Core, first: u32) {
-    let mut value = first;
-    for register in core.registers.general.iter_mut() {
-        *register = value;
-        value = value.wrapping_add(1);
     }
 }
 
@@ -96,8 +67,18 @@ fn flags_of(word: u32) -> Apsr {
     }
 }
 
-/// The names of what else is set.
-static OTHERS: [&str; 9] = [
+/// The names of what is set: the stacks of both sides, and what else.
+static SET: [&str; 19] = [
+    "s.msp",
+    "s.psp",
+    "s.msplim",
+    "s.psplim",
+    "s.spsel",
+    "ns.msp",
+    "ns.psp",
+    "ns.msplim",
+    "ns.psplim",
+    "ns.spsel",
     "registers",
     "nonsecure",
     "lr",
@@ -109,29 +90,38 @@ static OTHERS: [&str; 9] = [
     "faultmask",
 ];
 
-/// Sets another value, whose places are those of `OTHERS`.
-fn set_other(row: &mut Row<'_>, core: &mut Core, name: &str, value: u32) {
-    match place_of(&OTHERS, name) {
-        0 => fill(core, value),
-        1 if value == 1 => core.run.side = Side::NonSecure,
-        2 => core.registers.lr = value,
-        3 => core.registers.pc = value,
-        4 => core.registers.it = row.byte_in(value),
-        5 => core.registers.t = value != 0,
-        6 if value < 512 => core.registers.ipsr = value as u16,
-        7 => core.registers.apsr = flags_of(value),
-        8 => core.masks.s.faultmask = value != 0,
-        _ => row.refuse(),
+/// Sets a stack pointer, a limit or SPSEL of a side, by the place of its name among those of the side.
+fn set_stack(stacks: &mut Stacks, place: usize, value: u32) {
+    match place {
+        0 => stacks.msp = value,
+        1 => stacks.psp = value,
+        2 => stacks.msplim = value,
+        3 => stacks.psplim = value,
+        _ => stacks.spsel = value != 0,
     }
 }
 
-/// Sets a value of a core, by the names of `core_value`; `registers` are R0 to R12.
+/// Sets a value of a core, by the names of `core_value`; `registers` are R0 to R12, which are set to numbers in turn. The
+/// places of the names are those of `SET`.
 pub fn set_value(row: &mut Row<'_>, core: &mut Core, name: &str, value: u32) {
-    if let Some(name) = name.strip_prefix("s.") {
-        set_stack(row, &mut core.stacks_s, name, value);
-    } else if let Some(name) = name.strip_prefix("ns.") {
-        set_stack(row, &mut core.stacks_ns, name, value);
-    } else {
-        set_other(row, core, name, value);
+    match place_of(&SET, name) {
+        place @ 0..=4 => set_stack(&mut core.stacks_s, place, value),
+        place @ 5..=9 => set_stack(&mut core.stacks_ns, place - 5, value),
+        10 => {
+            let mut next = value;
+            for register in core.registers.general.iter_mut() {
+                *register = next;
+                next = next.wrapping_add(1);
+            }
+        }
+        11 if value == 1 => core.run.side = Side::NonSecure,
+        12 => core.registers.lr = value,
+        13 => core.registers.pc = value,
+        14 => core.registers.it = row.byte_in(value),
+        15 => core.registers.t = value != 0,
+        16 if value < 512 => core.registers.ipsr = value as u16,
+        17 => core.registers.apsr = flags_of(value),
+        18 => core.masks.s.faultmask = value != 0,
+        _ => row.refuse(),
     }
 }

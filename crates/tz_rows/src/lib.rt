@@ -29,12 +29,6 @@ pub trait Answers {
     fn answer(&self, row: &mut Row<'_>);
 }
 
-/// Whether a line is a row.
-fn is_row(line: &str) -> bool {
-    let line = line.trim();
-    !line.is_empty() && !line.starts_with('#')
-}
-
 /// Tells a row its answer, and gives the one that is wanted.
 fn ask<'a, A: Answers>(answers: &A, line: &'a str, row: &mut Row<'a>) -> &'a str {
     match line.split_once("=>") {
@@ -72,18 +66,21 @@ fn tell_row(report: &mut Row<'_>, number: u32, row: &Row<'_>, wanted: &str) -> b
     false
 }
 
-/// Asks for the answer to each row, and tells a report those that aren't the wanted ones, by their lines, and how many
-/// rows there are.
-fn tell_rows<'a, A: Answers>(answers: &A, rows: &'a str, row: &mut Row<'a>, report: &mut Row<'_>) {
+/// The report of the rows of a text: those whose answers aren't the wanted ones, by their lines, and how many rows there
+/// are. One row stands for all in turn, and the report is told as an answer is.
+pub fn told<A: Answers>(alloc: Global, answers: &A, rows: &str) -> Result<String, AllocError> {
+    let mut row = Row::new(alloc, rows);
+    let mut report = Row::new(alloc, rows);
     let mut number = 0u32;
     let mut count = 0i64;
     let mut differing = 0i64;
     for line in rows.lines() {
+        let line = line.trim();
         number = number.saturating_add(1);
-        if is_row(line) {
+        if !line.is_empty() && !line.starts_with('#') {
             count = count.saturating_add(1);
-            let wanted = ask(answers, line, row);
-            if !tell_row(report, number, row, wanted) {
+            let wanted = ask(answers, line, &mut row);
+            if !tell_row(&mut report, number, &row, wanted) {
                 differing = differing.saturating_add(1);
             }
         }
@@ -92,14 +89,6 @@ fn tell_rows<'a, A: Answers>(answers: &A, rows: &'a str, row: &mut Row<'a>, repo
     report.tell(" rows, ");
     report.tell_decimal(differing);
     report.tell(" differ\n");
-}
-
-/// The report of the rows of a text: those whose answers aren't the wanted ones, by their lines, and how many rows there
-/// are. One row stands for all in turn, and the report is told as an answer is.
-pub fn told<A: Answers>(alloc: Global, answers: &A, rows: &str) -> Result<String, AllocError> {
-    let mut row = Row::new(alloc, rows);
-    let mut report = Row::new(alloc, rows);
-    tell_rows(answers, rows, &mut row, &mut report);
     report.share(&row);
     report.text()
 }

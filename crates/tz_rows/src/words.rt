@@ -36,21 +36,17 @@ pub fn profile_in(row: &mut Row<'_>, word: &str) -> Profile {
     }
 }
 
-/// The event of a word: `nmi`, or the number of an interrupt.
-fn event_in(row: &mut Row<'_>, word: &str) -> ScriptEvent {
-    if word == "nmi" {
-        return ScriptEvent::Nmi;
-    }
-    let number = row.number_in(word);
-    ScriptEvent::Irq(row.half_in(number))
-}
-
-/// The events of words, at most three, and how many there are.
+/// The events of words, `nmi` or the number of an interrupt, at most three, and how many there are.
 pub fn events_of(row: &mut Row<'_>, words: &str) -> ([ScriptEvent; 3], usize) {
     let mut events = [ScriptEvent::Nmi; 3];
     let mut count = 0usize;
     for word in words.split_whitespace() {
-        let event = event_in(row, word);
+        let event = if word == "nmi" {
+            ScriptEvent::Nmi
+        } else {
+            let number = row.number_in(word);
+            ScriptEvent::Irq(row.half_in(number))
+        };
         match events.get_mut(count) {
             Some(place) => *place = event,
             None => row.refuse(),

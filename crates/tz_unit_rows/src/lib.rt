@@ -29,9 +29,7 @@ pub fn answer(row: &mut Row<'_>, kind: &str) {
     match place_of(&KINDS, kind) {
         0 => systems::defined(row),
         1 => systems::followed(row),
-        2 => instructions::data(row),
-        3 => instructions::load_store(row),
-        4 => instructions::branch(row),
+        2 | 3 | 4 => instructions::answer(row, kind),
         5 => buses::answer(row),
         6 => mpus::answer(row),
         7 => memories::answer(row),

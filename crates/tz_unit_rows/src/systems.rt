@@ -13,9 +13,11 @@ mod slots;
 mod system;
 mod timers;
 
+use crate::words::{side_at, tell_flag};
 use machine::{Machine, machine_of};
 pub use registers::set_named;
 use tz_nvic::Exceptions;
+use tz_regs::Core;
 use tz_rows::{Row, field_of, place_of};
 
 /// The line that defines the machine of a name. Empty where none does.
@@ -28,8 +30,9 @@ fn definition<'a>(rows: &'a str, name: &str) -> &'a str {
     ""
 }
 
-/// The names of steps, in the order of the places by which they are done: steps of the core, then those that reach the bus
-/// or are of the machine itself, from "keep" on, and those of the exceptions, from "slot" on.
+/// The names of steps, in the order of the places by which they are done: steps of registers, then those that change the
+/// machine itself or reach its bus, from "keep" on, those of looks and priorities, from "first" on, those of slots, from
+/// "slot" on, and those of timers and switches, from "pris" on.
 static STEPS: [&str; 44] = [
     "code",
     "set",
@@ -56,10 +59,14 @@ static STEPS: [&str; 44] = [
     "execution",
     "takes",
     "becomes",
+    "chosen",
+    "settle",
+    "known",
+    "size",
     "slot",
     "target",
-    "place",
     "given",
+    "place",
     "stands",
     "places",
     "due",
@@ -71,78 +78,66 @@ static STEPS: [&str; 44] = [
     "tick",
     "timers",
     "switches",
-    "chosen",
-    "settle",
-    "known",
-    "size",
 ];
 
-/// Does a step of the core, or one of the other kinds.
-fn step(machine: &mut Machine, row: &mut Row<'_>) {
-    let name = row.word(0);
-    match place_of(&STEPS, name) {
-        0 => registers::code(&machine.start, &mut machine.core, row),
-        1 => registers::set_banked(&mut machine.core, row),
-        2 => registers::put(&mut machine.core, row),
-        3 => registers::set_side(&mut machine.core, row),
-        4 => registers::load(&mut machine.core, row),
-        5 => registers::limited(&mut machine.core, row),
-        6 => registers::boot(&mut machine.core, row),
-        7 => registers::show_banked(&machine.core, row),
-        8 => registers::show_common(&machine.core, row),
-        9 => registers::show_general(&machine.core, row),
-        10 => registers::show_special(&machine.core, row),
-        11 => registers::changed(&machine.before, &machine.core, row),
-        12 => blocks::step(&mut machine.core, row),
-        13 => blocks::met(row),
-        place => machine_step(machine, place, row),
-    }
-}
-
-/// Does a step that reaches the bus or is of the machine itself, or one of the other kinds.
+/// Does a step that changes the machine itself or reaches its bus.
 fn machine_step(machine: &mut Machine, place: usize, row: &mut Row<'_>) {
     match place {
         14 => machine.before = machine.core,
         15 => priorities::set_priority(&mut machine.priority, row),
         16 => system::read(machine, row),
         17 => system::write(machine, row),
-        18 => system::set_unit(&mut machine.bus, row),
+        18 => {
+            let side = side_at(row, 1);
+            let addr = row.number(2);
+            machine.bus.set_register(addr, side, row.number(3));
+        }
         19 => {
             let priority = machine.priority;
             instructions::run(&mut machine.core, &mut machine.bus, priority, row)
         }
-        20 => instructions::monitor(&mut machine.bus, row),
-        21 => looks::show_first(&machine.core, &machine.exceptions, row),
-        22 => priorities::show_execution(&machine.core, &machine.exceptions, row),
-        23 => priorities::show_taken(&machine.core, &machine.exceptions, row),
-        24 => priorities::show_escalated(&machine.core, &machine.exceptions, row),
-        _ => exceptions_step(&mut machine.exceptions, place, row),
+        _ => instructions::monitor(&mut machine.bus, row),
     }
 }
 
-/// Does a step of the exceptions.
-fn exceptions_step(exceptions: &mut Exceptions, place: usize, row: &mut Row<'_>) {
+/// Does a step of looks and priorities.
+fn look(core: &Core, exceptions: &mut Exceptions, place: usize, row: &mut Row<'_>) {
     match place {
-        25 => slots::change(exceptions, row),
-        26 => slots::target(exceptions, row),
-        27 => slots::place(exceptions, row),
-        28 => slots::show_given(exceptions, row),
-        29 => slots::show(exceptions, row),
-        30 => slots::show_places(exceptions, row),
-        31 => slots::due(exceptions, row),
-        32 => slots::show_pending(exceptions, row),
-        33 => exceptions.set_pris(row.flag(1)),
-        34 => exceptions.set_fault_side(row.flag(1)),
-        35 => timers::group(exceptions, row),
-        36 => timers::set(exceptions, row),
-        37 => timers::tick(exceptions, row),
-        38 => timers::show(exceptions, row),
-        39 => timers::show_switches(exceptions, row),
-        40 => looks::show_chosen(exceptions, row),
-        41 => looks::settle(exceptions),
-        42 => looks::show_known(exceptions, row),
-        43 => looks::show_size(row),
-        _ => row.refuse(),
+        21 => looks::show_first(core, exceptions, row),
+        22 => priorities::show_execution(core, exceptions, row),
+        23 | 24 => priorities::show_taken(core, exceptions, place == 24, row),
+        25 => looks::show_chosen(exceptions, row),
+        26 => looks::settle(exceptions),
+        27 => looks::show_known(exceptions, row),
+        _ => tell_flag(row, looks::has_no_size()),
+    }
+}
+
+/// Does a step of slots.
+fn slot_step(exceptions: &mut Exceptions, place: usize, row: &mut Row<'_>) {
+    match place {
+        29 => slots::change(exceptions, row),
+        30 | 31 => slots::target(exceptions, place == 30, row),
+        32 => slots::place(exceptions, row),
+        33 => slots::show(exceptions, row),
+        34 => slots::show_places(exceptions, row),
+        35 => slots::due(exceptions, row),
+        _ => slots::show_pending(exceptions, row),
+    }
+}
+
+/// Does a step.
+fn step(machine: &mut Machine, row: &mut Row<'_>) {
+    let name = row.word(0);
+    match place_of(&STEPS, name) {
+        place @ 0..=6 => registers::change(&machine.start, &mut machine.core, place, row),
+        place @ 7..=11 => registers::show(&machine.before, &machine.core, place, row),
+        12 => blocks::step(&mut machine.core, row),
+        13 => blocks::met(row),
+        place @ 14..=20 => machine_step(machine, place, row),
+        place @ 21..=28 => look(&machine.core, &mut machine.exceptions, place, row),
+        place @ 29..=36 => slot_step(&mut machine.exceptions, place, row),
+        place => timers::step(&mut machine.exceptions, place, row),
     }
 }
 
@@ -156,28 +151,17 @@ fn run<'a>(machine: &mut Machine, steps: &'a str, row: &mut Row<'a>) {
     }
 }
 
-/// Prepares a machine, which a row begins with then, and does the steps of the row.
-fn prepare_and_run<'a>(
-    machine: &mut Machine,
-    preparing: &'a str,
-    steps: &'a str,
-    row: &mut Row<'a>,
-) {
-    run(machine, preparing, row);
-    let core = machine.core;
-    machine.start = core;
-    machine.before = core;
-    run(machine, steps, row);
-}
-
-/// Tells what steps show on the machine that the row defines.
+/// Tells what steps show on the machine that the row defines, which a row begins with.
 fn show<'a>(row: &mut Row<'a>, steps: &'a str) {
     let parts = row.field(2);
     let preparing = row.field(3);
     row.begin(parts);
-    match machine_of(row) {
-        Some(mut machine) => prepare_and_run(&mut machine, preparing, steps, row),
-        None => row.refuse(),
+    let made = machine_of(row);
+    if let Some(mut machine) = row.kept(made) {
+        run(&mut machine, preparing, row);
+        machine.start = machine.core;
+        machine.before = machine.core;
+        run(&mut machine, steps, row);
     }
 }
 

@@ -31,6 +31,11 @@ pub fn answer_of(answer: Result<(), ShelfError>) -> &'static str {
     }
 }
 
+/// Fails the test where something doesn't hold, with what it is about. A message is made here alone.
+pub fn hold(rt: &impl Abort, holds: bool, about: &str) {
+    assert!(rt; holds, "{about}");
+}
+
 /// What a shelf answers, and the bytes that it gives.
 fn read<S: Shelf>(alloc: Global, shelf: &mut S, name: &str, limit: u8) -> (&'static str, Vec<u8>) {
     let mut bytes = Vec::new(alloc);
@@ -45,9 +50,10 @@ type Reading = (&'static str, u8, &'static str, &'static str);
 fn check_readings<S: Shelf>(rt: &impl Abort, alloc: Global, shelf: &mut S, readings: &[Reading]) {
     for &(name, limit, answer, bytes) in readings {
         let (said, given) = read(alloc, shelf, name, limit);
-        assert!(rt;
+        hold(
+            rt,
             said == answer && given.as_slice() == bytes.as_bytes(),
-            "{name}"
+            name,
         );
     }
 }
@@ -95,9 +101,10 @@ fn memory_sink(rt: HostRuntime) -> Result<(), Fail> {
     let mut sink = MemorySink::new(rt.alloc(), 5)?;
     for &(text, goes, written) in PUTS.iter() {
         let went = sink.put(text.as_bytes()).is_ok();
-        assert!(rt;
+        hold(
+            &rt,
             went == goes && sink.bytes() == written.as_bytes(),
-            "{text}"
+            text,
         );
     }
     Ok(())
@@ -116,9 +123,10 @@ fn failing_sink(rt: HostRuntime) -> Result<(), Fail> {
     let mut sink = FailingSink::new(rt.alloc(), vec![in rt.alloc(); 1u64]?);
     for &(text, goes, written) in FAILING_PUTS.iter() {
         let went = sink.put(text.as_bytes()).is_ok();
-        assert!(rt;
+        hold(
+            &rt,
             went == goes && sink.bytes() == written.as_bytes(),
-            "{text}"
+            text,
         );
     }
     Ok(())

@@ -1,10 +1,9 @@
 //! The top call with streams and files that fail, and with no words at all.
 
-use crate::tests::doubles::files;
+use crate::tests::doubles::{files, hold};
 use std::alloc::{AllocError, Global};
 use std::test::Fail;
 use tz_cli::top;
-use tz_model::{Shelf, Sink};
 use tz_rows::{FailingShelf, FailingSink};
 
 /// The worked images, and an image of two segments that touch, the second one first.
@@ -17,19 +16,13 @@ static FILES: [(&str, &str); 3] = [
     ("T", "10008004 7fe900\n10008000 05207fe9\n"),
 ];
 
-/// The answer to a line of words.
-fn answer<H: Shelf, O: Sink, E: Sink>(
-    alloc: Global,
-    line: &str,
-    shelf: &mut H,
-    out: &mut O,
-    err: &mut E,
-) -> Result<u8, AllocError> {
+/// The words of a line.
+fn words_of(alloc: Global, line: &str) -> Result<Vec<String>, AllocError> {
     let mut words = Vec::new(alloc);
     for word in line.split_whitespace() {
         words.push(String::from_str(alloc, word)?)?;
     }
-    Ok(top(alloc, &words, shelf, out, err))
+    Ok(words)
 }
 
 /// The status of a line whose get and puts of these numbers fail, with what it wrote and told.
@@ -39,10 +32,11 @@ fn failing_answer(
     failing: (u64, u64, u64),
 ) -> Result<(u8, FailingSink, FailingSink), AllocError> {
     let (get, put, tell) = failing;
+    let words = words_of(alloc, line)?;
     let mut out = FailingSink::new(alloc, vec![in alloc; put]?);
     let mut err = FailingSink::new(alloc, vec![in alloc; tell]?);
     let mut shelf = FailingShelf::new(files(alloc, &FILES)?, vec![in alloc; get]?);
-    let status = answer(alloc, line, &mut shelf, &mut out, &mut err)?;
+    let status = top(alloc, &words, &mut shelf, &mut out, &mut err);
     Ok((status, out, err))
 }
 
@@ -80,9 +74,9 @@ static ANSWERS: [(&str, (u64, u64, u64), u8, &str, &str); 5] = [
 fn failing_answers(rt: HostRuntime) -> Result<(), Fail> {
     for &(line, failing, status, written, told) in ANSWERS.iter() {
         let (found, out, err) = failing_answer(rt.alloc(), line, failing)?;
-        assert!(rt; found == status, "{line}");
-        assert!(rt; out.bytes() == written.as_bytes(), "{line}");
-        assert!(rt; err.bytes() == told.as_bytes(), "{line}");
+        hold(&rt, found == status, line);
+        hold(&rt, out.bytes() == written.as_bytes(), line);
+        hold(&rt, err.bytes() == told.as_bytes(), line);
     }
     Ok(())
 }

@@ -1,5 +1,6 @@
 //! A line of each kind and shape of step, of reports that are made here. Each is step 7.
 
+use crate::tests::doubles::hold;
 use arrayvec::ArrayVec;
 use std::test::Fail;
 use tz_model::{Change, Code, Report, Side, Size, StepKind, Store};
@@ -139,11 +140,11 @@ fn shown_steps(rt: HostRuntime) -> Result<(), Fail> {
         let mut report = report(row.kind, Side::NonSecure, false, Side::NonSecure);
         report.changes.try_extend_from_slice(row.changes)?;
         report.stores.try_extend_from_slice(row.stores)?;
-        assert!(rt; line(&report, 7, View::Ns).as_str() == row.ns, "{}", row.ns);
-        assert!(rt;
+        hold(&rt, line(&report, 7, View::Ns).as_str() == row.ns, row.ns);
+        hold(
+            &rt,
             line(&report, 7, View::All).as_str() == row.all,
-            "{}",
-            row.all
+            row.all,
         );
     }
     Ok(())
@@ -154,7 +155,7 @@ fn shown_steps(rt: HostRuntime) -> Result<(), Fail> {
 fn hidden_steps(rt: HostRuntime) {
     for &(kind, start, touched, end, want) in HIDDEN.iter() {
         let report = report(kind, start, touched, end);
-        assert!(rt; line(&report, 7, View::Ns).as_str() == "7 S\n", "{want}");
-        assert!(rt; line(&report, 7, View::All).as_str() == want, "{want}");
+        hold(&rt, line(&report, 7, View::Ns).as_str() == "7 S\n", want);
+        hold(&rt, line(&report, 7, View::All).as_str() == want, want);
     }
 }

@@ -20,8 +20,9 @@ pub fn step(core: &mut Core, row: &mut Row<'_>) {
     }
 }
 
-/// The flags that meet a condition: bit `8 n + 4 z + 2 c + v` is set where N, Z, C and V meet it.
-fn flags_met(cond: u8) -> u32 {
+/// Shows the flags that meet a condition: `met COND`. Bit `8 n + 4 z + 2 c + v` is set where N, Z, C and V meet it.
+pub fn met(row: &mut Row<'_>) {
+    let cond = row.byte(1);
     let mut met = 0u32;
     for flags in 0..16u32 {
         let apsr = Apsr {
@@ -35,11 +36,5 @@ fn flags_met(cond: u8) -> u32 {
             met |= 1 << flags;
         }
     }
-    met
-}
-
-/// Shows the flags that meet a condition: `met COND`.
-pub fn met(row: &mut Row<'_>) {
-    let cond = row.byte(1);
-    tell_number(row, flags_met(cond));
+    tell_number(row, met);
 }

@@ -64,13 +64,16 @@ fn numbered(row: &mut Row<'_>, place: usize) -> Insn {
     }
 }
 
-/// The barrier of a word.
+/// The names of barriers.
+static BARRIERS: [&str; 4] = ["clrex", "dsb", "dmb", "isb"];
+
+/// The barrier of a word, whose places are those of `BARRIERS`.
 fn barrier(row: &mut Row<'_>) -> BarrierOp {
-    match row.word(2) {
-        "clrex" => BarrierOp::Clrex,
-        "dsb" => BarrierOp::Dsb,
-        "dmb" => BarrierOp::Dmb,
-        "isb" => BarrierOp::Isb,
+    match place_of(&BARRIERS, row.word(2)) {
+        0 => BarrierOp::Clrex,
+        1 => BarrierOp::Dsb,
+        2 => BarrierOp::Dmb,
+        3 => BarrierOp::Isb,
         _ => {
             row.refuse();
             BarrierOp::Clrex
@@ -78,9 +81,10 @@ fn barrier(row: &mut Row<'_>) -> BarrierOp {
     }
 }
 
-/// How an instruction ended, in a word.
-fn ending(answer: Result<Outcome, Fault>) -> &'static str {
-    match answer {
+/// Does an instruction, and shows how it ends.
+pub fn run(core: &mut Core, bus: &mut Bus, priority: i32, row: &mut Row<'_>) {
+    let insn = named(row);
+    row.tell_word(match execute(&insn, core, bus, priority) {
         Ok(Outcome::Next) => "next",
         Ok(Outcome::Sleep { event: true }) => "sleeps for an event",
         Ok(Outcome::Sleep { event: false }) => "sleeps",
@@ -91,13 +95,7 @@ fn ending(answer: Result<Outcome, Fault>) -> &'static str {
         Err(Fault::Breakpoint) => "breakpoint",
         Err(Fault::Call) => "call",
         Err(_) => "another fault",
-    }
-}
-
-/// Does an instruction, and shows how it ends.
-pub fn run(core: &mut Core, bus: &mut Bus, priority: i32, row: &mut Row<'_>) {
-    let insn = named(row);
-    row.tell_word(ending(execute(&insn, core, bus, priority)));
+    });
 }
 
 /// `monitor ADDRESS` makes the monitor hold a word; `monitor held` shows whether it holds something.

@@ -2,7 +2,6 @@
 
 ghost use Rattle.std.specs.Prelude.{◌≡◌, ◌<◌};
 
-use crate::systems::timers::tell_exception;
 use crate::words::{tell_count, tell_flag};
 use std::marker::Brand;
 use std::mem::size_of;
@@ -11,7 +10,7 @@ use tz_model::Side;
 use tz_nvic::{Exceptions, Steps};
 use tz_prio::{takes_first, wakes};
 use tz_regs::Core;
-use tz_rows::Row;
+use tz_rows::{Row, side_word};
 
 /// The number and the side of the chosen exception, whether the first can be taken, and whether it would be with both
 /// PRIMASKs 0.
@@ -56,7 +55,13 @@ pub fn settle(exceptions: &mut Exceptions) {
 /// Shows the number and the side of the chosen exception, or `none`.
 pub fn show_chosen(exceptions: &Exceptions, row: &mut Row<'_>) {
     let (chosen, _, _) = found(&Core::new(), exceptions);
-    tell_exception(row, chosen);
+    match chosen {
+        Some((number, side)) => {
+            tell_count(row, i32::from(number));
+            row.tell_word(side_word(side))
+        }
+        None => row.tell_word("none"),
+    }
 }
 
 /// Shows the chosen exception; the least priority of what is active, four above the manual's; whether an interrupt is
@@ -76,8 +81,7 @@ pub fn show_first(core: &Core, exceptions: &Exceptions, row: &mut Row<'_>) {
     tell_flag(row, wakes)
 }
 
-/// Shows how many bytes the count of looks takes.
-pub fn show_size(row: &mut Row<'_>) {
-    let size = size_of::<Steps<Brand>>();
-    tell_flag(row, size == 0)
+/// Whether the count of looks takes no byte.
+pub fn has_no_size() -> bool {
+    size_of::<Steps<Brand>>() == 0
 }

@@ -73,14 +73,13 @@ fn machine_on(alloc: Global, board: &Board, interrupts: u16) -> Result<Machine, 
 }
 
 /// The machine that the step of a row says: the name of a board and a number of interrupts.
-pub fn machine_of(row: &mut Row<'_>) -> Option<Machine> {
+pub fn machine_of(row: &mut Row<'_>) -> Result<Machine, AllocError> {
     let name = row.word(0);
-    let interrupts = row.half(1);
+    let mut interrupts = row.half(1);
     if interrupts < 1 || interrupts > 240 {
-        return None;
+        row.refuse();
+        interrupts = 1;
     }
-    let board = board_of(row, name);
-    let board = row.kept(board)?;
-    let made = machine_on(row.alloc, &board, interrupts);
-    row.kept(made)
+    let board = board_of(row, name)?;
+    machine_on(row.alloc, &board, interrupts)
 }

@@ -23,30 +23,19 @@ pub fn show_execution(core: &Core, exceptions: &Exceptions, row: &mut Row<'_>) {
     tell_flag(row, is_negative(core, exceptions))
 }
 
-/// Shows whether an exception can be taken: `takes NUMBER SIDE`.
-pub fn show_taken(core: &Core, exceptions: &Exceptions, row: &mut Row<'_>) {
+/// Shows whether an exception can be taken, `takes NUMBER SIDE`, or what it becomes, `becomes NUMBER SIDE`.
+pub fn show_taken(core: &Core, exceptions: &Exceptions, becomes: bool, row: &mut Row<'_>) {
     let slot = slot_of(row);
     if !exceptions.exists(slot) {
         return row.refuse();
     }
-    tell_flag(row, can_take(core, exceptions, slot))
-}
-
-/// What is taken, in a word.
-fn taken_word(taken: Taken) -> &'static str {
-    match taken {
+    if !becomes {
+        return tell_flag(row, can_take(core, exceptions, slot));
+    }
+    row.tell_word(match escalate(core, exceptions, slot) {
         Taken::AsIs => "as is",
         Taken::Hard(Side::Secure) => "hard s",
         Taken::Hard(Side::NonSecure) => "hard ns",
         Taken::Lockup => "lockup",
-    }
-}
-
-/// Shows what an exception becomes: `becomes NUMBER SIDE`.
-pub fn show_escalated(core: &Core, exceptions: &Exceptions, row: &mut Row<'_>) {
-    let slot = slot_of(row);
-    if !exceptions.exists(slot) {
-        return row.refuse();
-    }
-    row.tell_word(taken_word(escalate(core, exceptions, slot)))
+    })
 }

@@ -23,30 +23,26 @@ static CHANGES: [&str; 6] = [
     "disable",
 ];
 
-/// Changes a slot as a word tells, whose places are those of `CHANGES`. A number is its priority.
-fn change_to(exceptions: &mut Exceptions, row: &mut Row<'_>, slot: Slot, word: &str) {
-    if !exceptions.exists(slot) {
-        return row.refuse();
-    }
-    match place_of(&CHANGES, word) {
-        0 => exceptions.pend(slot),
-        1 => exceptions.unpend(slot),
-        2 => exceptions.activate(slot),
-        3 => exceptions.deactivate(slot),
-        4 => exceptions.set_enabled(slot, true),
-        5 => exceptions.set_enabled(slot, false),
-        _ => {
-            let number = row.number_in(word);
-            exceptions.set_priority(slot, row.byte_in(number));
-        }
-    }
-}
-
-/// Changes a slot: `slot NUMBER SIDE CHANGE ..`, with the changes in order.
+/// Changes a slot: `slot NUMBER SIDE CHANGE ..`, with the changes in order. The places of their words are those of
+/// `CHANGES`, and a number is a priority.
 pub fn change(exceptions: &mut Exceptions, row: &mut Row<'_>) {
     let slot = slot_of(row);
     for word in row.behind(3).split_whitespace() {
-        change_to(exceptions, row, slot, word);
+        if !exceptions.exists(slot) {
+            return row.refuse();
+        }
+        match place_of(&CHANGES, word) {
+            0 => exceptions.pend(slot),
+            1 => exceptions.unpend(slot),
+            2 => exceptions.activate(slot),
+            3 => exceptions.deactivate(slot),
+            4 => exceptions.set_enabled(slot, true),
+            5 => exceptions.set_enabled(slot, false),
+            _ => {
+                let number = row.number_in(word);
+                exceptions.set_priority(slot, row.byte_in(number));
+            }
+        }
     }
 }
 
@@ -62,23 +58,17 @@ pub fn show(exceptions: &Exceptions, row: &mut Row<'_>) {
     tell_number(row, u32::from(exceptions.priority(slot)))
 }
 
-/// Gives an external interrupt to a side: `target NUMBER SIDE`.
-pub fn target(exceptions: &mut Exceptions, row: &mut Row<'_>) {
-    let number = row.half(1);
-    let side = side_at(row, 2);
-    if number < 16 || number >= exceptions.interrupts() + 16 {
-        return row.refuse();
-    }
-    exceptions.set_target(number, side);
-}
-
-/// Shows the side that an external interrupt is given to: `given NUMBER`.
-pub fn show_given(exceptions: &Exceptions, row: &mut Row<'_>) {
+/// Gives an external interrupt to a side, `target NUMBER SIDE`, or shows the side that it is given to, `given NUMBER`.
+pub fn target(exceptions: &mut Exceptions, gives: bool, row: &mut Row<'_>) {
     let number = row.half(1);
     if number < 16 || number >= exceptions.interrupts() + 16 {
         return row.refuse();
     }
-    row.tell_word(side_word(exceptions.target(number)))
+    if gives {
+        exceptions.set_target(number, side_at(row, 2));
+    } else {
+        row.tell_word(side_word(exceptions.target(number)))
+    }
 }
 
 /// Puts a Secure slot at a place: `place INDEX PENDING ACTIVE ENABLED PRIORITY`.

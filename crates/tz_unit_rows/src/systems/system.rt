@@ -2,7 +2,7 @@
 
 use crate::systems::machine::Machine;
 use crate::words::{side_at, size_at, tell_number};
-use tz_access::{Bus, is_aligned};
+use tz_access::is_aligned;
 use tz_rows::Row;
 use tz_scs::System;
 
@@ -43,11 +43,4 @@ pub fn write(machine: &mut Machine, row: &mut Row<'_>) {
         }
         system.write(addr, size, side, value);
     }
-}
-
-/// Sets a register of the SAU, or of the MPU of a side: `unit SIDE ADDRESS VALUE`.
-pub fn set_unit(bus: &mut Bus, row: &mut Row<'_>) {
-    let side = side_at(row, 1);
-    let addr = row.number(2);
-    bus.set_register(addr, side, row.number(3));
 }

@@ -3,7 +3,7 @@
 use crate::words::{side_at, tell_count, tell_flag, tell_number};
 use tz_model::Side;
 use tz_nvic::{Exceptions, Timer};
-use tz_rows::{Row, side_word};
+use tz_rows::Row;
 
 /// Sets PRIGROUP of a side: `group SIDE NUMBER`.
 pub fn group(exceptions: &mut Exceptions, row: &mut Row<'_>) {
@@ -30,37 +30,32 @@ pub fn set(exceptions: &mut Exceptions, row: &mut Row<'_>) {
     }
 }
 
-/// Counts both timers, as often as told: `tick TIMES`.
-pub fn tick(exceptions: &mut Exceptions, row: &mut Row<'_>) {
-    let times = row.byte(1);
-    for _ in 0..times {
-        exceptions.tick();
-    }
-}
-
-/// Shows CSR, RVR and CVR of the timer of a side: `timers SIDE`.
-pub fn show(exceptions: &Exceptions, row: &mut Row<'_>) {
-    let timer = exceptions.timer(side_at(row, 1));
-    tell_number(row, timer.csr);
-    tell_number(row, timer.rvr);
-    tell_number(row, timer.cvr)
-}
-
-/// Shows PRIS, BFHFNMINS, and PRIGROUP of the Secure and of the Non-secure side.
-pub fn show_switches(exceptions: &Exceptions, row: &mut Row<'_>) {
-    tell_flag(row, exceptions.pris());
-    tell_flag(row, exceptions.fault_side());
-    tell_count(row, i32::from(exceptions.grouping(Side::Secure)));
-    tell_count(row, i32::from(exceptions.grouping(Side::NonSecure)))
-}
-
-/// Shows an exception by its number and its side, or `none`.
-pub fn tell_exception(row: &mut Row<'_>, exception: Option<(u16, Side)>) {
-    match exception {
-        Some((number, side)) => {
-            tell_count(row, i32::from(number));
-            row.tell_word(side_word(side))
+/// Does a step of the timers or the switches by its place: `tick TIMES` counts both timers; `timers SIDE` shows CSR, RVR
+/// and CVR of the timer of a side; `switches` shows PRIS, BFHFNMINS, and PRIGROUP of the Secure and of the Non-secure
+/// side; or another.
+pub fn step(exceptions: &mut Exceptions, place: usize, row: &mut Row<'_>) {
+    match place {
+        37 => exceptions.set_pris(row.flag(1)),
+        38 => exceptions.set_fault_side(row.flag(1)),
+        39 => group(exceptions, row),
+        40 => set(exceptions, row),
+        41 => {
+            for _ in 0..row.byte(1) {
+                exceptions.tick();
+            }
         }
-        None => row.tell_word("none"),
+        42 => {
+            let timer = exceptions.timer(side_at(row, 1));
+            tell_number(row, timer.csr);
+            tell_number(row, timer.rvr);
+            tell_number(row, timer.cvr)
+        }
+        43 => {
+            tell_flag(row, exceptions.pris());
+            tell_flag(row, exceptions.fault_side());
+            tell_count(row, i32::from(exceptions.grouping(Side::Secure)));
+            tell_count(row, i32::from(exceptions.grouping(Side::NonSecure)))
+        }
+        _ => row.refuse(),
     }
 }

@@ -32,55 +32,23 @@ pub struct Asked {
 }
 
 /// What a step without words asks.
-fn nothing() -> Asked {
-    Asked {
-        numbers: [0; 8],
-        count: 0,
-        side: Side::Secure,
-        size: Size::Word,
-        kind: Kind::Read,
-        privileged: true,
-        secure_privileged: true,
-        negative: false,
-        aligned: false,
-        unprivileged: false,
-        alternate: false,
-    }
-}
+const NOTHING: Asked = Asked {
+    numbers: [0; 8],
+    count: 0,
+    side: Side::Secure,
+    size: Size::Word,
+    kind: Kind::Read,
+    privileged: true,
+    secure_privileged: true,
+    negative: false,
+    aligned: false,
+    unprivileged: false,
+    alternate: false,
+};
 
-/// Registers by their names.
-static REGISTERS: [&str; 10] = [
-    "MPU_TYPE", "MPU_CTRL", "MPU_RNR", "MPU_RBAR", "MPU_RLAR", "SAU_CTRL", "SAU_TYPE", "SAU_RNR",
-    "SAU_RBAR", "SAU_RLAR",
-];
-
-/// The address of a register by its name.
-fn register_of(name: &str) -> Option<u32> {
-    match place_of(&REGISTERS, name) {
-        0 => Some(0xe000_ed90),
-        1 => Some(0xe000_ed94),
-        2 => Some(0xe000_ed98),
-        3 => Some(0xe000_ed9c),
-        4 => Some(0xe000_eda0),
-        5 => Some(0xe000_edd0),
-        6 => Some(0xe000_edd4),
-        7 => Some(0xe000_edd8),
-        8 => Some(0xe000_eddc),
-        9 => Some(0xe000_ede0),
-        _ => None,
-    }
-}
-
-/// The number of a word: that which it writes, or the address of the register that it names.
-fn value_of(word: &str) -> Option<u32> {
-    match number_of(word) {
-        Some(number) => Some(number),
-        None => register_of(word),
-    }
-}
-
-/// The words that say what an access is, who asks and how.
-static WORDS: [&str; 15] = [
+/// The words that say what an access is, who asks and how, and behind them the registers of an MPU and of the SAU, which
+/// stand for their addresses.
+static WORDS: [&str; 25] = [
     "s",
     "ns",
     "word",
@@ -96,7 +64,40 @@ static WORDS: [&str; 15] = [
     "aligned",
     "unprivileged",
     "alternate",
+    "MPU_TYPE",
+    "MPU_CTRL",
+    "MPU_RNR",
+    "MPU_RBAR",
+    "MPU_RLAR",
+    "SAU_CTRL",
+    "SAU_TYPE",
+    "SAU_RNR",
+    "SAU_RBAR",
+    "SAU_RLAR",
 ];
+
+/// The addresses of those registers.
+static ADDRESSES: [u32; 10] = [
+    0xe000_ed90,
+    0xe000_ed94,
+    0xe000_ed98,
+    0xe000_ed9c,
+    0xe000_eda0,
+    0xe000_edd0,
+    0xe000_edd4,
+    0xe000_edd8,
+    0xe000_eddc,
+    0xe000_ede0,
+];
+
+/// Takes a number. The row is unread where it is one too many.
+fn take_number(row: &mut Row<'_>, asked: &mut Asked, number: u32) {
+    match asked.numbers.get_mut(asked.count) {
+        Some(place) => *place = number,
+        None => row.refuse(),
+    }
+    asked.count = asked.count.saturating_add(1);
+}
 
 /// Takes a word that is no number, whose places are those of `WORDS`. The row is unread where it says nothing.
 fn take_name(row: &mut Row<'_>, asked: &mut Asked, word: &str) {
@@ -116,32 +117,21 @@ fn take_name(row: &mut Row<'_>, asked: &mut Asked, word: &str) {
         12 => asked.aligned = true,
         13 => asked.unprivileged = true,
         14 => asked.alternate = true,
-        _ => row.refuse(),
-    }
-}
-
-/// Takes a number. The row is unread where it is one too many.
-fn take_number(row: &mut Row<'_>, asked: &mut Asked, number: u32) {
-    match asked.numbers.get_mut(asked.count) {
-        Some(place) => *place = number,
-        None => row.refuse(),
-    }
-    asked.count = asked.count.saturating_add(1);
-}
-
-/// Takes a word.
-fn take_word(row: &mut Row<'_>, asked: &mut Asked, word: &str) {
-    match value_of(word) {
-        Some(number) => take_number(row, asked, number),
-        None => take_name(row, asked, word),
+        place => match ADDRESSES.get(place.saturating_sub(15)) {
+            Some(address) => take_number(row, asked, *address),
+            None => row.refuse(),
+        },
     }
 }
 
 /// What words ask.
 pub fn asked_by(row: &mut Row<'_>, words: &str) -> Asked {
-    let mut asked = nothing();
+    let mut asked = NOTHING;
     for word in words.split_whitespace() {
-        take_word(row, &mut asked, word);
+        match number_of(word) {
+            Some(number) => take_number(row, &mut asked, number),
+            None => take_name(row, &mut asked, word),
+        }
     }
     asked
 }

@@ -4,9 +4,9 @@ use tz_mem::Refused;
 use tz_model::{Fault, Side};
 use tz_rows::Row;
 
-/// A fault in words, and its address where it has one.
-fn fault_words(fault: &Fault) -> (&'static str, Option<u32>) {
-    match fault {
+/// Tells a fault, and its address where it has one.
+pub fn tell_fault(row: &mut Row<'_>, fault: &Fault) {
+    let (words, addr) = match fault {
         Fault::Undef => ("undef", None),
         Fault::DivZero => ("div zero", None),
         Fault::StackLimit(Side::Secure) => ("limit s", None),
@@ -22,12 +22,7 @@ fn fault_words(fault: &Fault) -> (&'static str, Option<u32>) {
         Fault::EntryPoint => ("entry point", None),
         Fault::Transition => ("transition", None),
         _ => ("other fault", None),
-    }
-}
-
-/// Tells a fault, and its address where it has one.
-pub fn tell_fault(row: &mut Row<'_>, fault: &Fault) {
-    let (words, addr) = fault_words(fault);
+    };
     row.tell(words);
     if let Some(addr) = addr {
         row.tell(" ");

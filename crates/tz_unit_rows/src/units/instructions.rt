@@ -11,38 +11,25 @@ use start::core_of;
 use told::{tell_step, tell_stores};
 use tz_rows::{Row, TablePort};
 
-/// Tells what a data processing instruction does.
-pub fn data(row: &mut Row<'_>) {
-    let insn = insn_of(row);
-    let before = core_of(row);
-    let mut after = before;
-    let outcome = tz_alu::execute(&insn, &mut after);
-    tell_step(row, &outcome, &before, &after);
-}
-
-/// Tells what a branch does.
-pub fn branch(row: &mut Row<'_>) {
+/// Tells what an instruction of a family does, and which stores it makes: data processing, which reaches no memory, a
+/// branch, or a load or a store.
+pub fn answer(row: &mut Row<'_>, family: &str) {
     let insn = insn_of(row);
     let before = core_of(row);
     let mut port = TablePort::new(&[], None);
-    set_port(row, &mut port, 3);
-    let mut after = before;
-    let outcome = tz_branch::execute(&insn, &mut after, &mut port);
-    tell_step(row, &outcome, &before, &after);
-}
-
-/// Tells what a load or a store does, and which stores it makes.
-pub fn load_store(row: &mut Row<'_>) {
-    let insn = insn_of(row);
-    let before = core_of(row);
-    let mut port = TablePort::new(&[], None);
-    set_port(row, &mut port, 3);
+    if family != "data" {
+        set_port(row, &mut port, 3);
+    }
     let kept = port.entries.len();
     if kept > 16 {
         return row.refuse();
     }
     let mut after = before;
-    let outcome = tz_loadstore::execute(&insn, &mut after, &mut port);
+    let outcome = match family {
+        "data" => tz_alu::execute(&insn, &mut after),
+        "branch" => tz_branch::execute(&insn, &mut after, &mut port),
+        _ => tz_loadstore::execute(&insn, &mut after, &mut port),
+    };
     tell_step(row, &outcome, &before, &after);
     tell_stores(row, &port, kept);
 }

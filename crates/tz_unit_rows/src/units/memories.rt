@@ -8,7 +8,7 @@ use crate::units::steps::{Steps, take_all};
 use std::alloc::{AllocError, Global};
 use tz_mem::Memory;
 use tz_model::{Board, Profile, Region, RegionKind, RegionSide, Segment};
-use tz_rows::Row;
+use tz_rows::{Row, place_of};
 
 /// A Secure region.
 fn region(base: u32, size: u32, kind: RegionKind) -> Region
@@ -54,47 +54,30 @@ fn counted(alloc: Global) -> Result<Memory, AllocError> {
     Ok(memory)
 }
 
-/// `read ADDRESS` with a size.
-fn read(memory: &Memory, asked: &Asked, row: &mut Row<'_>) {
-    let found = memory.read(asked.numbers[0], asked.size);
-    tell_number(row, found.ok(), "not mapped")
-}
+/// The names of steps, in the order of the places by which they are taken.
+static STEPS: [&str; 3] = ["read", "write", "place"];
 
-/// `write ADDRESS NUMBER` with a size.
-fn write(memory: &mut Memory, asked: &Asked, row: &mut Row<'_>) {
-    let outcome = memory.write(asked.numbers[0], asked.size, asked.numbers[1]);
-    tell_write(row, &outcome)
-}
-
-/// `place ADDRESS BYTE`: whether it is mapped.
-fn place(memory: &mut Memory, asked: &Asked, row: &mut Row<'_>) {
-    let byte = row.byte_in(asked.numbers[1]);
-    let placed = memory.place(asked.numbers[0], byte).is_ok();
-    tell_truth(row, placed);
-}
-
+/// `read ADDRESS` and `write ADDRESS NUMBER` with a size, and `place ADDRESS BYTE`, which tells whether it is mapped.
 impl Steps for Memory {
     fn step(&mut self, name: &str, asked: &Asked, row: &mut Row<'_>) {
-        match (name, asked.count) {
-            ("read", 1) => read(self, asked, row),
-            ("write", 2) => write(self, asked, row),
-            ("place", 2) => place(self, asked, row),
+        let [addr, number, ..] = asked.numbers;
+        match (place_of(&STEPS, name), asked.count) {
+            (0, 1) => tell_number(row, self.read(addr, asked.size).ok(), "not mapped"),
+            (1, 2) => tell_write(row, &self.write(addr, asked.size, number)),
+            (2, 2) => {
+                let byte = row.byte_in(number);
+                tell_truth(row, self.place(addr, byte).is_ok())
+            }
             _ => row.refuse(),
         }
     }
 }
 
-/// Takes the steps of a row.
-fn take(row: &mut Row<'_>, memory: &mut Memory) {
-    let steps = row.field(1);
-    take_all(row, memory, steps);
-}
-
 /// Tells what the steps of a row are answered.
 pub fn answer(row: &mut Row<'_>) {
     let made = counted(row.alloc);
-    match row.kept(made) {
-        Some(mut memory) => take(row, &mut memory),
-        None => (),
+    if let Some(mut memory) = row.kept(made) {
+        let steps = row.field(1);
+        take_all(row, &mut memory, steps);
     }
 }

@@ -4,53 +4,31 @@ use crate::units::asked::Asked;
 use crate::units::faults::{tell_index, tell_region};
 use crate::units::steps::{Steps, take_both};
 use tz_mpu::Mpu;
-use tz_rows::{Row, profile_in};
+use tz_rows::{Row, place_of, profile_in};
 
-/// `check ADDRESS`: the region that permits an access, or the default map.
-fn check(mpu: &Mpu, asked: &Asked, row: &mut Row<'_>) {
-    match mpu.check(
-        asked.numbers[0],
-        asked.kind,
-        asked.privileged,
-        asked.negative,
-    ) {
-        Ok(region) => tell_index(row, region, "default"),
-        Err(_) => row.tell("refused"),
-    }
-}
+/// The names of steps, in the order of the places by which they are taken.
+static STEPS: [&str; 5] = ["write", "read", "check", "examine", "region"];
 
-/// `examine ADDRESS`: the region that TT tells.
-fn examine(mpu: &Mpu, asked: &Asked, row: &mut Row<'_>) {
-    let region = mpu.examine(asked.numbers[0], asked.negative);
-    tell_index(row, region, "none")
-}
-
-/// `read REGISTER`.
-fn read(mpu: &Mpu, asked: &Asked, row: &mut Row<'_>) {
-    let value = mpu.read(asked.numbers[0]);
-    row.tell_hex(value)
-}
-
-/// `region REGION`: its RBAR and RLAR.
-fn region(mpu: &Mpu, asked: &Asked, row: &mut Row<'_>) {
-    let number = row.byte_in(asked.numbers[0]);
-    tell_region(row, mpu.region(number));
-}
-
-/// `write REGISTER NUMBER`.
-fn write(mpu: &mut Mpu, asked: &Asked, row: &mut Row<'_>) {
-    mpu.write(asked.numbers[0], asked.numbers[1]);
-    row.tell("written")
-}
-
+/// `write REGISTER NUMBER`, `read REGISTER`; `check ADDRESS`, the region that permits an access, or the default map;
+/// `examine ADDRESS`, the region that TT tells; `region REGION`, its RBAR and RLAR.
 impl Steps for Mpu {
     fn step(&mut self, name: &str, asked: &Asked, row: &mut Row<'_>) {
-        match (name, asked.count) {
-            ("write", 2) => write(self, asked, row),
-            ("read", 1) => read(self, asked, row),
-            ("check", 1) => check(self, asked, row),
-            ("examine", 1) => examine(self, asked, row),
-            ("region", 1) => region(self, asked, row),
+        let [addr, number, ..] = asked.numbers;
+        match (place_of(&STEPS, name), asked.count) {
+            (0, 2) => {
+                self.write(addr, number);
+                row.tell("written")
+            }
+            (1, 1) => row.tell_hex(self.read(addr)),
+            (2, 1) => match self.check(addr, asked.kind, asked.privileged, asked.negative) {
+                Ok(region) => tell_index(row, region, "default"),
+                Err(_) => row.tell("refused"),
+            },
+            (3, 1) => tell_index(row, self.examine(addr, asked.negative), "none"),
+            (4, 1) => {
+                let region = row.byte_in(addr);
+                tell_region(row, self.region(region))
+            }
             _ => row.refuse(),
         }
     }

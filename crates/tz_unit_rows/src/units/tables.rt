@@ -3,52 +3,33 @@
 ghost use Rattle.std.specs.Prelude.{◌≤◌, length};
 
 use crate::units::asked::Asked;
-use crate::units::faults::{tell_fault, tell_word};
+use crate::units::faults::tell_word;
 use crate::units::steps::{Steps, take_all};
 use crate::units::words::set_port;
 use tz_frames::Frames;
-use tz_rows::{Row, TableFrames};
+use tz_rows::{Row, TableFrames, place_of};
 
-/// `vector NUMBER` of a side.
-fn vector(frames: &mut TableFrames, asked: &Asked, row: &mut Row<'_>) {
-    let number = row.half_in(asked.numbers[0]);
-    let answer = frames.vector(number, asked.side);
-    tell_word(row, &answer);
-}
+/// The names of steps, in the order of the places by which they are taken.
+static STEPS: [&str; 4] = ["vector", "secure_load", "frame_load", "frame_store"];
 
-/// `secure_load ADDRESS`.
-fn secure_load(frames: &mut TableFrames, asked: &Asked, row: &mut Row<'_>) {
-    let answer = frames.secure_load(asked.numbers[0]);
-    tell_word(row, &answer)
-}
-
-/// `frame_load ADDRESS` of a side.
-fn frame_load(frames: &mut TableFrames, asked: &Asked, row: &mut Row<'_>) {
-    let answer = frames.frame_load(asked.numbers[0], asked.side, asked.privileged);
-    tell_word(row, &answer)
-}
-
-/// `frame_store ADDRESS NUMBER` of a side, for which there has to be room.
-fn frame_store(frames: &mut TableFrames, asked: &Asked, row: &mut Row<'_>) {
-    if frames.port.entries.len() >= 32 {
-        return row.refuse();
-    }
-    let [addr, value, ..] = asked.numbers;
-    match frames.frame_store(addr, asked.side, asked.privileged, value) {
-        Ok(()) => row.tell("stored"),
-        Err(fault) => tell_fault(row, &fault),
-    }
-}
-
+/// `vector NUMBER` of a side, `secure_load ADDRESS`, `frame_load ADDRESS` of a side, and `frame_store ADDRESS NUMBER` of a
+/// side, for which there has to be room.
 impl Steps for TableFrames {
     fn step(&mut self, name: &str, asked: &Asked, row: &mut Row<'_>) {
-        match (name, asked.count) {
-            ("vector", 1) => vector(self, asked, row),
-            ("secure_load", 1) => secure_load(self, asked, row),
-            ("frame_load", 1) => frame_load(self, asked, row),
-            ("frame_store", 2) => frame_store(self, asked, row),
-            _ => row.refuse(),
-        }
+        let [addr, value, ..] = asked.numbers;
+        let answer = match (place_of(&STEPS, name), asked.count) {
+            (0, 1) => self.vector(row.half_in(addr), asked.side),
+            (1, 1) => self.secure_load(addr),
+            (2, 1) => self.frame_load(addr, asked.side, asked.privileged),
+            (3, 2) if self.port.entries.len() < 32 => {
+                match self.frame_store(addr, asked.side, asked.privileged, value) {
+                    Ok(()) => return row.tell("stored"),
+                    Err(fault) => Err(fault),
+                }
+            }
+            _ => return row.refuse(),
+        };
+        tell_word(row, &answer)
     }
 }
 

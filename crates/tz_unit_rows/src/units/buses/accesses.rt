@@ -16,9 +16,9 @@ fn tell_place(row: &mut Row<'_>, answer: &Result<Place, Fault>) {
     }
 }
 
-/// `check ADDRESS`: where an access goes.
-pub fn check(bus: &mut Bus, asked: &Asked, row: &mut Row<'_>) {
-    let request = Request {
+/// Where an access goes, whose kind, size and alignment are asked.
+fn checked(bus: &mut Bus, asked: &Asked) -> Result<Place, Fault> {
+    bus.check(&Request {
         addr: asked.numbers[0],
         size: asked.size,
         kind: asked.kind,
@@ -26,42 +26,30 @@ pub fn check(bus: &mut Bus, asked: &Asked, row: &mut Row<'_>) {
         privileged: asked.privileged,
         negative: asked.negative,
         must_align: asked.aligned,
-    };
-    let answer = bus.check(&request);
-    tell_place(row, &answer)
+    })
 }
 
-/// The code that asks.
-fn asker_of(asked: &Asked) -> Asker {
-    Asker {
+/// Takes a step by its place: `check ADDRESS`, where an access goes; `store ADDRESS NUMBER`, where the store goes; and
+/// `load ADDRESS`, the number there, but of a system register.
+pub fn step(bus: &mut Bus, place: usize, asked: &Asked, row: &mut Row<'_>) {
+    let asker = Asker {
         side: asked.side,
         privileged: asked.privileged,
         negative: asked.negative,
         aligned: false,
-    }
-}
-
-/// `load ADDRESS`: the number there, but of a system register.
-pub fn load(bus: &Bus, asked: &Asked, row: &mut Row<'_>) {
-    let asker = asker_of(asked);
-    let addr = asked.numbers[0];
-    match bus.load(&asker, asked.size, addr, asked.aligned, asked.unprivileged) {
-        Ok(found) => tell_number(row, found, "system"),
-        Err(fault) => tell_fault(row, &fault),
-    }
-}
-
-/// `store ADDRESS NUMBER`: where the store goes.
-pub fn store(bus: &mut Bus, asked: &Asked, row: &mut Row<'_>) {
-    let asker = asker_of(asked);
+    };
     let [addr, value, ..] = asked.numbers;
-    let answer = bus.store(
-        &asker,
-        asked.size,
-        addr,
-        value,
-        asked.aligned,
-        asked.unprivileged,
-    );
-    tell_place(row, &answer)
+    let (aligned, user) = (asked.aligned, asked.unprivileged);
+    match (place, asked.count) {
+        (17, 1) => tell_place(row, &checked(bus, asked)),
+        (18, 2) => {
+            let answer = bus.store(&asker, asked.size, addr, value, aligned, user);
+            tell_place(row, &answer)
+        }
+        (19, 1) => match bus.load(&asker, asked.size, addr, aligned, user) {
+            Ok(found) => tell_number(row, found, "system"),
+            Err(fault) => tell_fault(row, &fault),
+        },
+        _ => row.refuse(),
+    }
 }

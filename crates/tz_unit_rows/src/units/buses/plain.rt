@@ -5,10 +5,10 @@ use crate::units::faults::{tell_number, tell_truth, tell_write};
 use tz_access::Bus;
 use tz_rows::Row;
 
-/// `put ADDRESS HALF ..` puts halfwords into memory, whatever the kind of its region, which have to be mapped.
-pub fn put(bus: &mut Bus, asked: &Asked, row: &mut Row<'_>) {
+/// Puts halfwords into memory, whatever the kind of its region, which have to be mapped.
+fn put(bus: &mut Bus, asked: &Asked, row: &mut Row<'_>) {
     let mut at = asked.numbers[0];
-    for half in asked.numbers.iter().take(asked.count).skip(1) {
+    for half in asked.numbers.get(1..asked.count).unwrap_or(&[]) {
         let [low, high] = row.half_in(*half).to_le_bytes();
         if bus.place(at, low).is_err() || bus.place(at.wrapping_add(1), high).is_err() {
             return row.refuse();
@@ -18,52 +18,34 @@ pub fn put(bus: &mut Bus, asked: &Asked, row: &mut Row<'_>) {
     row.tell("put");
 }
 
-/// `read ADDRESS` with a size.
-pub fn read(bus: &Bus, asked: &Asked, row: &mut Row<'_>) {
-    let found = bus.read(asked.numbers[0], asked.size);
-    tell_number(row, found.ok(), "not mapped")
-}
-
-/// `write ADDRESS NUMBER` with a size.
-pub fn write(bus: &mut Bus, asked: &Asked, row: &mut Row<'_>) {
-    let outcome = bus.write(asked.numbers[0], asked.size, asked.numbers[1]);
-    tell_write(row, &outcome)
-}
-
-/// `mapped ADDRESS`: whether a word is mapped.
-pub fn mapped(bus: &Bus, asked: &Asked, row: &mut Row<'_>) {
-    tell_truth(row, bus.is_word_mapped(asked.numbers[0]))
-}
-
-/// `place ADDRESS BYTE`: whether it is mapped.
-pub fn place(bus: &mut Bus, asked: &Asked, row: &mut Row<'_>) {
-    let byte = row.byte_in(asked.numbers[1]);
-    let placed = bus.place(asked.numbers[0], byte).is_ok();
-    tell_truth(row, placed);
-}
-
-/// `exclusive ADDRESS` with a size sets the monitor.
-pub fn exclusive(bus: &mut Bus, asked: &Asked, row: &mut Row<'_>) {
-    bus.monitor_set(asked.numbers[0], asked.size);
-    row.tell("set")
-}
-
-/// `take ADDRESS` with a size: whether the monitor holds it; then it holds nothing.
-pub fn take(bus: &mut Bus, asked: &Asked, row: &mut Row<'_>) {
-    let is_held = bus.monitor_take(asked.numbers[0], asked.size);
-    tell_truth(row, is_held)
-}
-
-/// `clear` clears the monitor.
-pub fn clear(bus: &mut Bus, row: &mut Row<'_>) {
-    bus.monitor_clear();
-    row.tell("cleared")
-}
-
-/// `held`: the address that the monitor holds.
-pub fn held(bus: &Bus, row: &mut Row<'_>) {
-    match bus.monitor() {
-        Some((addr, _)) => row.tell_hex(addr),
-        None => row.tell("none"),
+/// Takes a step by its place: `write ADDRESS NUMBER` and `read ADDRESS` with a size; `place ADDRESS BYTE`, which tells
+/// whether it is mapped; `mapped ADDRESS`, whether a word is; `put ADDRESS HALF ..`; `exclusive ADDRESS` with a size,
+/// which sets the monitor; `take ADDRESS` with a size, whether the monitor holds it, which then holds nothing; `clear`;
+/// and `held`, the address that the monitor holds.
+pub fn step(bus: &mut Bus, place: usize, asked: &Asked, row: &mut Row<'_>) {
+    let [addr, number, ..] = asked.numbers;
+    match (place, asked.count) {
+        (0, 2) => tell_write(row, &bus.write(addr, asked.size, number)),
+        (1, 1) => tell_number(row, bus.read(addr, asked.size).ok(), "not mapped"),
+        (2, 2) => {
+            let byte = row.byte_in(number);
+            tell_truth(row, bus.place(addr, byte).is_ok())
+        }
+        (3, 1) => tell_truth(row, bus.is_word_mapped(addr)),
+        (4, _) => put(bus, asked, row),
+        (5, 1) => {
+            bus.monitor_set(addr, asked.size);
+            row.tell("set")
+        }
+        (6, 1) => tell_truth(row, bus.monitor_take(addr, asked.size)),
+        (7, 0) => {
+            bus.monitor_clear();
+            row.tell("cleared")
+        }
+        (8, 0) => match bus.monitor() {
+            Some((addr, _)) => row.tell_hex(addr),
+            None => row.tell("none"),
+        },
+        _ => row.refuse(),
     }
 }

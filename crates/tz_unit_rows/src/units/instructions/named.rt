@@ -39,86 +39,47 @@ fn multiply(op: MultiplyOp) -> Insn {
     }
 }
 
-/// A load of many registers: the base and the list.
-fn load_many(row: &mut Row<'_>, asked: &Asked, down: bool, back: bool) -> Insn {
-    Insn::LoadMany {
-        rn: row.byte_in(asked.numbers[0]),
-        list: row.half_in(asked.numbers[1]),
-        down,
-        back,
-    }
-}
-
-/// A store of many registers: the base and the list.
-fn store_many(row: &mut Row<'_>, asked: &Asked, down: bool, back: bool) -> Insn {
-    Insn::StoreMany {
-        rn: row.byte_in(asked.numbers[0]),
-        list: row.half_in(asked.numbers[1]),
-        down,
-        back,
-    }
-}
-
-/// A saturation of R0 to these bits in R2.
-fn saturate(row: &mut Row<'_>, asked: &Asked, signed: bool) -> Insn {
-    Insn::Saturate {
-        signed,
-        rd: 2,
-        rn: 0,
-        bits: row.byte_in(asked.numbers[0]),
-        asr: false,
-        amount: 0,
-    }
-}
-
-/// A move of a register by a shift that sets the flags: the source and the places.
-fn shifted(row: &mut Row<'_>, asked: &Asked, rd: u8, shift: Shift) -> Insn {
-    Insn::DataReg {
-        op: DataOp::Mov,
-        flags: Flags::Always,
-        rd,
-        rn: 15,
-        rm: row.byte_in(asked.numbers[0]),
-        shift,
-        amount: row.byte_in(asked.numbers[1]),
-    }
-}
-
-/// A move of twelve bits that stand for a constant into R2.
-fn constant(row: &mut Row<'_>, asked: &Asked) -> Insn {
-    Insn::DataImm {
-        op: DataOp::Mov,
-        flags: Flags::Always,
-        rd: 2,
-        rn: 15,
-        imm12: row.half_in(asked.numbers[0]),
-    }
-}
-
-/// BFC of R2 at a bit with a width.
-fn clear(row: &mut Row<'_>, asked: &Asked) -> Insn {
-    Insn::BitField {
-        op: FieldOp::Bfc,
-        rd: 2,
-        rn: 0,
-        low: row.byte_in(asked.numbers[0]),
-        width: row.byte_in(asked.numbers[1]),
-    }
-}
-
-/// A branch by a condition to four bytes behind PC.
-fn branch_if(row: &mut Row<'_>, asked: &Asked) -> Insn {
-    Insn::BranchIf {
-        cond: row.byte_in(asked.numbers[0]),
-        offset: 4,
-    }
-}
-
-/// A branch to a register.
-fn branch_exchange(row: &mut Row<'_>, asked: &Asked) -> Insn {
-    Insn::BranchExchange {
-        rm: row.byte_in(asked.numbers[0]),
-        ns: false,
+/// An instruction whose result goes to a register and that no memory is reached by: `ssat BITS` and `usat BITS` of R0;
+/// `rrx REGISTER PLACES` and `movs_sp REGISTER PLACES`, moves by a shift; `constant NUMBER`, a move of twelve bits that
+/// stand for a constant; `bfc BIT WIDTH`. The result goes to R2, and that of `movs_sp` to SP.
+fn result(row: &mut Row<'_>, place: usize, asked: &Asked) -> Insn {
+    let [first, second, ..] = asked.numbers;
+    match (place, asked.count) {
+        (6 | 7, 1) => Insn::Saturate {
+            signed: place == 6,
+            rd: 2,
+            rn: 0,
+            bits: row.byte_in(first),
+            asr: false,
+            amount: 0,
+        },
+        (8 | 9, 2) => Insn::DataReg {
+            op: DataOp::Mov,
+            flags: Flags::Always,
+            rd: if place == 8 { 2 } else { 13 },
+            rn: 15,
+            rm: row.byte_in(first),
+            shift: if place == 8 { Shift::Rrx } else { Shift::Lsl },
+            amount: row.byte_in(second),
+        },
+        (10, 1) => Insn::DataImm {
+            op: DataOp::Mov,
+            flags: Flags::Always,
+            rd: 2,
+            rn: 15,
+            imm12: row.half_in(first),
+        },
+        (11, 2) => Insn::BitField {
+            op: FieldOp::Bfc,
+            rd: 2,
+            rn: 0,
+            low: row.byte_in(first),
+            width: row.byte_in(second),
+        },
+        _ => {
+            row.refuse();
+            multiply(MultiplyOp::Mul)
+        }
     }
 }
 
@@ -140,27 +101,36 @@ static NAMES: [&str; 14] = [
     "branch_exchange",
 ];
 
-/// The instruction of a name and its fields.
+/// The instruction of a name and its fields: a product; a load or a store of many registers, with the base and the list; a
+/// branch by a condition to four bytes behind PC; a branch to a register; or one of the others.
 fn named(row: &mut Row<'_>, name: &str, asked: &Asked) -> Insn {
-    match (place_of(&NAMES, name), asked.count) {
+    let [first, second, ..] = asked.numbers;
+    let place = place_of(&NAMES, name);
+    match (place, asked.count) {
         (0, 0) => multiply(MultiplyOp::Mul),
         (1, 0) => multiply(MultiplyOp::Mla),
         (2, 0) => multiply(MultiplyOp::Mls),
-        (3, 2) => load_many(row, asked, false, false),
-        (4, 2) => store_many(row, asked, false, true),
-        (5, 2) => store_many(row, asked, true, true),
-        (6, 1) => saturate(row, asked, true),
-        (7, 1) => saturate(row, asked, false),
-        (8, 2) => shifted(row, asked, 2, Shift::Rrx),
-        (9, 2) => shifted(row, asked, 13, Shift::Lsl),
-        (10, 1) => constant(row, asked),
-        (11, 2) => clear(row, asked),
-        (12, 1) => branch_if(row, asked),
-        (13, 1) => branch_exchange(row, asked),
-        _ => {
-            row.refuse();
-            multiply(MultiplyOp::Mul)
-        }
+        (3, 2) => Insn::LoadMany {
+            rn: row.byte_in(first),
+            list: row.half_in(second),
+            down: false,
+            back: false,
+        },
+        (4 | 5, 2) => Insn::StoreMany {
+            rn: row.byte_in(first),
+            list: row.half_in(second),
+            down: place == 5,
+            back: true,
+        },
+        (12, 1) => Insn::BranchIf {
+            cond: row.byte_in(first),
+            offset: 4,
+        },
+        (13, 1) => Insn::BranchExchange {
+            rm: row.byte_in(first),
+            ns: false,
+        },
+        _ => result(row, place, asked),
     }
 }
 

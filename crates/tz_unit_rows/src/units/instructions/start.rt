@@ -3,19 +3,7 @@
 use crate::systems::set_named;
 use crate::words::side_in;
 use tz_regs::{Apsr, Core};
-use tz_rows::Row;
-
-/// The number of a register by its name.
-fn register_of(name: &str) -> Option<u8> {
-    match name {
-        "sp" => Some(13),
-        "lr" => Some(14),
-        _ => {
-            let number = name.strip_prefix('r')?.parse::<u8>().ok()?;
-            if number < 13 { Some(number) } else { None }
-        }
-    }
-}
+use tz_rows::{Row, place_of};
 
 /// Whether a digit is 1, and not 0.
 fn is_one(row: &mut Row<'_>, digit: u8) -> bool {
@@ -40,42 +28,36 @@ fn flags_of(row: &mut Row<'_>, digits: &str) -> Apsr {
     }
 }
 
-/// Sets a register, or a register of the side that runs.
-fn put(row: &mut Row<'_>, core: &mut Core, name: &str, value: u32) {
-    match register_of(name) {
-        Some(number) => core.put(number, value),
-        None => set_named(row, core, core.side(), name, value),
-    }
-}
+/// R0 to R14 by their numbers, and what else is set by a name of its own.
+static NAMES: [&str; 20] = [
+    "r0", "r1", "r2", "r3", "r4", "r5", "r6", "r7", "r8", "r9", "r10", "r11", "r12", "sp", "lr",
+    "it", "pc", "spsel", "ccr_s", "ccr_ns",
+];
 
-/// Sets what a name says to a number.
+/// Sets what a name says to a number, by its place in `NAMES`, or else a register of the side that runs.
 fn set_number(row: &mut Row<'_>, core: &mut Core, name: &str, value: u32) {
-    match name {
-        "it" => core.registers.it = row.byte_in(value),
-        "pc" => core.registers.pc = value,
-        "spsel" => core.set_control(core.side(), value.wrapping_mul(2)),
-        "ccr_s" => core.status.s.ccr = value,
-        "ccr_ns" => core.status.ns.ccr = value,
-        _ => put(row, core, name, value),
+    match place_of(&NAMES, name) {
+        15 => core.registers.it = row.byte_in(value),
+        16 => core.registers.pc = value,
+        17 => core.set_control(core.side(), value.wrapping_mul(2)),
+        18 => core.status.s.ccr = value,
+        19 => core.status.ns.ccr = value,
+        place if place < 15 => core.put(place as u8, value),
+        _ => set_named(row, core, core.side(), name, value),
     }
 }
 
-/// Sets what a word `NAME=VALUE` names. Stacks and SPSEL are those of the side that runs.
-fn set(row: &mut Row<'_>, core: &mut Core, name: &str, value: &str) {
-    if name == "flags" {
-        core.registers.apsr = flags_of(row, value);
-    } else {
-        let value = row.number_in(value);
-        set_number(row, core, name, value);
-    }
-}
-
-/// The core that a row says: the side that runs, and words `NAME=VALUE`. All else is zero.
+/// The core that a row says: the side that runs, and words `NAME=VALUE`. Stacks and SPSEL are those of the side that runs.
+/// All else is zero.
 pub fn core_of(row: &mut Row<'_>) -> Core {
     let mut core = Core::reset(0, 0, 0, 1, false);
     for word in row.field(2).split_whitespace() {
         match word.split_once('=') {
-            Some((name, value)) => set(row, &mut core, name, value),
+            Some(("flags", digits)) => core.registers.apsr = flags_of(row, digits),
+            Some((name, value)) => {
+                let value = row.number_in(value);
+                set_number(row, &mut core, name, value);
+            }
             None => core.run.side = side_in(row, word),
         }
     }
