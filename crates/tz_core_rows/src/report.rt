@@ -33,14 +33,16 @@ fn tell_kind(row: &mut Row<'_>, kind: StepKind) {
 
 /// Tells how a step crossed out of Secure state.
 fn tell_crossing(row: &mut Row<'_>, way: Way) {
+    row.tell(", ");
     row.tell(match way.kind {
-        CrossKind::Return => ", return ",
-        CrossKind::Call => ", call ",
-        CrossKind::ExcReturn => ", excreturn ",
-        CrossKind::Chain => ", chain ",
-        CrossKind::Preempt => ", preempt ",
-        CrossKind::Refused => ", refused ",
+        CrossKind::Return => "return",
+        CrossKind::Call => "call",
+        CrossKind::ExcReturn => "excreturn",
+        CrossKind::Chain => "chain",
+        CrossKind::Preempt => "preempt",
+        CrossKind::Refused => "refused",
     });
+    row.tell(" ");
     row.tell_decimal(i64::from(way.number));
     if let Some(lr) = way.lr {
         row.tell(" ");

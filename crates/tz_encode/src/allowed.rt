@@ -1,7 +1,8 @@
 //! What limits allow.
 //!
 //! Each limit is a test of the value, without its sign, and of the values at the places that the limit
-//! names.
+//! names. Its comparisons are joined by `&` and `|`, as in `words`; `&&` and `||` stand where what is behind
+//! them must not be worked out, or isn't cheap.
 
 ghost use Rattle.std.specs.Prelude.{◌≡◌, ◌+◌, ◌&&◌, ◌||◌, ◌==◌, not, nat_le, count_ones, if◌then◌else◌};
 ghost use Rattle.tz_encode.specs.Limits.{allows as allows_of, limit_holds as limit_holds_of, is_bare as is_bare_of, number_at as number_at_of};

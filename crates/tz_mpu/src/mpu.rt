@@ -216,7 +216,7 @@ impl Mpu {
     }
 
     /// Replaces the registers of the region that RNR and an alias select, if there is one.
-    fn select(&mut self, alias: u8, bounds: Bounds)
+    fn replace_selected(&mut self, alias: u8, bounds: Bounds)
         ensures { self.new ≡ with_registers self.old (record self.old.mpu { regions = slice_set self.old.mpu.regions (selected self.old.mpu alias) bounds }) }
     {
         let index = self.selected(alias);
@@ -235,7 +235,7 @@ impl Mpu {
             MpuRegister::Rnr => self.rnr = value % 256,
             MpuRegister::Rbar(alias) => {
                 let bounds = self.selected_bounds(alias);
-                self.select(
+                self.replace_selected(
                     alias,
                     Bounds {
                         rbar: value,
@@ -246,7 +246,7 @@ impl Mpu {
             MpuRegister::Rlar(alias) => {
                 let bounds = self.selected_bounds(alias);
                 let rlar = rlar_bits(self.profile, value);
-                self.select(alias, Bounds { rlar, ..bounds });
+                self.replace_selected(alias, Bounds { rlar, ..bounds });
             }
             MpuRegister::Mair0 => self.mair0 = value,
             MpuRegister::Mair1 => self.mair1 = value,

@@ -1,4 +1,4 @@
--- What a look finds doesn't depend on the timers.
+-- What a look finds doesn't depend on the timers; and a timer that doesn't count changes nothing.
 use Rattle.std.proofs.Common.{◌≡◌, ℕ, zero, suc, false, Option, Some, None, refl, ap, sym, ◌∙◌, arith}
 use Rattle.std.proofs.lemmas.Grind.{common_steps}
 use Rattle.tz_table.specs.declared.units.Side.{Side}

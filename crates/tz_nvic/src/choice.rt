@@ -43,7 +43,9 @@ impl Exceptions {
         }
     }
 
-    /// The place of the slot that comes first, by a look at each.
+    /// The place of the slot that comes first, by a look at each. Most steps know it from an earlier look: so it
+    /// stays a call, and what each step does is small.
+    #[inline(never)]
     #[tactic(auto, unfolding(tz_regs::specs::Least::least_below))]
     pub(crate) fn chosen_place<L: Ledger>(&self, steps: &mut Steps<L>) -> Option<usize>
         ensures is { result ≡ chosen_place self.now }

@@ -12,7 +12,7 @@ pub const PLACES: usize = 272;
 pub(crate) fn is_banked(number: u16) -> bool
     ensures { result ≡ is_banked number }
 {
-    matches!(number, 3 | 4 | 6 | 11 | 14 | 15)
+    number == 3 || number == 4 || number == 6 || number == 11 || number == 14 || number == 15
 }
 
 /// Whether a number is one of the system's.
@@ -26,7 +26,7 @@ pub(crate) fn is_system(number: u16) -> bool
 pub(crate) fn is_always_enabled(number: u16) -> bool
     ensures { result ≡ is_always_enabled number }
 {
-    matches!(number, 2 | 3 | 11 | 14 | 15)
+    number == 2 || number == 3 || number == 11 || number == 14 || number == 15
 }
 
 /// 1 for the Non-secure slot of a banked number, else 0.

@@ -66,7 +66,7 @@ impl Sau {
     }
 
     /// Replaces the region that RNR names, where there is one.
-    fn select(&mut self, bounds: Bounds)
+    fn replace_selected(&mut self, bounds: Bounds)
         ensures { self.new ≡ record self.old { sau = record self.old.sau { regions = slice_set self.old.sau.regions self.old.sau.rnr bounds } } }
     {
         let index = self.rnr as usize;
@@ -86,14 +86,14 @@ impl Sau {
             SauRegister::Rnr => self.rnr = value % 256,
             SauRegister::Rbar => {
                 let bounds = self.selected();
-                self.select(Bounds {
+                self.replace_selected(Bounds {
                     rbar: value / 32 * 32,
                     rlar: bounds.rlar,
                 });
             }
             SauRegister::Rlar => {
                 let bounds = self.selected();
-                self.select(Bounds {
+                self.replace_selected(Bounds {
                     rbar: bounds.rbar,
                     rlar: value / 32 * 32 + value % 4,
                 });

@@ -2,7 +2,7 @@
 //!
 //! Each call appends to a line and says how much room it needs.
 
-ghost use Rattle.std.specs.Prelude.{ℕ, ◌≡◌, ◌≤◌, ◌<◌, ◌+◌, ◌*◌, ◌%◌, ◌^◌, ◌++◌, length};
+ghost use Rattle.std.specs.Prelude.{ℕ, ◌≡◌, ◌≤◌, ◌<◌, ◌+◌, ◌*◌, ◌%◌, ◌^◌, ◌++◌};
 ghost use Rattle.arrayvec.specs.ArrayString.{array_string_len};
 ghost use Rattle.tz_syntax.specs.Rows.{somes};
 ghost use Rattle.tz_syntax.specs.Pieces.{value_at as value_at_of, number_at as number_at_of, target as target_of, program_counter as program_counter_of, constant_text, expanded_text, address_text, listed_text, list_text, shift_text, letter_text, letters_text, masks_text, mark_text, mark_most, piece_text, piece_most, pieces_text, pieces_most};
@@ -165,19 +165,20 @@ fn push_masks<const N: usize>(line: &mut ArrayString<N>, i: u32, f: u32)
     }
 }
 
-/// The text of a mark.
-fn mark_text(mark: Mark) -> &'static str
-    ensures text { result.now ≡ mark_text mark }
-    ensures len { length result.now ≡ mark_most mark }
+/// A mark. Each text is pushed where its length is known: so the compiler makes no call of it.
+fn push_mark<const N: usize>(line: &mut ArrayString<N>, mark: Mark)
+    requires { array_string_len line.old + mark_most mark ≤ N }
+    ensures bytes { line.new.bytes ≡ line.old.bytes ++ mark_text mark }
+    ensures len { array_string_len line.new ≤ array_string_len line.old + mark_most mark }
 {
     match mark {
-        Mark::Gap => " ",
-        Mark::Comma => ", ",
-        Mark::Open => "[",
-        Mark::Close => "]",
-        Mark::Back => "!",
-        Mark::Pc => "pc",
-        Mark::Doubled => ", lsl #1",
+        Mark::Gap => line.push_str(" "),
+        Mark::Comma => line.push_str(", "),
+        Mark::Open => line.push_str("["),
+        Mark::Close => line.push_str("]"),
+        Mark::Back => line.push_str("!"),
+        Mark::Pc => line.push_str("pc"),
+        Mark::Doubled => line.push_str(", lsl #1"),
     }
 }
 
@@ -188,7 +189,7 @@ fn push_piece<const N: usize>(line: &mut ArrayString<N>, piece: Piece, values: &
     ensures len { array_string_len line.new ≤ array_string_len line.old + piece_most piece }
 {
     match piece {
-        Piece::Mark(mark) => line.push_str(mark_text(mark)),
+        Piece::Mark(mark) => push_mark(line, mark),
         Piece::Register(a) => line.push_str(register_name(number_at(values, a))),
         Piece::Number(a) => push_constant(line, value_at(values, a)),
         Piece::Expanded(a) => push_expanded(line, number_at(values, a)),
