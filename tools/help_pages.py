@@ -1,8 +1,8 @@
 """Reads the pages of help in share/help.
 
 A page is share/help/NAME.txt. Its first line is `NAME - SUMMARY`. Behind it stand sections: a line of capitals at the
-margin begins one, and its text is indented by two spaces. A line of SYNOPSIS is a form of the command, which more lines,
-indented further, may go on with. The text of other sections is in blocks:
+margin begins one, and its text is indented by two spaces. A line of SYNOPSIS is a form of the command, and lines that
+are indented further go on with it. The text of other sections is in blocks:
 
   code   what follows an empty line and is indented by four spaces or more; `$ ` begins a command, `\` at the end of a
          line goes on with it, and the lines behind it are what it prints
@@ -50,6 +50,9 @@ def page_of(path):
             raise Malformed(f"{path.name}: neither a heading nor indented: {line}")
         else:
             lines.append(line)
+    needed = "COMMANDS" if name == FIRST else "SYNOPSIS"
+    if needed not in sections:
+        raise Malformed(f"{path.name}: there is no section {needed}")
     return Page(name, summary, sections)
 
 
@@ -123,6 +126,6 @@ def examples(page):
                 found.append(Example(line[2:], []))
             elif found and found[-1].command.endswith("\\"):
                 found[-1] = Example(f"{found[-1].command}\n{line}", [])
-            else:
+            elif found:
                 found[-1].lines.append(line)
     return found
