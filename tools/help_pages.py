@@ -20,6 +20,8 @@ TOP = pathlib.Path(__file__).resolve().parent.parent
 FOLDER = TOP / "share" / "help"
 FIRST = "tzrun"
 
+LONGEST_LINE = 80
+
 HEADING = re.compile(r"[A-Z][A-Z ]*")
 ITEM = re.compile(r"  (\S+(?: \S+)*)  +(\S.*)")
 
@@ -62,7 +64,7 @@ def first_page():
 
 def listed(page):
     """The commands that the first page lists, in its order."""
-    return [term for block in blocks(page.sections["COMMANDS"]) if block.kind == "items" for term, _ in block.content]
+    return list(items_of(page, "COMMANDS"))
 
 
 def command_pages():
@@ -104,6 +106,12 @@ def blocks(lines):
             yield Block("items", pairs)
         else:
             yield Block("text", [line.strip() for line in part])
+
+
+def items_of(page, heading):
+    """The texts of all items of a section by their terms; none where there is no such section."""
+    found = [block.content for block in blocks(page.sections.get(heading, [])) if block.kind == "items"]
+    return dict(pair for pairs in found for pair in pairs)
 
 
 def forms(page):
