@@ -1,0 +1,92 @@
+// The part of the page that shows one step: of each trace, what it did, and the registers behind it.
+'use strict';
+
+class Details {
+    constructor(container, page) {
+        this.container = container;
+        this.page = page;
+    }
+
+    draw() {
+        const { page } = this;
+        const parts = page.axis.tracks.map((track) => this.section(track, track.rows[page.cell]));
+        this.container.replaceChildren(...parts);
+        this.container.classList.toggle('two', parts.length > 1);
+    }
+
+    section(track, row) {
+        const { trace } = track;
+        const name = this.page.axis.tracks.length > 1 ? element('p', { class: 'name' }, trace.name) : null;
+        if (row === undefined || row === NO_ROW) {
+            return element('section', {}, name, element('p', {}, 'This trace has no line here.'));
+        }
+        const facts = describe(trace, row, this.page.symbols);
+        return element('section', { 'data-step': facts.step }, name, heading(facts), element('p', { class: 'sentence' }, facts.sentence),
+            placeOf(facts), changesTable(facts), storesTable(facts), this.entryParts(trace, facts), furtherLines(facts),
+            this.registersTable(facts));
+    }
+
+    stepLink(step, text) {
+        return element('button', { type: 'button', class: 'link', onclick: () => this.page.goToStep(step) }, text || String(step));
+    }
+
+    registersTable(facts) {
+        const rows = facts.registers.map((register) => [
+            register.name,
+            element('code', {}, register.value || '—'),
+            register.isChanged ? 'changed' : register.flags || register.note,
+            register.since < 0 ? '' : this.stepLink(register.since),
+        ]);
+        return table('Registers after this step, as far as the trace tells', ['Register', 'Value', '', 'Since step'], rows,
+            (at) => (facts.registers[at].isChanged ? 'changed' : ''));
+    }
+
+    entryParts(trace, facts) {
+        if (!facts.entry) return null;
+        const { entry } = facts;
+        const end = entry.end < 0 ? 'is still active where the trace ends'
+            : ['ends at step ', this.stepLink(trace.steps[entry.end])];
+        const bits = table(`LR in the handler: ${hex(entry.link)} (EXC_RETURN)`, ['Bit', 'Value', 'Meaning'],
+            entry.bits.map(({ name, value, meaning }) => [name, value, meaning]));
+        return element('div', {}, element('p', {}, `Exception ${entry.number} `, ...[end].flat(), '.'), bits, frameTable(entry));
+    }
+}
+
+function heading(facts) {
+    const fold = facts.last > facts.step ? ` to ${facts.last}: ${plural(facts.last - facts.step + 1, 'equal line')}` : '';
+    return element('h2', {}, `Step ${facts.step}${fold}`);
+}
+
+function placeOf(facts) {
+    const pairs = [['Side', facts.side], ['Mode', facts.mode]];
+    if (facts.where) {
+        const { address, code, text, name } = facts.where;
+        pairs.push(['Instruction', element('code', {}, text)], ['Address', element('code', {}, address)],
+            ['Code', element('code', {}, code)], ['Function', name]);
+    }
+    const shown = pairs.filter(([, value]) => value);
+    return element('dl', {}, ...shown.flatMap(([name, value]) => [element('dt', {}, name), element('dd', {}, value)]));
+}
+
+function changesTable(facts) {
+    if (!facts.changes.length) return null;
+    return table('Changed registers', ['Register', 'Before', 'After'], facts.changes.map(({ name, before, after, note }) => [
+        name + note, element('code', {}, before || '—'), element('code', {}, after)]));
+}
+
+function storesTable(facts) {
+    if (!facts.stores.length) return null;
+    return table('Stores', ['Address', 'Bytes', 'Value'], facts.stores.map(({ address, size, value }) => [
+        element('code', {}, address), String(size), element('code', {}, value)]));
+}
+
+function frameTable(entry) {
+    if (!entry.frame) return element('p', {}, 'No frame is written but, where the rules ask for it, that of R4 to R11: the words of the first entry stay.');
+    const rows = entry.frame.map(({ address, value, what }) => [
+        element('code', {}, address || '—'), element('code', {}, value || '—'), what]);
+    return table('The frame, worked out from what the trace tells: it lists no words of frames', ['Address', 'Word', 'What'], rows);
+}
+
+function furtherLines(facts) {
+    return facts.further ? element('pre', { class: 'further' }, facts.further) : null;
+}
