@@ -5,10 +5,12 @@
 
 const ROW_HEIGHT = 20;
 const TITLE_HEIGHT = 18;
+const RULER_HEIGHT = 16;
+const TICK_ROOM = 80;
 const CROSSING_HEIGHT = 26;
 const CLOSEST = 160;
 const DETAILED_CELLS = 6000;
-const COLOURS = ['ink', 'paper', 'secure', 'nonsecure', 'secure-ink', 'nonsecure-ink', 'on-bar', 'mark', 'differ'];
+const COLOURS = ['ink', 'quiet', 'line', 'paper', 'secure', 'nonsecure', 'secure-ink', 'nonsecure-ink', 'on-bar', 'mark', 'differ'];
 const TEXT_FONT = '12px system-ui, sans-serif';
 
 class Chart {
@@ -38,7 +40,7 @@ class Chart {
     // Takes size and colours anew, and where each row stands.
     layOut() {
         this.width = this.canvas.clientWidth;
-        let top = 4;
+        let top = RULER_HEIGHT;
         this.panels = this.axis.tracks.map((track) => {
             const panel = panelOf(track, top);
             top = panel.end + 6;
@@ -110,7 +112,8 @@ class Chart {
         context.beginPath();
         context.rect(this.gutter, 0, this.span, this.height);
         context.clip();
-        this.drawMarks(from, to);
+        this.drawMarks();
+        this.drawRuler();
         for (const panel of this.panels) {
             if (to - from <= DETAILED_CELLS) drawNear(this, panel, from, to);
             else drawFar(this, panel);
@@ -130,6 +133,23 @@ class Chart {
         this.context.font = TEXT_FONT;
         this.context.textBaseline = 'alphabetic';
         this.context.fillText('≠ first difference', x + 6, this.panels[0].top + 11);
+    }
+
+    // The numbers of steps, above all. Cells of folded steps stand for more than one, so these needn't be round.
+    drawRuler() {
+        const { context } = this;
+        context.font = TEXT_FONT;
+        context.textAlign = 'left';
+        context.textBaseline = 'middle';
+        const cells = Math.max(1, roundStep(TICK_ROOM / this.scale));
+        const last = Math.min(this.axis.count - 1, this.left + this.span / this.scale);
+        for (let cell = Math.ceil(this.left / cells) * cells; cell <= last; cell += cells) {
+            const x = this.xOf(cell);
+            context.fillStyle = this.colours.line;
+            context.fillRect(x, 0, 1, this.height);
+            context.fillStyle = this.colours.quiet;
+            context.fillText(this.axis.starts[cell].toLocaleString('en'), x + 4, RULER_HEIGHT / 2);
+        }
     }
 
     drawSelection() {
@@ -157,6 +177,12 @@ class Chart {
             context.fillText(name, row.level ? 18 : 4, row.y + ROW_HEIGHT / 2);
         }
     }
+}
+
+// The least of 1, 2, 5, 10, 20 and so on that isn't below a number.
+function roundStep(least) {
+    const power = 10 ** Math.floor(Math.log10(Math.max(1, least)));
+    return [1, 2, 5, 10].map((factor) => factor * power).find((step) => step >= least);
 }
 
 // Where the rows of one trace stand: levels of the Secure side upwards from the line between the sides, levels of the

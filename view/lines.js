@@ -69,22 +69,35 @@ class Lines {
         const step = element('span', { class: 'step' }, String(axis.starts[cell]),
             axis.isFolded && count > 1 ? element('small', {}, ` ×${count.toLocaleString('en')}`) : null);
         const mark = axis.tracks.length > 1 ? element('span', { class: 'mark', title: isDifferent ? 'differs' : '' }, isDifferent ? '≠' : '') : null;
-        const texts = axis.tracks.map((track) => this.text(track.trace, track.rows[cell]));
+        const texts = axis.tracks.map((track) => this.text(track, cell));
         return element('div', {
             role: 'option', id: `line-${cell}`, 'data-cell': cell, 'aria-selected': String(cell === page.cell),
             'aria-posinset': cell + 1, 'aria-setsize': axis.count, class: isDifferent ? 'line differs' : 'line',
         }, step, mark, element('span', { class: 'texts' }, ...texts));
     }
 
-    text(trace, row) {
+    text(track, cell) {
+        const { trace } = track;
+        const row = track.rows[cell];
         if (row === undefined || row === NO_ROW) return element('span', { class: 'text' }, 'no line');
         const side = trace.sideOf(row) === SECURE ? 'secure' : 'nonsecure';
         const badge = element('span', { class: `badge ${side}` }, side === 'secure' ? 'S' : 'N');
-        return element('span', { class: 'text' }, badge, ...lineParts(trace, row, this.page.symbols));
+        const name = this.nameOf(track, cell);
+        const isNew = cell === this.top || name !== this.nameOf(track, cell - 1);
+        return element('span', { class: 'text' }, badge, ...lineParts(trace, row),
+            isNew && name ? element('span', { class: 'symbol' }, name) : null);
+    }
+
+    // The function of a cell's instruction; it is told where it begins.
+    nameOf(track, cell) {
+        const row = track.rows[cell];
+        if (row === undefined || row === NO_ROW || track.trace.kinds[row] !== KIND.RAN) return '';
+        const { symbols } = this.page;
+        return symbols.name(symbols.at(track.trace.pcs[row]));
     }
 }
 
-function lineParts(trace, row, symbols) {
+function lineParts(trace, row) {
     if (trace.kinds[row] === KIND.TAKEN) {
         const taken = trace.takenAt(trace.takenAtRow(row));
         return [element('b', {}, `exception ${taken.number}, ${exceptionName(taken.number)}`), ` LR ${hex(taken.link)}`];
@@ -93,10 +106,8 @@ function lineParts(trace, row, symbols) {
     const { text, listed, stores } = trace.instruction(row);
     const changes = listed.map(({ register, value }) => `${register === SP ? 'sp' : REGISTER_NAMES[register]}=${hex(value)}`);
     const written = stores.map(({ address, size, value }) => `[${hex(address)}].${size}=${hex(value)}`);
-    const name = symbols.nameOf(trace.pcs[row]);
     const effects = [...changes, ...written].join(' ');
-    return [`${hex(trace.pcs[row])} ${text} `, effects ? element('span', { class: 'effects' }, `${effects} `) : '',
-        name ? element('span', { class: 'symbol' }, name) : ''];
+    return [`${hex(trace.pcs[row])} ${text} `, effects ? element('span', { class: 'effects' }, `${effects} `) : ''];
 }
 
 // Tells `move` the vertical pixels of a drag by touch or pen; a mouse has its wheel.

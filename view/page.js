@@ -27,7 +27,6 @@ class Page {
     // Takes files, which replace what is open; names of functions are added, and a trace that comes beside another is
     // the second one.
     async take(files, isBeside) {
-        this.isReady = false;
         const kinds = files.map((file) => ({ ...file, kind: kindOfFile(file.bytes) }));
         const sweep = kinds.find((file) => file.kind === 'sweep');
         if (sweep) return this.showSweep(sweep);
@@ -35,9 +34,7 @@ class Page {
             this.say('An ELF file is read by tzrun picture --symbols; here give what nm -S writes of it.');
         }
         for (const file of kinds) if (file.kind === 'symbols') this.symbols.add(textOf(file.bytes, 0, file.bytes.length));
-        await this.takeTraces(kinds.filter((file) => file.kind === 'trace'), isBeside);
-        this.isReady = true;
-        return undefined;
+        return this.takeTraces(kinds.filter((file) => file.kind === 'trace'), isBeside);
     }
 
     async takeTraces(files, isBeside) {
@@ -227,7 +224,6 @@ class Page {
         this.traces = [];
         this.map = new SweepMap(byId('sweep'), readSweep(textOf(file.bytes, 0, file.bytes.length)));
         this.say(this.map.summary);
-        this.isReady = true;
     }
 
     // Does what a key or a button asks for. Says whether there is such a thing now.
@@ -310,6 +306,8 @@ async function start() {
     window.addEventListener('hashchange', () => page.traces.length && page.select(page.firstCell()));
     const files = await embeddedFiles();
     if (files.length) await page.take(files, false);
+    await new Promise((resolve) => { requestAnimationFrame(() => setTimeout(resolve)); });
+    performance.mark('ready');
     page.isReady = true;
 }
 

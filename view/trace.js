@@ -67,7 +67,7 @@ class Trace {
         this.takenTails[taken] = true;
         this.takenOuter[taken] = this.takenOuter[before];
         this.takenEnds[before] = this.takenRows[taken];
-        for (let row = this.takenRows[taken]; row < endRow; row++) {
+        for (let row = this.takenRows[taken] + 1; row < endRow; row++) {
             const side = this.bands[row] >= LEVELS ? NONSECURE : SECURE;
             this.bands[row] = bandOf(side, Math.max(0, this.bands[row] % LEVELS - 1));
         }

@@ -1,0 +1,72 @@
+"""Traces and sweeps that no run has written, for trying the page that shows them."""
+
+# Lines with further lines below them, which belong to the line above.
+FURTHER = """\
+0 s N 10000040 4800 ldr r0, [pc, #0] r0=00200040
+1 s X 18 fffffff9
+  interrupt 2, Secure, priority 32
+  word 0 of the frame: 00000001
+2 s N 10000100 e7fe b 0x10000100
+3 s N 10000100 e7fe b 0x10000100
+4 s N 10000100 e7fe b 0x10000100
+  interrupt 3 is due
+5 s N 10000100 e7fe b 0x10000100
+"""
+
+# Interrupt 2 is interrupted by interrupt 3, whose return ends in the entry of interrupt 4. That this is a tail-chain only
+# the return of interrupt 4 tells, to where interrupt 2 was left.
+CHAINED = """\
+0 s N 10000040 2001 movs r0, #1 r0=00000001
+1 s X 18 fffffff9
+2 s N 10000100 2002 movs r0, #2 r0=00000002
+3 s X 19 fffffff1
+4 s N 10000200 2003 movs r0, #3 r0=00000003
+5 s X 20 fffffff1
+6 s N 10000300 2004 movs r0, #4 r0=00000004
+7 s N 10000302 4770 bx lr r0=00000002 lr=fffffff9
+8 s N 10000102 4770 bx lr r0=00000001 lr=00000000
+9 s N 10000042 e7fe b 0x10000042
+"""
+
+LOOP = 40
+
+
+def body(turn):
+    """One turn of Non-secure code that calls a Secure function, and in each eighth turn is interrupted."""
+    yield f"n N 00200040 2005 movs r0, #5 r0={turn:08x}"
+    for at in range(LOOP):
+        yield f"n N {0x200042 + 4 * at:08x} eb000001 add.w r0, r0, r1 r0={turn * LOOP + at:08x}"
+    yield "n N 002000f0 4798 blx r3 lr=002000f3"
+    if turn % 8 == 0:
+        yield "n X 21 ffffffb8"
+        yield "n N 00200184 b510 push {r4, lr} sp=28200fd0 [28200fd0].4=00000000 [28200fd4].4=ffffffb8"
+        yield f"n N 0020018c 60a3 str r3, [r4, #8] [28200090].4={turn:08x}"
+        yield "n N 00200194 bd10 pop {r4, pc} sp=28200ff8"
+    yield "n N 10008000 e97fe97f sg sp=30001000 lr=002000f2"
+    for at in range(LOOP):
+        yield f"s N {0x10008004 + 2 * at:08x} 1840 adds r0, r0, r1 r0={turn * 3 + at:08x}"
+    yield "s N 10008100 4774 bxns lr sp=28200ff8"
+
+
+def write_long(file, lines):
+    """A trace of view `all` of so many lines."""
+    step = turn = 0
+    while step < lines:
+        for text in body(turn):
+            if step == lines:
+                return
+            file.write(f"{step} {text}\n")
+            step += 1
+        turn += 1
+
+
+def sweep():
+    """A sweep of 4,000 arrival steps, of which 17 differ."""
+    differing = {step: (step + 27, "r12") for step in range(1204, 1207)}
+    differing |= {step: (3000, "alone return") for step in range(2040, 2048)}
+    differing |= {step: (step + 9, "bytes") for step in (3100, 3102, 3104, 3106, 3108, 3110)}
+    rows = ["step,status,k,what"]
+    for step in range(4000):
+        k, what = differing.get(step, ("", ""))
+        rows.append(f"{step},{1 if what else 0},{k},{what}")
+    return "\n".join(rows) + "\n"
