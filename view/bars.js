@@ -45,9 +45,10 @@ function drawBar(chart, panel, cell, end) {
     const isSecure = trace.sideOf(row) === SECURE;
     context.fillStyle = isSecure ? colours.secure : colours.nonsecure;
     const isQuiet = trace.kinds[row] !== KIND.RAN && trace.kinds[row] !== KIND.TAKEN;
-    context.globalAlpha = isQuiet ? 0.35 : trace.kinds[row] === KIND.TAKEN ? 1 : 0.82;
+    context.globalAlpha = isQuiet ? 0.35 : 1;
     context.fillRect(x, y + 1, Math.max(1, width - (width > 4 ? 1 : 0)), ROW_HEIGHT - 2);
     context.globalAlpha = 1;
+    if (trace.kinds[row] === KIND.TAKEN) drawEntry(chart, x, y, width);
     if (isQuiet && width > 6) hatch(chart, x, y + 1, width, ROW_HEIGHT - 2);
     if (width >= 26) drawLabel(chart, labelOf(chart, trace, row, end - cell), x, y, width, isQuiet);
     drawCellEdges(chart, cell, end, y);
@@ -60,6 +61,12 @@ function drawCellEdges(chart, cell, end, y) {
     chart.context.globalAlpha = 0.5;
     for (let at = cell + 1; at < end; at++) chart.context.fillRect(chart.xOf(at) - 1, y + ROW_HEIGHT - 5, 1, 4);
     chart.context.globalAlpha = 1;
+}
+
+// The step of an entry: no instruction runs in it.
+function drawEntry(chart, x, y, width) {
+    chart.context.fillStyle = chart.colours.ink;
+    chart.context.fillRect(x, y + 1, Math.min(3, Math.max(1, width / 2)), ROW_HEIGHT - 2);
 }
 
 function hatch(chart, x, y, width, height) {

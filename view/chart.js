@@ -60,7 +60,7 @@ class Chart {
 
     clamp() {
         const least = this.span / Math.max(1, this.axis.count);
-        this.scale = Math.min(CLOSEST, Math.max(least, this.scale));
+        this.scale = Math.max(least, Math.min(CLOSEST, this.scale));
         this.left = Math.max(0, Math.min(this.left, this.axis.count - this.span / this.scale));
     }
 

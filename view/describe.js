@@ -52,7 +52,7 @@ function flagsOf(value) {
     return 'NZCVQ'.split('').map((letter, at) => (value >>> 31 - at & 1 ? letter : letter.toLowerCase())).join(' ');
 }
 
-const SURE_NOTES = ['not known', 'as before, if the entry kept it', 'by the rules of an entry or a crossing', ''];
+const SURE_NOTES = ['', 'as before, if the entry kept it', 'by the rules of an entry or a crossing', ''];
 
 // All registers after a row: name, value, whether it changed, and since which step it is so.
 function registersOf(trace, row) {

@@ -9,18 +9,17 @@ class Details {
 
     draw() {
         const { page } = this;
-        const parts = page.axis.tracks.map((track) => this.section(track, track.rows[page.cell]));
+        const facts = page.axis.tracks.map((track) => factsOf(track, track.rows[page.cell], page.symbols));
+        if (page.comparison.isMade) markDifferent(facts);
+        const parts = page.axis.tracks.map((track, at) => this.section(track, facts[at]));
         this.container.replaceChildren(...parts);
         this.container.classList.toggle('two', parts.length > 1);
     }
 
-    section(track, row) {
+    section(track, facts) {
         const { trace } = track;
         const name = this.page.axis.tracks.length > 1 ? element('p', { class: 'name' }, trace.name) : null;
-        if (row === undefined || row === NO_ROW) {
-            return element('section', {}, name, element('p', {}, 'This trace has no line here.'));
-        }
-        const facts = describe(trace, row, this.page.symbols);
+        if (!facts) return element('section', {}, name, element('p', {}, 'This trace has no line here.'));
         return element('section', { 'data-step': facts.step }, name, heading(facts), element('p', { class: 'sentence' }, facts.sentence),
             placeOf(facts), changesTable(facts), storesTable(facts), this.entryParts(trace, facts), furtherLines(facts),
             this.registersTable(facts));
@@ -33,12 +32,12 @@ class Details {
     registersTable(facts) {
         const rows = facts.registers.map((register) => [
             register.name,
-            element('code', {}, register.value || '—'),
+            register.value ? element('code', {}, register.value) : element('span', { class: 'unknown' }, 'not known'),
             register.isChanged ? 'changed' : register.flags || register.note,
             register.since < 0 ? '' : this.stepLink(register.since),
         ]);
         return table('Registers after this step, as far as the trace tells', ['Register', 'Value', '', 'Since step'], rows,
-            (at) => (facts.registers[at].isChanged ? 'changed' : ''));
+            (at) => [facts.registers[at].isChanged ? 'changed' : '', facts.registers[at].isDifferent ? 'differs' : ''].join(' '));
     }
 
     entryParts(trace, facts) {
@@ -50,6 +49,21 @@ class Details {
             entry.bits.map(({ name, value, meaning }) => [name, value, meaning]));
         return element('div', {}, element('p', {}, `Exception ${entry.number} `, ...[end].flat(), '.'), bits, frameTable(entry));
     }
+}
+
+function factsOf(track, row, symbols) {
+    return row === undefined || row === NO_ROW ? null : describe(track.trace, row, symbols);
+}
+
+// Marks the registers whose values are known in both traces and aren't the same.
+function markDifferent(facts) {
+    const [one, other] = facts;
+    if (!one || !other) return;
+    one.registers.forEach((register, at) => {
+        const beside = other.registers[at];
+        register.isDifferent = Boolean(register.value && beside.value && register.value !== beside.value);
+        beside.isDifferent = register.isDifferent;
+    });
 }
 
 function heading(facts) {

@@ -80,6 +80,7 @@ function listenToFiles(page) {
 function listenToKeys(page) {
     document.addEventListener('keydown', (event) => {
         if (event.ctrlKey || event.metaKey || event.altKey || event.target.closest('input, dialog')) return;
+        if (event.target.closest('#details') && SCROLLING_KEYS.has(event.key)) return;
         const action = ACTION_OF_KEY.get(event.key) || (event.target.closest('#lines') && LIST_KEYS.get(event.key));
         if (!action || !page.do(action)) return;
         event.preventDefault();
@@ -100,6 +101,7 @@ function listenToKeys(page) {
     });
 }
 
+const SCROLLING_KEYS = new Set(['PageUp', 'PageDown', 'Home', 'End']);
 const LIST_KEYS = new Map([['ArrowUp', 'stepBack'], ['ArrowDown', 'stepOn']]);
 
 // A press selects, a drag moves the chart, two fingers and the wheel zoom.

@@ -1,6 +1,9 @@
 // The list of lines around the step that is shown. There are only as many elements as are seen, whatever a trace's length.
 'use strict';
 
+const LINE_HEIGHT = 22;
+const SIDE_BY_SIDE = 1000;
+
 class Lines {
     constructor(container, page) {
         this.container = container;
@@ -12,8 +15,13 @@ class Lines {
         followDrag(container, (pixels) => this.scroll(pixels));
     }
 
+    // Whether the lines of two traces stand below each other, as they don't fit side by side.
+    get isStacked() {
+        return this.page.axis.tracks.length > 1 && this.container.clientWidth < SIDE_BY_SIDE;
+    }
+
     get lineHeight() {
-        return this.page.axis.tracks.length > 1 && this.container.clientWidth < 700 ? 42 : 22;
+        return this.isStacked ? 2 * LINE_HEIGHT - 2 : LINE_HEIGHT;
     }
 
     get capacity() {
@@ -57,6 +65,7 @@ class Lines {
         const end = Math.min(axis.count, this.top + this.capacity);
         for (let cell = this.top; cell < end; cell++) lines.push(this.line(cell));
         this.container.style.setProperty('--line-height', `${this.lineHeight}px`);
+        this.container.classList.toggle('stacked', this.isStacked);
         this.container.replaceChildren(...lines);
         this.container.setAttribute('aria-activedescendant', `line-${this.page.cell}`);
     }

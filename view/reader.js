@@ -1,6 +1,14 @@
 // Reads a trace's bytes into rows, some at a time, so that the page stays alive while a long one is read.
 'use strict';
 
+// Whether what stands behind the letter of a line is of its form, as far as it is read here.
+function isWhole(bytes, kind, at, end) {
+    if (kind === undefined || at > end) return false;
+    if (kind === KIND.RAN) return end - at >= 16 && bytes[at] === SPACE && bytes[at + 9] === SPACE;
+    if (kind !== KIND.TAKEN) return at === end || bytes[at] < SPACE;
+    return /^ \d{1,3} [0-9a-f]{8}\s*$/.test(textOf(bytes, at, end));
+}
+
 class Reader {
     constructor(trace) {
         this.trace = trace;
@@ -61,7 +69,7 @@ class Reader {
         const isAll = (bytes[body] === 115 || bytes[body] === 110) && bytes[body + 1] === SPACE;
         const kindAt = isAll ? body + 2 : body;
         const kind = KIND_OF_LETTER.get(bytes[kindAt]);
-        if (at === from || bytes[at] !== SPACE || kind === undefined || kindAt >= end || step <= this.trace.lastStep) {
+        if (at === from || bytes[at] !== SPACE || step <= this.trace.lastStep || !isWhole(bytes, kind, kindAt + 1, end)) {
             this.trace.unread++;
             return;
         }

@@ -5,7 +5,7 @@
 const AGREES = 'agree';
 const SWEEP_COLOURS = ['#b3175d', '#2a6fb0', '#c8690e', '#3d8b40', '#7a4fb5', '#8a6d1a', '#0f8a8a', '#a33a2a'];
 const COLUMN_COUNTS = [10, 20, 25, 40, 50, 100, 200, 250, 500];
-const SQUARE = 12;
+const SQUARE = 11;
 const LEAST_SQUARE = 5;
 const WHERE_SHOWN = 6;
 
@@ -67,8 +67,8 @@ class SweepMap {
         this.chosen = Math.max(0, rows.findIndex((row) => row.status !== '0'));
         this.canvas = element('canvas', { tabindex: '0', role: 'img', 'aria-label': 'Map of the sweep', 'aria-describedby': 'arrival' });
         this.told = element('p', { id: 'arrival', class: 'row', 'aria-live': 'polite' });
-        container.replaceChildren(this.told, this.canvas, this.legend(),
-            element('p', {}, 'Arrow keys move, c and C go to the next and the last change of class.'));
+        container.replaceChildren(this.told, this.legend(), this.canvas,
+            element('p', {}, 'On the map arrow keys move, and c and C go to where the class changes.'));
         this.listen();
         this.layOut();
         this.choose(this.chosen);
