@@ -22,6 +22,7 @@ class Browser:
         self.folder = tempfile.TemporaryDirectory(prefix="tzrun_browser_")
         to_browser, self.write_end = os.pipe()
         self.read_end, from_browser = os.pipe()
+        # It opens pages of this project alone, so it needs no sandbox, which it can't have under root.
         words = [
             program(), "--headless=new", "--no-sandbox", "--disable-gpu", "--hide-scrollbars", "--remote-debugging-pipe",
             f"--user-data-dir={self.folder.name}", f"--window-size={width},{height}", "about:blank",
@@ -105,6 +106,15 @@ class Browser:
         shown = {"text": key} if len(key) == 1 else {}
         self.ask("Input.dispatchKeyEvent", type="keyDown", key=key, **shown)
         self.ask("Input.dispatchKeyEvent", type="keyUp", key=key)
+
+    def press(self, x, y, to=None):
+        """Presses the mouse at a place of the window, and lets go there, or at `to` pixels from the left."""
+        mouse = {"button": "left", "buttons": 1, "clickCount": 1}
+        self.ask("Input.dispatchMouseEvent", type="mousePressed", x=x, y=y, **mouse)
+        if to:
+            x = to
+            self.ask("Input.dispatchMouseEvent", type="mouseMoved", x=x, y=y, **mouse)
+        self.ask("Input.dispatchMouseEvent", type="mouseReleased", x=x, y=y, **mouse)
 
     def type(self, text):
         self.ask("Input.insertText", text=text)

@@ -28,6 +28,17 @@ CHAINED = """\
 9 s N 10000042 e7fe b 0x10000042
 """
 
+# Interrupt 3 comes again as its handler returns. It can't be active twice, so its entry is a tail-chain.
+AGAIN = """\
+0 s N 10000040 2001 movs r0, #1 r0=00000001
+1 s X 18 fffffff9
+2 s N 10000100 2002 movs r0, #2 r0=00000002
+3 s X 19 fffffff1
+4 s N 10000200 2003 movs r0, #3 r0=00000003
+5 s X 19 fffffff1
+6 s N 10000200 2003 movs r0, #3 r0=00000003
+"""
+
 LOOP = 40
 
 

@@ -7,6 +7,7 @@ const SWEEP_COLOURS = ['#b3175d', '#2a6fb0', '#c8690e', '#3d8b40', '#7a4fb5', '#
 const COLUMN_COUNTS = [10, 20, 25, 40, 50, 100, 200, 250, 500];
 const SQUARE = 11;
 const LEAST_SQUARE = 5;
+const LABEL_HEIGHT = 14;
 const WHERE_SHOWN = 6;
 
 // The rows of a sweep. A field may stand in quotation marks, with those inside doubled.
@@ -132,7 +133,7 @@ class SweepMap {
         context.fillRect(x, y, this.size - 1, this.size - 1);
         context.textAlign = 'right';
         context.fillStyle = ink;
-        if (at % this.columns === 0) context.fillText(String(this.rows[at].step), 52, y + this.size / 2);
+        if (at % (this.columns * Math.ceil(LABEL_HEIGHT / this.size)) === 0) context.fillText(String(this.rows[at].step), 52, y + this.size / 2);
         if (!kind.colour || this.size < 11) return;
         context.textAlign = 'center';
         context.fillStyle = '#fff';
