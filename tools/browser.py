@@ -24,7 +24,8 @@ class Browser:
         self.read_end, from_browser = os.pipe()
         # It opens pages of this project alone, so it needs no sandbox, which it can't have under root.
         words = [
-            program(), "--headless=new", "--no-sandbox", "--disable-gpu", "--hide-scrollbars", "--remote-debugging-pipe",
+            program(), "--headless=new", "--no-sandbox", "--disable-gpu", "--hide-scrollbars",
+            "--remote-debugging-pipe",
             f"--user-data-dir={self.folder.name}", f"--window-size={width},{height}", "about:blank",
         ]
         # Chromium reads commands from file 3 and writes to file 4.

@@ -13,8 +13,8 @@ FURTHER = """\
 5 s N 10000100 e7fe b 0x10000100
 """
 
-# Interrupt 2 is interrupted by interrupt 3, whose return ends in the entry of interrupt 4. That this is a tail-chain only
-# the return of interrupt 4 tells, to where interrupt 2 was left.
+# Interrupt 2 is interrupted by interrupt 3, whose return ends in the entry of interrupt 4. That this is a tail-chain is
+# told only by the return of interrupt 4, to where interrupt 2 was left.
 CHAINED = """\
 0 s N 10000040 2001 movs r0, #1 r0=00000001
 1 s X 18 fffffff9
@@ -37,6 +37,12 @@ AGAIN = """\
 4 s N 10000200 2003 movs r0, #3 r0=00000003
 5 s X 19 fffffff1
 6 s N 10000200 2003 movs r0, #3 r0=00000003
+"""
+
+UNEVEN = """\
+0 n N 00200040 b081 sub sp, sp, #4 sp=20000ffc
+1 n N 00200042 2800 cmp r0, #0 apsr=60000000
+2 n X 21 ffffffb8
 """
 
 LOOP = 40

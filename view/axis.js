@@ -1,5 +1,6 @@
-// The axis that all traces of the page share. It is made of cells: a step, or where equal lines are folded as many steps as
-// no trace has another line in. What is drawn is drawn over cells, and traces beside each other stay in step.
+// The axis that all traces of the page share. It is made of cells: a step, or where equal lines are folded as many
+// steps as no trace has another line in. What is drawn is drawn over cells, and traces beside each other stay in
+// step.
 'use strict';
 
 const NO_ROW = 0xffffffff;
@@ -38,7 +39,8 @@ function mergedStarts(traces) {
     const lists = traces.map((trace) => trace.steps.subarray(0, trace.count));
     if (lists.length === 1) return lists[0];
     // A trace that ends before another has no row from its end on.
-    const ends = traces.map((trace) => trace.lastStep + 1).filter((end) => traces.some((trace) => trace.lastStep >= end));
+    const ends = traces.map((trace) => trace.lastStep + 1)
+        .filter((end) => traces.some((trace) => trace.lastStep >= end));
     const all = new Uint32Array(lists.reduce((sum, list) => sum + list.length, 0) + ends.length);
     let at = 0;
     for (const list of [...lists, ends]) {
@@ -53,7 +55,8 @@ function mergedStarts(traces) {
     return all.subarray(0, count);
 }
 
-// A trace on the axis: its row in each cell, where that is drawn, and counts over blocks of cells for what is drawn small.
+// A trace on the axis: its row in each cell, where that is drawn, and counts over blocks of cells for what is drawn
+// small.
 class Track {
     constructor(trace, axis) {
         this.trace = trace;

@@ -16,8 +16,9 @@ function endOfBar(chart, track, cell, to) {
 }
 
 function isSameBar(chart, trace, row, other, place) {
-    return trace.kinds[other] === trace.kinds[row] && trace.kinds[row] !== KIND.TAKEN && trace.bands[other] === trace.bands[row]
-        && trace.innermost[other] === trace.innermost[row] && functionOf(chart, trace, other) === place;
+    return trace.kinds[other] === trace.kinds[row] && trace.kinds[row] !== KIND.TAKEN
+        && trace.bands[other] === trace.bands[row] && trace.innermost[other] === trace.innermost[row]
+        && functionOf(chart, trace, other) === place;
 }
 
 function functionOf(chart, trace, row) {
@@ -138,8 +139,8 @@ function drawWait(chart, panel, taken, cell, end) {
     chart.context.globalAlpha = 1;
 }
 
-// Where the code stood that an exception interrupted: of a tail-chain, what its first entry interrupted, on the side that
-// EXC_RETURN names.
+// Where the code stood that an exception interrupted: of a tail-chain, what its first entry interrupted, on the side
+// that EXC_RETURN names.
 function waitingBand(trace, taken) {
     const side = exceptionReturn(trace.takenLinks[taken]).secureFrame ? SECURE : NONSECURE;
     let level = 0;

@@ -1,6 +1,6 @@
-// The chart: for each trace a Secure and a Non-secure lane over the same axis. Thread mode stands at the line between the
-// lanes, and each nested exception one row further out. Far out, each pixel column is filled by how many of its cells a row
-// has; near, each run of code is a bar with its name, and each way between sides an arrow with its kind.
+// The chart: for each trace a Secure and a Non-secure lane over the same axis. Thread mode stands at the line between
+// the lanes, and each nested exception one row further out. Far out, each pixel column is filled by how many of its
+// cells a row has; near, each run of code is a bar with its name, and each way between sides an arrow with its kind.
 'use strict';
 
 const ROW_HEIGHT = 20;
@@ -10,7 +10,9 @@ const TICK_ROOM = 80;
 const CROSSING_HEIGHT = 26;
 const CLOSEST = 160;
 const DETAILED_CELLS = 6000;
-const COLOURS = ['ink', 'quiet', 'line', 'paper', 'secure', 'nonsecure', 'secure-ink', 'nonsecure-ink', 'on-bar', 'mark', 'differ'];
+const COLOURS = [
+    'ink', 'quiet', 'line', 'paper', 'secure', 'nonsecure', 'secure-ink', 'nonsecure-ink', 'on-bar', 'mark', 'differ',
+];
 const TEXT_FONT = '12px system-ui, sans-serif';
 
 class Chart {
@@ -168,7 +170,9 @@ class Chart {
         context.textAlign = 'left';
         context.font = `bold ${TEXT_FONT}`;
         context.fillStyle = colours.ink;
-        if (this.panels.length > 1) context.fillText(clip(context, panel.track.trace.name, this.gutter - 8), 4, panel.top + 8);
+        if (this.panels.length > 1) {
+            context.fillText(clip(context, panel.track.trace.name, this.gutter - 8), 4, panel.top + 8);
+        }
         for (const row of panel.rows) {
             context.font = row.level ? TEXT_FONT : `bold ${TEXT_FONT}`;
             context.fillStyle = row.side === SECURE ? colours['secure-ink'] : colours['nonsecure-ink'];
@@ -222,9 +226,10 @@ function drawFar(chart, panel) {
     const { context, colours } = chart;
     const { track, yOfBand } = panel;
     const counts = new Uint32Array(256);
+    const cellFrom = (x) => Math.max(0, Math.floor(chart.left + (x - chart.gutter) / chart.scale));
     for (let x = chart.gutter; x < chart.width; x++) {
-        const from = Math.max(0, Math.floor(chart.left + (x - chart.gutter) / chart.scale));
-        const to = Math.min(chart.axis.count, Math.max(from + 1, Math.floor(chart.left + (x + 1 - chart.gutter) / chart.scale)));
+        const from = cellFrom(x);
+        const to = Math.min(chart.axis.count, Math.max(from + 1, cellFrom(x + 1)));
         if (from >= chart.axis.count) break;
         track.countInto(counts, from, to);
         for (const band of track.used) {

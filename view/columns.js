@@ -8,11 +8,14 @@ const EQUALS = 61;
 
 // The kinds of a step, as the letter of its line says.
 const KIND = { RAN: 0, TAKEN: 1, SLEPT: 2, LOCKED: 3, CLOSED: 4 };
-const KIND_OF_LETTER = new Map([[78, KIND.RAN], [88, KIND.TAKEN], [90, KIND.SLEPT], [76, KIND.LOCKED], [83, KIND.CLOSED]]);
+const KIND_OF_LETTER = new Map([
+    [78, KIND.RAN], [88, KIND.TAKEN], [90, KIND.SLEPT], [76, KIND.LOCKED], [83, KIND.CLOSED],
+]);
 
 // How a step leaves a side, or a level of nesting.
 const WAY = {
-    NONE: 0, SG: 1, RETURN: 2, CALL: 3, EXCEPTION: 4, EXCEPTION_RETURN: 5, FNC_RETURN: 6, INTO_CLOSED: 7, OUT_OF_CLOSED: 8,
+    NONE: 0, SG: 1, RETURN: 2, CALL: 3, EXCEPTION: 4, EXCEPTION_RETURN: 5, FNC_RETURN: 6, INTO_CLOSED: 7,
+    OUT_OF_CLOSED: 8,
 };
 const WAY_NAMES = [
     '', 'SG', 'return (BXNS)', 'call (BLXNS)', 'exception', 'exception return', 'FNC_RETURN',

@@ -88,13 +88,17 @@ function changesOf(trace, row, listed) {
 // The bits of EXC_RETURN in words.
 function linkOf(link) {
     const parts = exceptionReturn(link);
-    return [
-        ['S', parts.secureFrame, parts.secureFrame ? 'the frame is on a Secure stack' : 'the frame is on a Non-secure stack'],
-        ['DCRS', parts.defaultStacking, parts.defaultStacking ? 'R4 to R11 are handled by the rule' : 'R4 to R11 are in a frame already'],
+    const side = (isSecure) => SIDE_NAMES[isSecure ? SECURE : NONSECURE];
+    const spsel = parts.processStack ? 1 : 0;
+    const callee = parts.defaultStacking ? 'handled by the rule' : 'in a frame already';
+    const meanings = [
+        ['S', parts.secureFrame, `the frame is on a ${side(parts.secureFrame)} stack`],
+        ['DCRS', parts.defaultStacking, `R4 to R11 are ${callee}`],
         ['Mode', parts.thread, parts.thread ? 'to Thread mode' : 'to a handler'],
-        ['SPSEL', parts.processStack, `SPSEL of the ${parts.secureHandler ? 'Secure' : 'Non-secure'} side was ${parts.processStack ? 1 : 0}`],
-        ['ES', parts.secureHandler, parts.secureHandler ? 'the handler is Secure' : 'the handler is Non-secure'],
-    ].map(([name, isOne, meaning]) => ({ name, value: isOne ? '1' : '0', meaning }));
+        ['SPSEL', parts.processStack, `SPSEL of the ${side(parts.secureHandler)} side was ${spsel}`],
+        ['ES', parts.secureHandler, `the handler is ${side(parts.secureHandler)}`],
+    ];
+    return meanings.map(([name, isOne, meaning]) => ({ name, value: isOne ? '1' : '0', meaning }));
 }
 
 const INTEGRITY_SIGNATURE = 0xfefa125b;
@@ -123,7 +127,9 @@ function wordOf(registers, register, what) {
 }
 
 function additionalWords(before) {
-    const words = [{ value: hex(INTEGRITY_SIGNATURE), what: 'integrity signature' }, { value: '00000000', what: 'nothing' }];
+    const words = [
+        { value: hex(INTEGRITY_SIGNATURE), what: 'integrity signature' }, { value: '00000000', what: 'nothing' },
+    ];
     for (let register = 4; register <= 11; register++) words.push(wordOf(before, register, `R${register}`));
     return words;
 }
@@ -150,6 +156,10 @@ function statusWord(trace, taken, before, stack) {
     return { value: hex(value), what: 'RETPSR, outside of an IT block' };
 }
 
+function placeOf(trace, row, { code, text }, symbols) {
+    return { address: hex(trace.pcs[row]), code, text, name: symbols.nameOf(trace.pcs[row]) };
+}
+
 // All that the page shows of a row.
 function describe(trace, row, symbols) {
     const kind = trace.kinds[row];
@@ -161,9 +171,9 @@ function describe(trace, row, symbols) {
         sentence: sentenceOf(trace, row),
         side: kind === KIND.CLOSED ? '' : SIDE_NAMES[trace.sideOf(row)],
         mode: kind === KIND.CLOSED ? '' : modeOf(trace, row),
-        where: ran ? { address: hex(trace.pcs[row]), code: ran.code, text: ran.text, name: symbols.nameOf(trace.pcs[row]) } : null,
+        where: ran ? placeOf(trace, row, ran, symbols) : null,
         changes: ran ? changesOf(trace, row, ran.listed) : [],
-        stores: ran ? ran.stores.map(({ address, size, value }) => ({ address: hex(address), size, value: hex(value) })) : [],
+        stores: ran ? ran.stores : [],
         entry: entry ? { ...entry, bits: linkOf(entry.link), frame: frameOf(trace, row) } : null,
         registers: registersOf(trace, row),
         further: trace.further(row),

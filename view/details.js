@@ -1,6 +1,10 @@
 // The part of the page that shows one step: of each trace, what it did, and the registers behind it.
 'use strict';
 
+const REGISTERS_CAPTION = 'Registers after this step, as far as the trace tells';
+const FRAME_CAPTION = 'The frame, worked out from what the trace tells: it lists no words of frames';
+const FRAME_OF_TAIL_CHAIN = 'The words that the first entry wrote stay. At most R4 to R11 are written below them.';
+
 class Details {
     constructor(container, page) {
         this.container = container;
@@ -20,24 +24,26 @@ class Details {
         const { trace } = track;
         const name = this.page.axis.tracks.length > 1 ? element('p', { class: 'name' }, trace.name) : null;
         if (!facts) return element('section', {}, name, element('p', {}, 'This trace has no line here.'));
-        return element('section', { 'data-step': facts.step }, name, heading(facts), element('p', { class: 'sentence' }, facts.sentence),
-            placeOf(facts), changesTable(facts), storesTable(facts), this.entryParts(trace, facts), furtherLines(facts),
-            this.registersTable(facts));
+        return element('section', {}, name, heading(facts), element('p', { class: 'sentence' }, facts.sentence),
+            placeTable(facts), changesTable(facts), storesTable(facts), this.entryParts(trace, facts),
+            furtherLines(facts), this.registersTable(facts));
     }
 
-    stepLink(step, text) {
-        return element('button', { type: 'button', class: 'link', onclick: () => this.page.goToStep(step) }, text || String(step));
+    stepLink(step) {
+        const onclick = () => this.page.goToStep(step);
+        return element('button', { type: 'button', class: 'link', onclick }, String(step));
     }
 
     registersTable(facts) {
         const rows = facts.registers.map((register) => [
             register.name,
-            register.value ? element('code', {}, register.value) : element('span', { class: 'unknown' }, 'not known'),
+            knownValue(register.value),
             register.isChanged ? 'changed' : register.flags || register.note,
             register.since < 0 ? '' : this.stepLink(register.since),
         ]);
-        return table('Registers after this step, as far as the trace tells', ['Register', 'Value', '', 'Since step'], rows,
-            (at) => [facts.registers[at].isChanged ? 'changed' : '', facts.registers[at].isDifferent ? 'differs' : ''].join(' '));
+        const classes = facts.registers.map((register) => (
+            `${register.isChanged ? 'changed' : ''} ${register.isDifferent ? 'differs' : ''}`));
+        return table(REGISTERS_CAPTION, ['Register', 'Value', '', 'Since step'], rows, (at) => classes[at]);
     }
 
     entryParts(trace, facts) {
@@ -47,7 +53,8 @@ class Details {
             : ['ends at step ', this.stepLink(trace.steps[entry.end])];
         const bits = table(`LR in the handler: ${hex(entry.link)} (EXC_RETURN)`, ['Bit', 'Value', 'Meaning'],
             entry.bits.map(({ name, value, meaning }) => [name, value, meaning]));
-        return element('div', {}, element('p', {}, `Exception ${entry.number} `, ...[end].flat(), '.'), bits, frameTable(entry));
+        const told = element('p', {}, `Exception ${entry.number} `, ...[end].flat(), '.');
+        return element('div', {}, told, bits, frameTable(entry));
     }
 }
 
@@ -67,11 +74,16 @@ function markDifferent(facts) {
 }
 
 function heading(facts) {
-    const fold = facts.last > facts.step ? ` to ${facts.last}: ${plural(facts.last - facts.step + 1, 'equal line')}` : '';
+    const count = facts.last - facts.step + 1;
+    const fold = count > 1 ? ` to ${facts.last}: ${plural(count, 'equal line')}` : '';
     return element('h2', {}, `Step ${facts.step}${fold}`);
 }
 
-function placeOf(facts) {
+function knownValue(text) {
+    return text ? element('code', {}, text) : element('span', { class: 'unknown' }, 'not known');
+}
+
+function placeTable(facts) {
     const pairs = [['Side', facts.side], ['Mode', facts.mode]];
     if (facts.where) {
         const { address, code, text, name } = facts.where;
@@ -84,21 +96,22 @@ function placeOf(facts) {
 
 function changesTable(facts) {
     if (!facts.changes.length) return null;
-    return table('Changed registers', ['Register', 'Before', 'After'], facts.changes.map(({ name, before, after, note }) => [
-        name + note, element('code', {}, before || '—'), element('code', {}, after)]));
+    const rows = facts.changes.map(({ name, before, after, note }) => [
+        name + note, element('code', {}, before || '—'), element('code', {}, after)]);
+    return table('Changed registers', ['Register', 'Before', 'After'], rows);
 }
 
 function storesTable(facts) {
     if (!facts.stores.length) return null;
     return table('Stores', ['Address', 'Bytes', 'Value'], facts.stores.map(({ address, size, value }) => [
-        element('code', {}, address), String(size), element('code', {}, value)]));
+        element('code', {}, hex(address)), String(size), element('code', {}, hex(value))]));
 }
 
 function frameTable(entry) {
-    if (!entry.frame) return element('p', {}, 'No frame is written but, where the rules ask for it, that of R4 to R11: the words of the first entry stay.');
+    if (!entry.frame) return element('p', {}, FRAME_OF_TAIL_CHAIN);
     const rows = entry.frame.map(({ address, value, what }) => [
         element('code', {}, address || '—'), element('code', {}, value || '—'), what]);
-    return table('The frame, worked out from what the trace tells: it lists no words of frames', ['Address', 'Word', 'What'], rows);
+    return table(FRAME_CAPTION, ['Address', 'Word', 'What'], rows);
 }
 
 function furtherLines(facts) {

@@ -16,7 +16,8 @@ function table(caption, heads, rows, rowClass) {
     const head = element('tr', {}, ...heads.map((text) => element('th', { scope: 'col' }, text)));
     const body = rows.map((cells, at) => element('tr', { class: rowClass ? rowClass(at) : undefined },
         ...cells.map((cell) => element('td', {}, cell))));
-    return element('table', {}, element('caption', {}, caption), element('thead', {}, head), element('tbody', {}, ...body));
+    return element('table', {},
+        element('caption', {}, caption), element('thead', {}, head), element('tbody', {}, ...body));
 }
 
 function byId(id) {

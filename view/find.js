@@ -12,8 +12,9 @@ function readSearch(words, symbols) {
     if (/^\d{1,7}$/.test(text)) return { step: Number(text) };
     const step = /^step\s+(\d{1,8})$/i.exec(text);
     if (step) return { step: Number(step[1]) };
-    const address = /^(?:0x)?([0-9a-f]{8})$/i.exec(text) || /^0x([0-9a-f]{1,8})$/i.exec(text);
-    if (address) return { what: `address ${hex(parseInt(address[1], 16))}`, test: testOfAddress(parseInt(address[1], 16)) };
+    const digits = /^(?:0x)?([0-9a-f]{8})$/i.exec(text) || /^0x([0-9a-f]{1,8})$/i.exec(text);
+    const address = digits && parseInt(digits[1], 16);
+    if (digits) return { what: `address ${hex(address)}`, test: testOfAddress(address) };
     const register = /^([a-z]+\d*)(?:=(?:0x)?([0-9a-f]{1,8}))?$/i.exec(text);
     const number = register && REGISTER_WORDS.get(register[1].toLowerCase());
     if (number !== undefined && number !== null) return { what: text, test: testOfRegister(number, register[2]) };

@@ -52,7 +52,8 @@ async function embeddedFiles() {
 }
 
 async function bytesOfFiles(list) {
-    return Promise.all([...list].map(async (file) => ({ name: file.name, bytes: new Uint8Array(await file.arrayBuffer()) })));
+    const read = async (file) => ({ name: file.name, bytes: new Uint8Array(await file.arrayBuffer()) });
+    return Promise.all([...list].map(read));
 }
 
 // What a file is, by how it begins: a sweep, names of functions, or a trace.

@@ -1,8 +1,8 @@
 // Which code runs at each step: Thread mode, or which exception's handler inside which other one.
 //
-// A trace says that an exception was taken and with which LR, and it shows the branch of a return; it doesn't say which
-// exceptions are active. This follows them, as far as the lines tell: a return that ended in another entry (a tail-chain)
-// is known by that entry's LR or number, else by where the code goes on later.
+// A trace says that an exception was taken and with which LR, and it shows the branch of a return; it doesn't say
+// which exceptions are active. This follows them, as far as the lines tell: a return that ended in another entry (a
+// tail-chain) is known by that entry's LR or number, else by where the code goes on later.
 'use strict';
 
 const LEVELS = 8;

@@ -1,4 +1,5 @@
-// The list of lines around the step that is shown. There are only as many elements as are seen, whatever a trace's length.
+// The list of lines around the step that is shown. There are only as many elements as are seen, whatever a trace's
+// length.
 'use strict';
 
 const LINE_HEIGHT = 22;
@@ -77,7 +78,7 @@ class Lines {
         const count = axis.lastOf(cell) - axis.starts[cell] + 1;
         const step = element('span', { class: 'step' }, String(axis.starts[cell]),
             axis.isFolded && count > 1 ? element('small', {}, ` ×${count.toLocaleString('en')}`) : null);
-        const mark = axis.tracks.length > 1 ? element('span', { class: 'mark', title: isDifferent ? 'differs' : '' }, isDifferent ? '≠' : '') : null;
+        const mark = axis.tracks.length > 1 ? element('span', { class: 'mark' }, isDifferent ? '≠' : '') : null;
         const texts = axis.tracks.map((track) => this.text(track, cell));
         return element('div', {
             role: 'option', id: `line-${cell}`, 'data-cell': cell, 'aria-selected': String(cell === page.cell),
@@ -109,14 +110,17 @@ class Lines {
 function lineParts(trace, row) {
     if (trace.kinds[row] === KIND.TAKEN) {
         const taken = trace.takenAt(trace.takenAtRow(row));
-        return [element('b', {}, `exception ${taken.number}, ${exceptionName(taken.number)}`), ` LR ${hex(taken.link)}`];
+        const name = `exception ${taken.number}, ${exceptionName(taken.number)}`;
+        return [element('b', {}, name), ` LR ${hex(taken.link)}`];
     }
     if (trace.kinds[row] !== KIND.RAN) return [element('i', {}, KIND_LABELS[trace.kinds[row]])];
     const { text, listed, stores } = trace.instruction(row);
-    const changes = listed.map(({ register, value }) => `${register === SP ? 'sp' : REGISTER_NAMES[register]}=${hex(value)}`);
+    const nameOf = (register) => (register === SP ? 'sp' : REGISTER_NAMES[register]);
+    const changes = listed.map(({ register, value }) => `${nameOf(register)}=${hex(value)}`);
     const written = stores.map(({ address, size, value }) => `[${hex(address)}].${size}=${hex(value)}`);
     const effects = [...changes, ...written].join(' ');
-    return [`${hex(trace.pcs[row])} ${text} `, effects ? element('span', { class: 'effects' }, `${effects} `) : ''];
+    const words = `${hex(trace.pcs[row])} ${text} `;
+    return effects ? [words, element('span', { class: 'effects' }, `${effects} `)] : [words];
 }
 
 // Tells `move` the vertical pixels of a drag by touch or pen; a mouse has its wheel.

@@ -1,5 +1,5 @@
-// The strip below the chart: the whole run, small, with the part that the chart shows. It is drawn once for a size, and
-// then copied.
+// The strip below the chart: the whole run, small, with the part that the chart shows. It is drawn once for a size,
+// and then copied.
 'use strict';
 
 const STRIP_HEIGHT = 7;
@@ -55,8 +55,8 @@ class Overview {
         context.drawImage(this.strip, 0, 0, this.width, this.height);
         context.strokeStyle = chart.colours.ink;
         context.lineWidth = 1.5;
-        const width = Math.max(4, chart.span / chart.scale * this.perCell);
-        context.strokeRect(chart.gutter + chart.left * this.perCell, 1, Math.min(width, chart.span - 1), this.height - 2);
+        const width = Math.min(chart.span - 1, Math.max(4, chart.span / chart.scale * this.perCell));
+        context.strokeRect(chart.gutter + chart.left * this.perCell, 1, width, this.height - 2);
         this.drawMark(comparison.first, chart.colours.differ);
         this.drawMark(cell, chart.colours.mark);
     }

@@ -33,7 +33,7 @@ class Page {
         if (kinds.some((file) => file.kind === 'elf')) {
             this.say('An ELF file is read by tzrun picture --symbols; here give what nm -S writes of it.');
         }
-        for (const file of kinds) if (file.kind === 'symbols') this.symbols.add(textOf(file.bytes, 0, file.bytes.length));
+        for (const { kind, bytes } of kinds) if (kind === 'symbols') this.symbols.add(textOf(bytes, 0, bytes.length));
         return this.takeTraces(kinds.filter((file) => file.kind === 'trace'), isBeside);
     }
 
@@ -78,7 +78,8 @@ class Page {
         return first < 0 ? 'no line differs' : `first difference at step ${this.axis.starts[first]}`;
     }
 
-    // Makes the axis anew, and shows the same step, or at first the one that the address names or the first difference.
+    // Makes the axis anew, and shows the same step, or at first the one that the address names or the first
+    // difference.
     open(isFirst) {
         const step = isFirst ? -1 : this.axis.starts[this.cell];
         byId('empty').hidden = true;
@@ -141,7 +142,8 @@ class Page {
 
     // The next cell behind which a trace leaves its side or level as `accepts` says.
     goToWay(isBackwards, accepts) {
-        const found = this.axis.tracks.map((track) => track.findTurn(this.cell, isBackwards, accepts)).filter((cell) => cell >= 0);
+        const found = this.axis.tracks.map((track) => track.findTurn(this.cell, isBackwards, accepts))
+            .filter((cell) => cell >= 0);
         if (found.length) this.select(isBackwards ? Math.max(...found) : Math.min(...found));
         else this.say(`No such step ${isBackwards ? 'before' : 'behind'} this one.`);
     }

@@ -16,7 +16,8 @@ class Reader {
         this.levels = new Levels(trace);
         this.registers = new Registers();
         this.lastBody = 0;
-        // Of the row before: its code, where its branch goes if a register or its text says so, and whether it returned.
+        // Of the row before: its code, where its branch goes if a register or its text says so, and whether it
+        // returned.
         this.code = 0;
         this.isWide = false;
         this.branchValue = -1;
@@ -69,7 +70,8 @@ class Reader {
         const isAll = (bytes[body] === 115 || bytes[body] === 110) && bytes[body + 1] === SPACE;
         const kindAt = isAll ? body + 2 : body;
         const kind = KIND_OF_LETTER.get(bytes[kindAt]);
-        if (at === from || bytes[at] !== SPACE || step <= this.trace.lastStep || !isWhole(bytes, kind, kindAt + 1, end)) {
+        const isLine = at > from && bytes[at] === SPACE && isWhole(bytes, kind, kindAt + 1, end);
+        if (!isLine || step <= this.trace.lastStep) {
             this.trace.unread++;
             return;
         }
@@ -195,8 +197,8 @@ class Reader {
         return this.listsOthers(row) ? WAY.EXCEPTION_RETURN : WAY.FNC_RETURN;
     }
 
-    // Whether an instruction of a handler, behind which its side goes on, returned from it: a branch to such a value, or a
-    // load of PC behind which more differs than it writes itself.
+    // Whether an instruction of a handler, behind which its side goes on, returned from it: a branch to such a value,
+    // or a load of PC behind which more differs than it writes itself.
     isReturnWithin(row) {
         if (branchRegister(this.code, this.isWide) >= 0) return this.branchValue >= EXC_RETURN_LOW;
         const move = stackMoveOfLoad(this.code, this.isWide);

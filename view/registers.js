@@ -33,7 +33,8 @@ class Registers {
         return this.sure[register] >= SURE.BY_RULE;
     }
 
-    // Secure code that isn't shown may have changed all but the Non-secure stack pointer, which it reaches by name alone.
+    // Secure code that isn't shown may have changed all but the Non-secure stack pointer, which it reaches by name
+    // alone.
     forgetBehindClosed(row) {
         for (let register = 0; register < REGISTER_COUNT; register++) {
             if (this.sure[register] !== SURE.UNKNOWN) this.forget(register, row);
@@ -128,7 +129,8 @@ function storesIn(bytes, from, to) {
     const stores = [];
     for (let at = from; at < to; at++) {
         if (bytes[at] === 91) {
-            stores.push({ address: hexAt(bytes, at + 1, 8), size: bytes[at + 11] - 48, value: hexAt(bytes, at + 13, 8) });
+            const size = bytes[at + 11] - 48;
+            stores.push({ address: hexAt(bytes, at + 1, 8), size, value: hexAt(bytes, at + 13, 8) });
         }
         while (at < to && bytes[at] !== SPACE) at++;
     }

@@ -1,5 +1,5 @@
-// A sweep as a map: one square for each arrival step of the interrupt, in reading order. Its colour and letter are the class
-// of what differed there; a pale square with a dot is a step at which both runs agree.
+// A sweep as a map: one square for each arrival step of the interrupt, in reading order. Its colour and letter are
+// the class of what differed there; a pale square with a dot is a step at which both runs agree.
 'use strict';
 
 const AGREES = 'agree';
@@ -7,6 +7,7 @@ const SWEEP_COLOURS = ['#b3175d', '#2a6fb0', '#c8690e', '#3d8b40', '#7a4fb5', '#
 const COLUMN_COUNTS = [10, 20, 25, 40, 50, 100, 200, 250, 500];
 const SQUARE = 11;
 const LEAST_SQUARE = 5;
+const MANY_ROWS = 20000;
 const LABEL_HEIGHT = 14;
 const WHERE_SHOWN = 6;
 
@@ -36,7 +37,9 @@ function classesOf(rows) {
     const names = [...found.keys()].sort((one, other) => found.get(other).length - found.get(one).length);
     const others = names.filter((name) => name !== AGREES);
     return names.map((name) => ({
-        name, rows: found.get(name), letter: name === AGREES ? '·' : 'ABCDEFGHIJKLMNOPQRSTUVWXYZ'[others.indexOf(name) % 26],
+        name,
+        rows: found.get(name),
+        letter: name === AGREES ? '·' : String.fromCharCode(65 + others.indexOf(name) % 26),
         colour: name === AGREES ? null : SWEEP_COLOURS[others.indexOf(name) % SWEEP_COLOURS.length],
     }));
 }
@@ -66,7 +69,9 @@ class SweepMap {
         this.classes = classesOf(rows);
         this.classOfRow = new Map(this.classes.flatMap((kind) => kind.rows.map((row) => [row, kind])));
         this.chosen = Math.max(0, rows.findIndex((row) => row.status !== '0'));
-        this.canvas = element('canvas', { tabindex: '0', role: 'img', 'aria-label': 'Map of the sweep', 'aria-describedby': 'arrival' });
+        this.canvas = element('canvas', {
+            tabindex: '0', role: 'img', 'aria-label': 'Map of the sweep', 'aria-describedby': 'arrival',
+        });
         this.told = element('p', { id: 'arrival', class: 'row', 'aria-live': 'polite' });
         container.replaceChildren(this.told, this.legend(), this.canvas,
             element('p', {}, 'On the map arrow keys move, and c and C go to where the class changes.'));
@@ -77,7 +82,8 @@ class SweepMap {
 
     get summary() {
         const agreeing = this.classes.find((kind) => kind.name === AGREES);
-        return `${plural(this.rows.length, 'arrival step')}: ${(agreeing ? agreeing.rows.length : 0).toLocaleString('en')} agree`;
+        const count = agreeing ? agreeing.rows.length : 0;
+        return `${plural(this.rows.length, 'arrival step')}: ${count.toLocaleString('en')} agree`;
     }
 
     legend() {
@@ -101,7 +107,8 @@ class SweepMap {
     layOut() {
         const width = this.canvas.clientWidth;
         const room = width - 60;
-        const fitting = COLUMN_COUNTS.filter((count) => room / count >= (this.rows.length > 20000 ? LEAST_SQUARE : SQUARE));
+        const least = this.rows.length > MANY_ROWS ? LEAST_SQUARE : SQUARE;
+        const fitting = COLUMN_COUNTS.filter((count) => room / count >= least);
         this.columns = Math.max(10, ...fitting.slice(-1));
         this.size = Math.min(18, Math.floor(room / this.columns));
         const height = Math.ceil(this.rows.length / this.columns) * this.size + 4;
@@ -133,7 +140,8 @@ class SweepMap {
         context.fillRect(x, y, this.size - 1, this.size - 1);
         context.textAlign = 'right';
         context.fillStyle = ink;
-        if (at % (this.columns * Math.ceil(LABEL_HEIGHT / this.size)) === 0) context.fillText(String(this.rows[at].step), 52, y + this.size / 2);
+        const labelled = this.columns * Math.ceil(LABEL_HEIGHT / this.size);
+        if (at % labelled === 0) context.fillText(String(this.rows[at].step), 52, y + this.size / 2);
         if (!kind.colour || this.size < 11) return;
         context.textAlign = 'center';
         context.fillStyle = '#fff';
@@ -157,7 +165,8 @@ class SweepMap {
     choose(at) {
         if (!this.rows.length) return;
         this.chosen = Math.max(0, Math.min(this.rows.length - 1, at));
-        this.told.replaceChildren(this.swatch(this.classOfRow.get(this.chosen)), ` ${sentenceOfArrival(this.rows[this.chosen])}`);
+        const row = this.rows[this.chosen];
+        this.told.replaceChildren(this.swatch(this.classOfRow.get(this.chosen)), ` ${sentenceOfArrival(row)}`);
         this.draw();
     }
 

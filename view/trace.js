@@ -1,8 +1,9 @@
-// A trace, read once from its bytes into rows that fill typed arrays. A row is a line, or a run of lines that are equal
-// but for their number (a core that sleeps or is locked, a loop to itself). The text of a row stays in the bytes.
+// A trace, read once from its bytes into rows that fill typed arrays. A row is a line, or a run of lines that are
+// equal but for their number (a core that sleeps or is locked, a loop to itself). The text of a row stays in the
+// bytes.
 //
-// The three views are read: `ns`, `all`, and lines with further lines below them that begin with a space, which belong to
-// the line above them and are shown as they are.
+// The three views are read: `ns`, `all`, and lines with further lines below them that begin with a space, which
+// belong to the line above them and are shown as they are.
 'use strict';
 
 const CHECKPOINT_ROWS = 256;
