@@ -39,6 +39,13 @@ AGAIN = """\
 6 s N 10000200 2003 movs r0, #3 r0=00000003
 """
 
+# The Non-secure stack pointer has the value of the Secure one, so that the crossing lists none.
+EQUAL_STACKS = """\
+0 s N 10000040 b082 sub sp, sp, #8 sp=20001000
+1 s N 10000042 4704 bxns r0
+2 n N 00200040 e7fe b 0x00200040
+"""
+
 UNEVEN = """\
 0 n N 00200040 b081 sub sp, sp, #4 sp=20000ffc
 1 n N 00200042 2800 cmp r0, #0 apsr=60000000

@@ -1,6 +1,9 @@
 // Reads a trace's bytes into rows, some at a time, so that the page stays alive while a long one is read.
 'use strict';
 
+// What stands before the text of an instruction has at least so many bytes.
+const LEAST_HEAD = 16;
+
 // Whether what stands behind the letter of a line is of its form, as far as it is read here.
 function isWhole(bytes, kind, at, end) {
     if (kind === undefined || at > end) return false;
@@ -96,6 +99,8 @@ class Reader {
         if (side >= 0) trace.showsAll = true;
         trace.starts[row] = from;
         trace.ends[row] = end;
+        trace.lineEnds[row] = end;
+        trace.effects[row] = kind === KIND.RAN ? effectsFrom(trace.bytes, from + LEAST_HEAD, end) : end;
         trace.steps[row] = step;
         trace.kinds[row] = kind;
         const shown = side >= 0 ? side : kind === KIND.CLOSED ? SECURE : NONSECURE;
@@ -151,7 +156,7 @@ class Reader {
         const row = behind >= 0 && trace.kinds[behind] === KIND.SLEPT ? behind - 1 : behind;
         if (row < 0 || trace.kinds[row] !== KIND.RAN) return [NOWHERE];
         const places = [trace.pcs[row] + (this.isWide ? 4 : 2)];
-        const end = trace.firstEnd(row);
+        const end = trace.lineEnds[row];
         if (trace.bytes[end - 10] === 48 && trace.bytes[end - 9] === 120) places.push(hexAt(trace.bytes, end - 8, 8));
         if (this.branchValue >= 0) places.push(this.branchValue & ~1);
         return places;

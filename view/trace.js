@@ -10,7 +10,7 @@ const CHECKPOINT_ROWS = 256;
 
 function countLines(bytes) {
     let count = 1;
-    for (let at = bytes.indexOf(LINE_FEED); at >= 0; at = bytes.indexOf(LINE_FEED, at + 1)) count++;
+    for (let at = 0; at < bytes.length; at++) if (bytes[at] === LINE_FEED) count++;
     return count;
 }
 
@@ -20,7 +20,10 @@ class Trace {
         this.bytes = bytes;
         const lines = countLines(bytes);
         this.starts = new Uint32Array(lines);
+        // Where a row ends, where its line does if further lines follow, and where its registers and stores begin.
         this.ends = new Uint32Array(lines);
+        this.lineEnds = new Uint32Array(lines);
+        this.effects = new Uint32Array(lines);
         this.steps = new Uint32Array(lines);
         this.kinds = new Uint8Array(lines);
         this.bands = new Uint8Array(lines);
@@ -93,26 +96,18 @@ class Trace {
     }
 
     line(row) {
-        return textOf(this.bytes, this.bodyStart(row), this.firstEnd(row));
-    }
-
-    // Where the line itself ends: further lines may follow.
-    firstEnd(row) {
-        const end = this.bytes.indexOf(LINE_FEED, this.starts[row]);
-        return end < 0 || end > this.ends[row] ? this.ends[row] : end;
+        return textOf(this.bytes, this.bodyStart(row), this.lineEnds[row]);
     }
 
     further(row) {
-        const end = this.firstEnd(row);
+        const end = this.lineEnds[row];
         return end < this.ends[row] ? textOf(this.bytes, end + 1, this.ends[row]) : '';
     }
 
     // What a line with an instruction says.
     instruction(row) {
-        const end = this.firstEnd(row);
         const start = this.bodyStart(row) + (this.showsAll ? 4 : 2);
-        const effects = effectsFrom(this.bytes, start + 9, end);
-        const words = textOf(this.bytes, start, Math.min(effects, end)).trim();
+        const words = textOf(this.bytes, start, this.effects[row]).trim();
         const code = words.slice(9, words.indexOf(' ', 9));
         const listed = [];
         this.eachListed(row, (register, value) => listed.push({ register, value }));
@@ -148,13 +143,11 @@ class Trace {
 
     // Calls `tell(register, value)` for each register that a row lists.
     eachListed(row, tell) {
-        const end = this.firstEnd(row);
-        eachRegister(this.bytes, effectsFrom(this.bytes, this.starts[row], end), end, tell);
+        eachRegister(this.bytes, this.effects[row], this.lineEnds[row], tell);
     }
 
     storesOf(row) {
-        const end = this.firstEnd(row);
-        return storesIn(this.bytes, effectsFrom(this.bytes, this.starts[row], end), end);
+        return storesIn(this.bytes, this.effects[row], this.lineEnds[row]);
     }
 
     followListed(registers, row) {
