@@ -18,14 +18,32 @@ FURTHER = """\
 CHAINED = """\
 0 s N 10000040 2001 movs r0, #1 r0=00000001
 1 s X 18 fffffff9
-2 s N 10000100 2002 movs r0, #2 r0=00000002
-3 s X 19 fffffff1
-4 s N 10000200 2003 movs r0, #3 r0=00000003
-5 s X 20 fffffff1
-6 s N 10000300 2004 movs r0, #4 r0=00000004
-7 s N 10000302 4770 bx lr r0=00000002 lr=fffffff9
-8 s N 10000102 4770 bx lr r0=00000001 lr=00000000
-9 s N 10000042 e7fe b 0x10000042
+2 s N 10000100 bf30 wfi
+3 s Z
+4 s Z
+5 s X 19 fffffff1
+6 s N 10000200 2003 movs r0, #3 r0=00000003
+7 s X 20 fffffff1
+8 s N 10000300 2004 movs r0, #4 r0=00000004
+9 s N 10000302 4770 bx lr r0=00000001 lr=fffffff9
+10 s N 10000102 4770 bx lr lr=00000000
+11 s N 10000042 e7fe b 0x10000042
+"""
+
+# In the view `ns` a Non-secure handler, entered by tail-chain behind Secure code that was interrupted, calls Secure code.
+# It goes on behind the call, and later returns to the Secure code, which returns to Non-secure code.
+CALLED = """\
+0 S
+1 X 21 fffffff8
+2 N 00200184 b510 push {r4, lr} sp=28200ff0 [28200ff0].4=00000000 [28200ff4].4=fffffff8
+3 N 00200186 f000f9db bl 0x00200540 lr=0020018b
+4 N 00200540 f85ff000 ldr.w pc, [pc, #0]
+5 S
+6 S
+7 N 0020018a bf00 nop
+8 S
+9 S
+10 N 00200200 bf00 nop
 """
 
 # Interrupt 3 comes again as its handler returns. It can't be active twice, so its entry is a tail-chain.
