@@ -1,0 +1,41 @@
+; The Secure image that gives interrupt 0 to the Non-secure side. The hardware hides what its handler mustn't see.
+.org 0x10000000
+        .word   0x30001000      ; the start of the stack
+        .word   reset+1         ; where the core starts, with bit 0 set
+
+.org 0x10000080
+reset:  ldr     r0, itns
+        movs    r1, #1
+        str     r1, [r0, #0]    ; interrupt 0 is Non-secure
+        movs    r1, #0
+        ldr     r0, stack
+        msr     msp_ns, r0      ; a stack for Non-secure code
+        ldr     r0, entry
+        bxns    r0
+
+; It works with a key, and gives nothing but a sum of it.
+work:   push    {r4, r5, r6, r7}
+        ldr     r4, key
+        movs    r5, #13
+        movs    r0, #0
+        movs    r6, #4
+next:   adds    r7, r4, r5
+        eors    r0, r0, r7
+        lsls    r5, r5, #1
+        subs    r6, r6, #1
+        bne     next
+        pop     {r4, r5, r6, r7}
+        movs    r1, #0
+        msr     apsr, r1
+        bxns    lr
+
+.align 4
+itns:   .word   0xe000e380
+stack:  .word   0x20001000
+entry:  .word   0x00200080
+key:    .word   0x00c0ffee
+
+; The gateway.
+.org 0x10008000
+        sg
+        b.w     work
