@@ -64,7 +64,12 @@ fn texts(rt: HostRuntime) {
         (mov(5), Width::Narrow, 0x0020_0040, "movs r0, #5"),
         (back, Width::Narrow, 0x0020_0042, "b 0x00200042"),
         (test_target(0), Width::Wide, 0, "tt r0, r2"),
-        (store_exclusive(0), Width::Wide, 0, "strex r0, r3, [r2, #16]"),
+        (
+            store_exclusive(0),
+            Width::Wide,
+            0,
+            "strex r0, r3, [r2, #16]",
+        ),
     ];
     for (insn, width, pc, text) in texts.iter() {
         let found = instruction_text(insn, *width, *pc);

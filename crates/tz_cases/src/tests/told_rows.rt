@@ -19,7 +19,8 @@ impl Answers for Sums {
 
 #[test]
 fn rows_that_differ_are_told(rt: HostRuntime) -> Result<(), Fail> {
-    let rows = "# sums\n1 | 0x10 => 17\n\n 2|2 => 5\n3 => 3\n4 | x => 4\n5 | 6\n7 | 8 | 9 => 15\n10 | 11 12 => 21\n13 | => 13\n14 | 15 | => 29";
+    let rows =
+        "# sums\n1 | 0x10 => 17\n\n 2|2 => 5\n3 => 3\n4 | x => 4\n5 | 6\n7 | 8 | 9 => 15\n10 | 11 12 => 21\n13 | => 13\n14 | 15 | => 29";
     let text = told(rt.alloc(), &Sums, rows)?;
     assert_eq!(rt;
         text.as_str(),
