@@ -1,7 +1,6 @@
 //! The bus: memory, the units that guard it, and the exclusive monitor.
 
 ghost use Rattle.std.specs.Prelude.{◌≡◌, IfOk, MatchResult, OnOk, OnErr, IfErr, true, false};
-ghost use Rattle.tz_table.specs.declared.units.Size.TheVariants.{Word};
 ghost use Rattle.tz_mem.specs.Values.{IsRefusal};
 ghost use Rattle.tz_regs.specs.Access.{is_mapped, is_writable};
 ghost use Rattle.tz_regs.specs.Memory.{every, value_at, with_value, with_byte, with_bytes};
@@ -124,13 +123,6 @@ impl Bus {
         ensures { self.new ≡ with_memory self.old (with_bytes self.old.memory segment.now.base segment.now.bytes) }
     {
         self.memory.put_segment(segment);
-    }
-
-    /// Whether regions hold each byte of a word.
-    pub fn is_word_mapped(&self, addr: u32) -> bool
-        ensures { result ≡ every (is_mapped self.now.board.regions) addr Word }
-    {
-        self.memory.read(addr, Size::Word).is_ok()
     }
 
     /// The board.

@@ -10,6 +10,7 @@ mod images;
 mod instructions;
 mod lines;
 mod operations;
+mod pieces;
 mod rows;
 mod slots;
 mod tokens;

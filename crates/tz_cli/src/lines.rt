@@ -218,7 +218,7 @@ fn fault_status(fault: LoadError) -> u8
     }
 }
 
-/// Writes a line on standard error, and answers the status, or 4 where the line can't be written.
+/// Puts a line on standard error. The answer is the status that is given, but 4 where the put fails.
 pub fn refuse<E: Sink>(err: &mut E, line: &[u8], status: u8) -> u8
     ensures { IsTold result line.now status (E.written err.old) (E.written err.new) (E.space err.old) (E.faults err.old) (E.faults err.new) }
 {

@@ -30,7 +30,7 @@ use crate::words::{Command, command_words};
 use std::alloc::Global;
 use tz_model::{Shelf, Sink};
 
-/// Does all that the program does, and answers its status.
+/// Reads the words, has their command done, and gives the program's exit status.
 ///
 /// A task is what a command writes, with its status, as the words and the files that they name settle
 /// it; a job is a run with its board, its images and its script. Where the words and the shelf settle

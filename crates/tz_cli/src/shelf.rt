@@ -2,7 +2,7 @@
 //!
 //! No more of a file is read than its limit and one byte.
 
-ghost use Rattle.std.specs.Prelude.{◌≡◌, ◌<◌, ◌≤◌, ◌^◌, length, IfErr, IfOk, OnOk, OnErr};
+ghost use Rattle.std.specs.Prelude.{◌≡◌, ◌<◌, ◌≤◌, ◌+◌, ◌^◌, length, IfErr, IfOk, OnOk, OnErr};
 ghost use Rattle.tz_model.specs.Outside.{Untold, Got, Cut, Long};
 
 use std::fs;
@@ -59,6 +59,7 @@ pub fn read_to_limit<F: Read>(
     ensures ok { OnOk result (Got Untold limit into.old.items into.new.items) }
     ensures err { OnErr result (Cut Untold into.old.items into.new.items) }
     ensures long { Long limit result into.old.items into.new.items }
+    ensures within { length into.new.items ≤ length into.old.items + (limit + 1) }
 {
     let mut buffer = [0u8; 16384];
     let mut gained: usize = 0;

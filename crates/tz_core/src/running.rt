@@ -73,7 +73,7 @@ impl Machine {
     ghost use Rattle.tz_sem.specs.Step.{past, goes_next, skips, goes_on, concludes, executes, faulting, placed, decoded, enters, looks, unready, course_in, instructs, idles, by_sleep, takes, ended, step};
     ghost use Rattle.tz_twin.specs.Integrity.{LeavesSecure, EntersSecure};
 
-    /// The state that the machine is in; a locked machine counts as Secure.
+    /// The side whose code runs; of a locked machine the Secure one.
     pub fn side(&self) -> Side
         ensures { result ≡ side_of self.now }
     {

@@ -99,15 +99,6 @@ pc_not_plain r h = and_right (not (r == 13)) (not (r == 15)) (ap not h)
 pub pc_store_exclusive : (rd rt rn : ℕ) → (rt == 15) ≡ true → can_store_exclusive rd rt rn ≡ false
 pc_store_exclusive rd rt rn h = and_left _ (not (rd == rt)) (and_left _ (not (rd == rn)) (and_left _ (not_pc rn) (and_right (plain rd) (plain rt) (pc_not_plain rt h))))
 
-pair_tests : (a b c g h : Bool) → (if c then false else (a && b && g && h)) ≡ (a && ((b && h) && ((not c && g) && true)))
-pair_tests false b true g h = refl
-pair_tests false b false g h = refl
-pair_tests true false true g h = refl
-pair_tests true false false g h = refl
-pair_tests true true true g h = sym (and_right h false refl)
-pair_tests true true false g true = refl
-pair_tests true true false g false = and_right g false refl
-
 -- ---- data instructions of 32 bits
 
 pub base_first : (a b : Bool) → (a && b) ≡ (b && (a && true))

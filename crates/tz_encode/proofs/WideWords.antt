@@ -4,7 +4,7 @@ use Rattle.std.specs.Prelude.{ℤ, pos, ◌==◌}
 use Rattle.std.proofs.lemmas.Bool.{eqb-false}
 use Rattle.tz_bits.specs.Values.{size_number, address_number, address_first, address_second, address_third}
 use Rattle.tz_table.specs.Fields.{bits}
-use Rattle.tz_table.specs.Terms.{size_of, indexed, far_offset}
+use Rattle.tz_table.specs.Terms.{size_of, indexed}
 use Rattle.tz_encode.proofs.FieldWords.{size_word}
 use Rattle.tz_encode.specs.Numbers.{far}
 use Rattle.tz_encode.proofs.Codings.{far_of_parts}
@@ -25,10 +25,6 @@ far_word s j k a b hs hj hk ha hb =
     ∙ ap (λ x. far_of_parts s j x (n % 2 ^ 22)) third
     ∙ ap (λ x. far_of_parts s j k x) rest
     ∙ omega arith
-
--- that of a code
-pub far_code : (f s : ℕ) → far (bits f 10 1 * 2 ^ 24 + bits s 13 1 * 2 ^ 23 + bits s 11 1 * 2 ^ 22 + bits f 0 10 * 2 ^ 12 + bits s 0 11 * 2 ^ 1) ≡ far_offset f s
-far_code f s = far_word (bits f 10 1) (bits s 13 1) (bits s 11 1) (bits f 0 10) (bits s 0 11) (omega arith) (omega arith) (omega arith) (omega arith) (omega arith)
 
 -- ---- loads and stores
 

@@ -34,7 +34,7 @@ use Rattle.tz_frames.specs.Enter.{Work, Done, is_secure, with_lock, chooses}
 
 -- ---- the value
 
--- an EXC_RETURN value: in Handler mode, bits 31:24 ones
+-- an EXC_RETURN value: bits 31:24 are ones
 abbrev pub is_exc_return : ℕ → Bool
 is_exc_return target = target / 2 ^ 24 == 255
 

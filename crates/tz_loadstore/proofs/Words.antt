@@ -15,10 +15,6 @@ abbrev pub read_on : {H : Type 0} → List ℕ → H × Result (List ℕ) Fault 
 read_on before (h, Ok words) = (h, Ok (before ++ words))
 read_on before (h, Err fault) = (h, Err fault)
 
-pub read_none : {H : Type 0} (a : H × Result (List ℕ) Fault) → read_on [] a ≡ a
-read_none (h, Ok words) = refl
-read_none (h, Err fault) = refl
-
 read_behind : {H : Type 0} (before : List ℕ) (word : ℕ) (a : H × Result (List ℕ) Fault) → read_on before (a.0, with_read word a.1) ≡ read_on (before ++ word ∷ []) a
 read_behind before word (h, Ok words) = rw append_snoc
 read_behind before word (h, Err fault) = refl

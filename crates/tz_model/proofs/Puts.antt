@@ -35,7 +35,7 @@ put_nothing written room = record {
   fits = nothing_fits room;
 }
 
--- what fits as a whole fits in its second part after the first
+-- room for two texts leaves, behind the first, room for the second
 fits_then : (room : Option ℕ) (a b : List ℕ) (r : Result Unit SinkError) →
     IfSome (space_after room (length a)) (λ n. length b ≤ n → IsOk r) → IfSome room (λ n. length (a ++ b) ≤ n → IsOk r)
 fits_then None a b r h = tt

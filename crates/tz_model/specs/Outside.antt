@@ -32,7 +32,7 @@ pub record Got (held : Held) (limit : ℕ) (old new : List ℕ) : Type 0 where
   pub short : length gained ≤ limit
   pub whole : IsWhole held gained
 
--- what was gained is a front of what is held
+-- the file begins with what was read of it; of none nothing was read
 abbrev pub IsFront : Held → List ℕ → Type 0
 IsFront Untold gained = Unit {0}
 IsFront Absent gained = gained ≡ []
@@ -44,7 +44,7 @@ pub record Cut (held : Held) (old new : List ℕ) : Type 0 where
   pub appended : new ≡ old ++ gained
   pub front : IsFront held gained
 
--- too long exactly where one byte more than the limit was gained
+-- `Long` comes with the byte behind the limit, and that byte with no other answer
 abbrev pub Long : ℕ → Result Unit ShelfError → List ℕ → List ℕ → Type 0
 Long limit result old new = (result ≡ Err shelf_errors.Long) ↔ (length new ≡ length old + (limit + 1))
 

@@ -54,7 +54,7 @@ impl Exceptions {
         self.bfhfnmins
     }
 
-    /// Whether NMI, BusFault or a HardFault of either side is pending or active.
+    /// Whether a slot of the exceptions that BFHFNMINS moves, BusFault, NMI and HardFault, is busy on any side.
     fn is_fault_side_held(&self) -> bool
         ensures { result ≡ is_fault_side_held self.now }
     {
@@ -68,8 +68,8 @@ impl Exceptions {
             || (hard_ns.pending | hard_ns.active)
     }
 
-    /// Writes AIRCR.BFHFNMINS, except while NMI, BusFault or a HardFault of either side is pending or active;
-    /// then it stays.
+    /// Writes AIRCR.BFHFNMINS where all slots of the exceptions that it moves are idle, and leaves it where one
+    /// is busy.
     pub fn set_fault_side(&mut self, on: bool)
         ensures { self.new ≡ with_fault_side self.old on }
     {

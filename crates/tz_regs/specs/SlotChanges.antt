@@ -41,11 +41,11 @@ with_prigroup e NonSecure n = record e { prigroup_ns = n }
 abbrev pub is_busy : SlotState → Bool
 is_busy slot = slot.pending || slot.active
 
--- NMI, BusFault or a HardFault of either side is pending or active
+-- a slot of the exceptions that BFHFNMINS moves, BusFault, NMI and HardFault, is busy on any side
 abbrev pub is_fault_side_held : ExceptionsValue → Bool
 is_fault_side_held e = is_busy (at e 4) || (is_busy (at e 10) || (is_busy (at e 6) || is_busy (at e 7)))
 
--- (own) BFHFNMINS stays while one of those is
+-- (own) BFHFNMINS stays while one of those slots is busy
 abbrev pub with_fault_side : ExceptionsValue → Bool → ExceptionsValue
 with_fault_side e on = record e { bfhfnmins = if is_fault_side_held e then e.bfhfnmins else on }
 

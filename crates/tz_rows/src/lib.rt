@@ -35,6 +35,7 @@ fn ask<'a, A: Answers>(answers: &A, line: &'a str, row: &mut Row<'a>) -> &'a str
         Some((fields, wanted)) => {
             row.ask(fields);
             answers.answer(row);
+            row.end();
             wanted.trim()
         }
         None => {

@@ -3,7 +3,8 @@
 use std::alloc::{AllocError, Global};
 use std::fmt::Write;
 
-/// A row. Where a field, a word or a number isn't there, something stands for it, and the row is unread.
+/// A row. Where a field, a word or a number isn't there, something stands for it, and the row is unread. It is, too, where
+/// a field or a word of a step stands behind all that are asked for.
 #[derive(Drop)]
 pub struct Row<'a> {
     /// Where memory comes from.
@@ -11,7 +12,11 @@ pub struct Row<'a> {
     /// The text that the row stands in.
     pub rows: &'a str,
     fields: &'a str,
+    /// How many fields, from the first on, there are to the last that was asked for.
+    fields_asked: usize,
     step: &'a str,
+    /// The same of the words of the step.
+    words_asked: usize,
     answer: String,
     is_unread: bool,
     is_short: bool,
@@ -39,7 +44,9 @@ impl<'a> Row<'a> {
             alloc,
             rows,
             fields: "",
+            fields_asked: 0,
             step: "",
+            words_asked: 0,
             answer: String::new(alloc),
             is_unread: false,
             is_short: false,
@@ -49,9 +56,19 @@ impl<'a> Row<'a> {
     /// Makes it another row: these fields, and no answer so far. That memory was refused stays.
     pub fn ask(&mut self, fields: &'a str) {
         self.fields = fields;
+        self.fields_asked = 0;
         self.step = "";
+        self.words_asked = 0;
         self.is_unread = false;
         self.answer.clear();
+    }
+
+    /// Ends what is asked of the row: it is unread where something stands behind that.
+    pub fn end(&mut self) {
+        self.begin("");
+        if field_of(self.fields, self.fields_asked).is_some() {
+            self.is_unread = true;
+        }
     }
 
     /// Says that the row can't be read.
@@ -70,20 +87,28 @@ impl<'a> Row<'a> {
         }
     }
 
-    /// Gives it the fields of the row that a line is.
+    /// Ends what is asked of its fields, and gives it those of the row that a line is.
     pub fn turn_to(&mut self, line: &'a str) {
+        self.end();
         let (fields, _) = line.split_once("=>").unwrap_or((line, ""));
         self.fields = fields;
+        self.fields_asked = 0;
+    }
+
+    /// The field at a place, where there is one.
+    fn asked_field(&mut self, index: usize) -> Option<&'a str> {
+        self.fields_asked = self.fields_asked.max(index.saturating_add(1));
+        field_of(self.fields, index)
     }
 
     /// The field at a place. Empty where there is none.
-    pub fn field_or_empty(&self, index: usize) -> &'a str {
-        field_of(self.fields, index).unwrap_or("")
+    pub fn field_or_empty(&mut self, index: usize) -> &'a str {
+        self.asked_field(index).unwrap_or("")
     }
 
     /// The field at a place, which has to be there.
     pub fn field(&mut self, index: usize) -> &'a str {
-        match field_of(self.fields, index) {
+        match self.asked_field(index) {
             Some(field) => field,
             None => {
                 self.is_unread = true;
@@ -128,13 +153,18 @@ impl<'a> Row<'a> {
 
 /// The words of the step that is done.
 impl<'a> Row<'a> {
-    /// Begins a step.
+    /// Begins a step. The row is unread where the step before has a word behind all that were asked for.
     pub fn begin(&mut self, step: &'a str) {
+        if self.step.split_whitespace().nth(self.words_asked).is_some() {
+            self.is_unread = true;
+        }
         self.step = step;
+        self.words_asked = 0;
     }
 
     /// What stands behind so many words of the step.
-    pub fn behind(&self, words: usize) -> &'a str {
+    pub fn behind(&mut self, words: usize) -> &'a str {
+        self.words_asked = usize::MAX;
         let mut rest = self.step.trim();
         for _ in 0..words {
             let (_, behind) = rest.split_once(' ').unwrap_or((rest, ""));
@@ -145,6 +175,7 @@ impl<'a> Row<'a> {
 
     /// The word at a place, which has to be there.
     pub fn word(&mut self, index: usize) -> &'a str {
+        self.words_asked = self.words_asked.max(index.saturating_add(1));
         match self.step.split_whitespace().nth(index) {
             Some(word) => word,
             None => {

@@ -1,9 +1,11 @@
 //! Doubles of the shelf, in memory, for tests: a sound one, and one that fails at listed calls.
 
-ghost use Rattle.std.specs.Prelude.{◌≡◌, ◌≢◌, ◌<◌, ◌^◌, OnOk, OnErr, MatchOption};
+ghost use Rattle.std.specs.Prelude.{◌≡◌, ◌≢◌, ◌<◌, ◌≤◌, ◌+◌, ◌^◌, length, OnOk, OnErr, MatchOption};
+ghost use Rattle.std.specs.String.{string_bytes};
 ghost use Rattle.tz_model.specs.Outside.{Absent, HasCause, Holds, Got, Cut, Long};
 ghost use Rattle.tz_rows.specs.Shelves.{held_in};
 
+use std::alloc::{AllocError, Global};
 use tz_model::{Shelf, ShelfError};
 
 /// A file: its name and its bytes.
@@ -36,6 +38,7 @@ fn give(bytes: &[u8], limit: usize, into: &mut Vec<u8>) -> Result<(), ShelfError
     ensures ok { OnOk result (Got (Holds bytes.now) limit into.old.items into.new.items) }
     ensures err { OnErr result (Cut (Holds bytes.now) into.old.items into.new.items) }
     ensures long { Long limit result into.old.items into.new.items }
+    ensures within { length into.new.items ≤ length into.old.items + (limit + 1) }
     ensures no_fault { result ≢ Err ShelfError.Failed }
 {
     if bytes.len() > limit {
@@ -70,6 +73,7 @@ fn look(
     ensures ok { OnOk result (Got (held_in files.now name.now) limit into.old.items into.new.items) }
     ensures err { OnErr result (Cut (held_in files.now name.now) into.old.items into.new.items) }
     ensures long { Long limit result into.old.items into.new.items }
+    ensures within { length into.new.items ≤ length into.old.items + (limit + 1) }
     ensures cause { HasCause faults.old faults.new (result ≡ Err ShelfError.Failed) }
     ensures sound { result ≡ Err ShelfError.Failed → held_in files.now name.now ≡ Absent }
 {
@@ -97,18 +101,20 @@ impl Shelf for MemoryShelf {
     }
 }
 
-/// A shelf that fails at the listed calls, counted from 0, and for the names that it doesn't hold.
+/// A shelf that fails at the listed calls, counted from 0, and for the names that it doesn't hold. It keeps the names that
+/// it was asked for.
 #[derive(Drop)]
 pub struct FailingShelf {
     files: Vec<File>,
     failing: Vec<u64>,
     calls: u64,
+    asked: String,
     faults: u64,
 }
 
 impl FailingShelf {
     /// A shelf of these files that fails at these calls.
-    pub fn new(files: Vec<File>, failing: Vec<u64>) -> Self
+    pub fn new(alloc: Global, files: Vec<File>, failing: Vec<u64>) -> Self
         ensures files { result.files.items ≡ files.items }
         ensures failing { result.failing.items ≡ failing.items }
         ensures calls { result.calls ≡ 0 }
@@ -118,9 +124,23 @@ impl FailingShelf {
             files,
             failing,
             calls: 0,
+            asked: String::new(alloc),
             faults: 0,
         }
     }
+
+    /// The names that it was asked for in turn, each behind a blank.
+    pub fn asked(&self) -> &str
+        ensures { result.now ≡ string_bytes self.now.asked }
+    {
+        self.asked.as_str()
+    }
+}
+
+/// Appends a blank and a name.
+fn note(asked: &mut String, name: &str) -> Result<(), AllocError> {
+    asked.push_str(" ")?;
+    asked.push_str(name)
 }
 
 impl Shelf for FailingShelf {
@@ -136,6 +156,7 @@ impl Shelf for FailingShelf {
     fn get(&mut self, name: &str, limit: usize, into: &mut Vec<u8>) -> Result<(), ShelfError> {
         let call = self.calls;
         self.calls = self.calls.saturating_add(1);
+        note(&mut self.asked, name)?;
         if self.failing.contains(&call) {
             self.faults = self.faults.saturating_add(1);
             return Err(ShelfError::Failed);

@@ -64,10 +64,12 @@ impl Sink for MemorySink {
     }
 }
 
-/// A sink that fails at the listed calls, counted from 0, writes nothing in those, and tells no space.
+/// A sink that fails at the listed calls, counted from 0, writes nothing in those, and tells no space. It keeps where each
+/// piece ended.
 #[derive(Drop)]
 pub struct FailingSink {
     bytes: Vec<u8>,
+    ends: Vec<usize>,
     failing: Vec<u64>,
     calls: u64,
     faults: u64,
@@ -83,6 +85,7 @@ impl FailingSink {
     {
         FailingSink {
             bytes: Vec::new(alloc),
+            ends: Vec::new(alloc),
             failing,
             calls: 0,
             faults: 0,
@@ -94,6 +97,13 @@ impl FailingSink {
         ensures { result.now ≡ self.now.bytes.items }
     {
         &self.bytes
+    }
+
+    /// How many bytes were written at the end of each piece, in turn.
+    pub fn ends(&self) -> &[usize]
+        ensures { result.now ≡ self.now.ends.items }
+    {
+        &self.ends
     }
 }
 
@@ -110,7 +120,8 @@ impl Sink for FailingSink {
         let call = self.calls;
         self.calls = self.calls.saturating_add(1);
         let fails = self.failing.contains(&call);
-        if fails || self.bytes.extend_from_slice(bytes).is_err() {
+        let end = self.bytes.len().saturating_add(bytes.len());
+        if fails || self.ends.push(end).is_err() || self.bytes.extend_from_slice(bytes).is_err() {
             self.faults = self.faults.saturating_add(1);
             return Err(SinkError::Failed);
         }

@@ -41,7 +41,8 @@ with_stores stores p = record { state = p.state; stores = stores; ending = p.end
 abbrev pub crosses : Ended → Bool
 crosses e = e.ending.touched && is_nonsecure_side (side_of e.state)
 
--- EXC_RETURN.S in LR: Secure code was interrupted, and no Non-secure exception of Non-secure code goes on
+-- an entry to Non-secure code, by bit 6 of its LR: with 1 the code that stands interrupted is Secure; with 0 it is
+-- Non-secure, and the entry follows upon a Secure exception that ended
 abbrev pub kind_of_entry : ℕ → CrossKind
 kind_of_entry lr = if lr / 2 ^ 6 % 2 == 1 then Preempt else Chain
 

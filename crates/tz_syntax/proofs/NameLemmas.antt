@@ -44,10 +44,6 @@ pub special_text_above : (names : List (List ℕ)) (k : ℕ) → names ≡ nonse
 unfolding special_text
 special_text_above names k h l = grind (arith, h)
 
-pub register_text_fits : (k : ℕ) → length (register_text k) ≤ 3
-unfolding register_text
-register_text_fits k = name_fits registers 3 k refl
-
 pub special_text_fits : (k : ℕ) → length (special_text k) ≤ 12
 unfolding special_text
 special_text_fits k = grind (arith, name_fits specials 12 k refl, name_fits nonsecure_specials 12 (k - 0x88) refl)

@@ -47,15 +47,6 @@ abbrev pub all_before : List TokenValue → Option (List TokenValue) → Option 
 all_before tokens None = None
 all_before tokens (Some more) = Some (tokens ++ more)
 
-pub all_before-none : (rest : Option (List TokenValue)) → rest ≡ all_before [] rest
-all_before-none None = refl
-all_before-none (Some more) = refl
-
-pub all_before-push : (tokens : List TokenValue) (token : TokenValue) (rest : Option (List TokenValue))
-    → all_before tokens (before (Some token) rest) ≡ all_before (tokens ++ token ∷ []) rest
-all_before-push tokens token None = refl
-all_before-push tokens token (Some more) = ap Some (sym (append_assoc tokens (token ∷ []) more))
-
 -- nothing is left
 pub tokens_of-none : (rest : List ℕ) (tokens : List TokenValue) → length rest ≡ 0 → all_before tokens (tokens_of rest) ≡ Some tokens
 unfolding tokens_of tokens_behind

@@ -1,5 +1,5 @@
 -- The lines that went out so far, and those that are left.
-use Rattle.std.proofs.Common.{◌≡◌, ◌∙◌, ℕ, List, [], ◌++◌, Option, Ok, Err, sym, ap, subst, append_assoc, append-nil}
+use Rattle.std.proofs.Common.{◌≡◌, ◌∙◌, ℕ, List, [], ◌++◌, Option, Ok, Err, ap, subst, append_assoc}
 use Rattle.tz_model.specs.declared.outside.SinkError.{SinkError}
 use Rattle.tz_model.specs.Outside.{Put}
 use Rattle.tz_model.proofs.Puts.{put_nothing, put_then, put_failed}
@@ -26,8 +26,3 @@ module _ (whole : List ℕ) (w0 w w' : Option (List ℕ)) (r0 r r' : Option ℕ)
       let all : h.done ++ (line ++ more) ≡ whole = ap (λ (x : List ℕ). h.done ++ x) e ∙ h.text in
       subst (λ (x : List ℕ). Put w0 w' r0 r' x (Err error)) all
       (put_then w0 w w' r0 r r' h.done (line ++ more) (Err error) h.put (put_failed w w' r r' line more error p))
-
-pub sent_end : (whole : List ℕ) (w0 w : Option (List ℕ)) (r0 r : Option ℕ) (left : List ℕ) → Sent whole w0 w r0 r left → left ≡ [] → Put w0 w r0 r whole (Ok tt)
-sent_end whole w0 w r0 r left h e =
-    let all : h.done ≡ whole = sym (append-nil h.done) ∙ ap (λ (x : List ℕ). h.done ++ x) (sym e) ∙ h.text in
-    subst (λ (x : List ℕ). Put w0 w r0 r x (Ok tt)) all h.put

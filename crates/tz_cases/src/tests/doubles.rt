@@ -83,7 +83,7 @@ static SECOND_FAILS: [Reading; 4] = [
 #[test]
 fn failing_shelf(rt: HostRuntime) -> Result<(), Fail> {
     let failing = vec![in rt.alloc(); 1u64]?;
-    let mut shelf = FailingShelf::new(files(rt.alloc(), &FILE)?, failing);
+    let mut shelf = FailingShelf::new(rt.alloc(), files(rt.alloc(), &FILE)?, failing);
     check_readings(&rt, rt.alloc(), &mut shelf, &SECOND_FAILS);
     Ok(())
 }

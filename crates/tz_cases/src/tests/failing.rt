@@ -17,7 +17,7 @@ static FILES: [(&str, &str); 3] = [
 ];
 
 /// The words of a line.
-fn words_of(alloc: Global, line: &str) -> Result<Vec<String>, AllocError> {
+pub fn words_of(alloc: Global, line: &str) -> Result<Vec<String>, AllocError> {
     let mut words = Vec::new(alloc);
     for word in line.split_whitespace() {
         words.push(String::from_str(alloc, word)?)?;
@@ -35,7 +35,7 @@ fn failing_answer(
     let words = words_of(alloc, line)?;
     let mut out = FailingSink::new(alloc, vec![in alloc; put]?);
     let mut err = FailingSink::new(alloc, vec![in alloc; tell]?);
-    let mut shelf = FailingShelf::new(files(alloc, &FILES)?, vec![in alloc; get]?);
+    let mut shelf = FailingShelf::new(alloc, files(alloc, &FILES)?, vec![in alloc; get]?);
     let status = top(alloc, &words, &mut shelf, &mut out, &mut err);
     Ok((status, out, err))
 }

@@ -101,7 +101,8 @@ pub fn show_places(exceptions: &Exceptions, row: &mut Row<'_>) {
 
 /// Pends at most three events of a script: `due EVENT ..`.
 pub fn due(exceptions: &mut Exceptions, row: &mut Row<'_>) {
-    let (events, count) = events_of(row, row.behind(1));
+    let words = row.behind(1);
+    let (events, count) = events_of(row, words);
     exceptions.pend_due(&events[..count.min(3)]);
 }
 

@@ -23,11 +23,10 @@ fn bus_of(alloc: Global, profile: Profile) -> Result<Bus, AllocError> {
 
 /// The names of steps, in the order of the places by which they are taken: plain accesses and the monitor, the units from
 /// "set" on, accesses with their checks from "check" on, fetches from "fetch" on, and frames from "vector" on.
-static STEPS: [&str; 26] = [
+static STEPS: [&str; 25] = [
     "write",
     "read",
     "place",
-    "mapped",
     "put",
     "exclusive",
     "take",
@@ -55,10 +54,10 @@ static STEPS: [&str; 26] = [
 impl Steps for Bus {
     fn step(&mut self, name: &str, asked: &Asked, row: &mut Row<'_>) {
         match place_of(&STEPS, name) {
-            place @ 0..=8 => plain::step(self, place, asked, row),
-            place @ 9..=16 => units::step(self, place, asked, row),
-            place @ 17..=19 => accesses::step(self, place, asked, row),
-            place @ 20..=21 => fetches::step(self, place, asked, row),
+            place @ 0..=7 => plain::step(self, place, asked, row),
+            place @ 8..=15 => units::step(self, place, asked, row),
+            place @ 16..=18 => accesses::step(self, place, asked, row),
+            place @ 19..=20 => fetches::step(self, place, asked, row),
             place => frames::step(self, place, asked, row),
         }
     }

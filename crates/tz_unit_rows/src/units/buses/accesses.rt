@@ -41,12 +41,12 @@ pub fn step(bus: &mut Bus, place: usize, asked: &Asked, row: &mut Row<'_>) {
     let [addr, value, ..] = asked.numbers;
     let (aligned, user) = (asked.aligned, asked.unprivileged);
     match (place, asked.count) {
-        (17, 1) => tell_place(row, &checked(bus, asked)),
-        (18, 2) => {
+        (16, 1) => tell_place(row, &checked(bus, asked)),
+        (17, 2) => {
             let answer = bus.store(&asker, asked.size, addr, value, aligned, user);
             tell_place(row, &answer)
         }
-        (19, 1) => match bus.load(&asker, asked.size, addr, aligned, user) {
+        (18, 1) => match bus.load(&asker, asked.size, addr, aligned, user) {
             Ok(found) => tell_number(row, found, "system"),
             Err(fault) => tell_fault(row, &fault),
         },

@@ -37,7 +37,7 @@ pub fn step(bus: &mut Bus, place: usize, asked: &Asked, row: &mut Row<'_>) {
     };
     let addr = asked.numbers[0];
     match (place, asked.count) {
-        (20, 1) => {
+        (19, 1) => {
             let answer = bus.fetch(
                 addr,
                 fetcher.side,
@@ -47,7 +47,7 @@ pub fn step(bus: &mut Bus, place: usize, asked: &Asked, row: &mut Row<'_>) {
             );
             tell(row, &answer)
         }
-        (21, 1) => {
+        (20, 1) => {
             let told = bus.fetch_told(addr, &fetcher);
             tell(row, &told.answer);
             row.tell(if told.touched { " touched" } else { "" })

@@ -20,10 +20,10 @@ pub fn step(bus: &mut Bus, place: usize, asked: &Asked, row: &mut Row<'_>) {
         room: 40,
     };
     let answer = match (place, asked.count) {
-        (22, 3) => frames.vector(row.half_in(number), asked.side),
-        (23, 1) => frames.frame_load(first, asked.side, asked.privileged),
-        (24, 1) => frames.secure_load(first),
-        (25, 2) => match frames.frame_store(first, asked.side, asked.privileged, second) {
+        (21, 3) => frames.vector(row.half_in(number), asked.side),
+        (22, 1) => frames.frame_load(first, asked.side, asked.privileged),
+        (23, 1) => frames.secure_load(first),
+        (24, 2) => match frames.frame_store(first, asked.side, asked.privileged, second) {
             Ok(()) => {
                 row.tell("stored, room ");
                 return row.tell_decimal(i64::from(frames.room));

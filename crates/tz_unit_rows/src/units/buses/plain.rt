@@ -19,7 +19,7 @@ fn put(bus: &mut Bus, asked: &Asked, row: &mut Row<'_>) {
 }
 
 /// Takes a step by its place: `write ADDRESS NUMBER` and `read ADDRESS` with a size; `place ADDRESS BYTE`, which tells
-/// whether it is mapped; `mapped ADDRESS`, whether a word is; `put ADDRESS HALF ..`; `exclusive ADDRESS` with a size,
+/// whether it is mapped; `put ADDRESS HALF ..`; `exclusive ADDRESS` with a size,
 /// which sets the monitor; `take ADDRESS` with a size, whether the monitor holds it, which then holds nothing; `clear`;
 /// and `held`, the address that the monitor holds.
 pub fn step(bus: &mut Bus, place: usize, asked: &Asked, row: &mut Row<'_>) {
@@ -31,18 +31,17 @@ pub fn step(bus: &mut Bus, place: usize, asked: &Asked, row: &mut Row<'_>) {
             let byte = row.byte_in(number);
             tell_truth(row, bus.place(addr, byte).is_ok())
         }
-        (3, 1) => tell_truth(row, bus.is_word_mapped(addr)),
-        (4, _) => put(bus, asked, row),
-        (5, 1) => {
+        (3, _) => put(bus, asked, row),
+        (4, 1) => {
             bus.monitor_set(addr, asked.size);
             row.tell("set")
         }
-        (6, 1) => tell_truth(row, bus.monitor_take(addr, asked.size)),
-        (7, 0) => {
+        (5, 1) => tell_truth(row, bus.monitor_take(addr, asked.size)),
+        (6, 0) => {
             bus.monitor_clear();
             row.tell("cleared")
         }
-        (8, 0) => match bus.monitor() {
+        (7, 0) => match bus.monitor() {
             Some((addr, _)) => row.tell_hex(addr),
             None => row.tell("none"),
         },

@@ -39,23 +39,23 @@ pub fn step(bus: &mut Bus, place: usize, asked: &Asked, row: &mut Row<'_>) {
     let [first, second, ..] = asked.numbers;
     let side = asked.side;
     match (place, asked.count) {
-        (9, 2) => {
+        (8, 2) => {
             bus.set_register(first, side, second);
             row.tell("set")
         }
-        (10, 1) => row.tell_hex(bus.register(first, side)),
-        (11, 3) => set_region(bus, SAU_RNR, asked, row),
-        (12, 3) => set_region(bus, MPU_RNR, asked, row),
-        (13, 1) => {
+        (9, 1) => row.tell_hex(bus.register(first, side)),
+        (10, 3) => set_region(bus, SAU_RNR, asked, row),
+        (11, 3) => set_region(bus, MPU_RNR, asked, row),
+        (12, 1) => {
             let region = row.byte_in(first);
             tell_region(row, bus.sau().region(region))
         }
-        (14, 1) => {
+        (13, 1) => {
             let region = row.byte_in(first);
             tell_region(row, bus.mpu(side).region(region))
         }
-        (15, 1) => tell_attribute(bus, asked, row),
-        (16, 1) => row.tell_hex(bus.test_target(
+        (14, 1) => tell_attribute(bus, asked, row),
+        (15, 1) => row.tell_hex(bus.test_target(
             first,
             side,
             asked.privileged,
