@@ -1,5 +1,5 @@
 -- What the active slots tell.
-use Rattle.std.proofs.Common.{◌≡◌, ℕ, zero, suc, Bool, true, false, cond, refl, ap, ◌∙◌, arith}
+use Rattle.std.proofs.Common.{◌≡◌, ℕ, zero, suc, Bool, true, false, cond, refl, ap, ◌∙◌}
 use Rattle.std.specs.Prelude.{◌==◌, ◌&&◌, ◌||◌, not}
 use Rattle.tz_regs.specs.Slots.{ExceptionsValue, number_at}
 use Rattle.tz_regs.specs.Execution.{is_active}
