@@ -15,16 +15,15 @@ use Rattle.tz_regs.specs.declared.taken.Taken.TheVariants.{AsIs, Hard, Lockup}
 use Rattle.tz_regs.specs.Slots.{ExceptionsValue, idle, at, places, index_of, number_at, slot_at}
 use Rattle.tz_regs.specs.SlotChanges.{pended}
 use Rattle.tz_regs.specs.Priority.{priority_of, subpriority_of, rank_of, is_ready, chosen_place, slot_found, chosen}
-use Rattle.tz_regs.specs.Least.{least_below}
 use Rattle.tz_regs.specs.Escalation.{hard_side, escalated}
-use Rattle.tz_nvic.proofs.Least.{IsLeast, least_found}
+use Rattle.tz_nvic.proofs.Least.{least_found}
 use Rattle.tz_frames.specs.Looks.{Looking, Vector}
 use Rattle.tz_frames.specs.declared.frame.StackFault.{StackFault}
 use Rattle.tz_frames.specs.declared.entering.Choice.{Choice}
 use Rattle.tz_frames.specs.declared.entering.Choice.TheVariants as choices
-use Rattle.tz_frames.specs.Status.{Raised, slot, with_status, frame_status, frame_exception, raised_as, frame_faulted}
+use Rattle.tz_frames.specs.Status.{slot, with_status, frame_status, frame_exception, raised_as}
 use Rattle.tz_frames.specs.Stack.{Pushed, pushed_additional}
-use Rattle.tz_frames.specs.Enter.{Work, Chosen, Done, is_last_resort, can_harden, vector_choice, vector_failed, vectored_by, vectored, looking_at, falls, fallen, callee_process, callee_privileged, raised_choice, after_raise, stacked_by, stacked, taking, choosing_from, choosing, goes_on, tries}
+use Rattle.tz_frames.specs.Enter.{Work, Chosen, Done, is_last_resort, vector_choice, vector_failed, vectored_by, vectored, looking_at, falls, fallen, callee_process, callee_privileged, stacked_by, taking, choosing_from, choosing, goes_on, tries}
 
 -- ---- slots
 
@@ -86,13 +85,17 @@ low_is_last e i h = go (number_at i == 2) (number_at i == 3) refl refl where
   go false true p q = refl
   go false false p q = absurd (omega (arith, h, rank_high e i p q))
 
+and_true : (t : Bool) → t ≡ true → (t && true) ≡ true
+and_true true h = refl
+and_true false h = cc
+
 first_is_last : (e : ExceptionsValue) (i : ℕ) → Hardened e → chosen_place e ≡ Some i → IsLast i
 first_is_last e i (inl h) found =
     let k = least_found (is_ready e) (rank_of e) places i found in
-    low_is_last e i (omega (arith, k.least 6 (omega arith) h, rank_secure e))
+    low_is_last e i (omega (arith, k.least 6 (omega arith) (and_true (at e 6).pending h), rank_secure e))
 first_is_last e i (inr h) found =
     let k = least_found (is_ready e) (rank_of e) places i found in
-    low_is_last e i (omega (arith, k.least 7 (omega arith) h, rank_nonsecure e))
+    low_is_last e i (omega (arith, k.least 7 (omega arith) (and_true (at e 7).pending h), rank_nonsecure e))
 
 -- ---- one choice
 
@@ -252,7 +255,7 @@ unfolding choosing
 choosing_again look profile w P each = go (chosen w.exceptions) refl where
   go : (o : Option Slot) → chosen w.exceptions ≡ o → Again P (choosing_from look profile w o)
   go None f again = absurd cc
-  go (Some given) f = each given f
+  go (Some given) f again = each given f again
 
 -- ---- the choices of an entry
 
