@@ -30,4 +30,4 @@ pub mod Stepping
 pub mod Secured
 pub mod TwoRuns
 pub mod Unharmed
-pub mod Ways
+pub mod WaysOut

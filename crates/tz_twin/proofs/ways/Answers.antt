@@ -1,4 +1,4 @@
-use Rattle.tz_twin.proofs.Ways.{tells_way}
+use Rattle.tz_twin.proofs.WaysOut.{tells_way}
 use Rattle.tz_twin.proofs.ways.Goals as goal
 
 pub returns : goal.returns

@@ -1,18 +1,17 @@
 -- A step that crosses out of Secure state tells its way. Of Non-secure code it is refused. Of Secure code, what is seen after
 -- it is fixed by the crossing; without a way a handler's R4 would be the R4 that was seen before, whatever that was.
-use Rattle.std.proofs.Common.{◌≡◌, ℕ, Bool, true, false, ◌&&◌, cond, List, [], ◌∷◌, Option, Some, None, refl, sym, ap, ◌∙◌}
+use Rattle.std.proofs.Common.{◌≡◌, ℕ, Bool, true, false, cond, List, [], ◌∷◌, Option, Some, None, refl, ap, ◌∙◌}
 use Rattle.std.specs.Prelude.{is_some, slice_index}
 use Rattle.tz_table.specs.declared.units.Side.{Side}
 use Rattle.tz_table.specs.declared.units.Side.TheVariants.{Secure, NonSecure}
 use Rattle.tz_model.specs.declared.report.CrossKind.{CrossKind}
 use Rattle.tz_model.specs.declared.report.ScriptEvent.{ScriptEvent}
-use Rattle.tz_model.specs.declared.report.Way.{Way}
 use Rattle.tz_model.specs.Words.{is_nonsecure_side}
-use Rattle.tz_regs.specs.Registers.{side_in, before_in}
+use Rattle.tz_regs.specs.Registers.{side_in}
 use Rattle.tz_regs.specs.State.{State, side_of}
 use Rattle.tz_sem.specs.Ended.{Ended, crosses, way_by, kind_of}
-use Rattle.tz_sem.specs.Step.{stepped, step, started, ended}
-use Rattle.tz_twin.specs.Seen.{public_of, handed, crossing, Crossing, Seen, Shown, seen}
+use Rattle.tz_sem.specs.Step.{step, started, ended}
+use Rattle.tz_twin.specs.Seen.{public_of, handed, Crossing, Seen, Shown, seen}
 use Rattle.tz_twin.specs.Ways.{TellsWay}
 use Rattle.tz_twin.proofs.Split.{board_seen}
 use Rattle.tz_twin.proofs.After.{general_seen, after}
