@@ -72,6 +72,7 @@ impl Machine {
     ghost use Rattle.tz_model.specs.Codes.{meaning_of};
     ghost use Rattle.tz_sem.specs.Step.{past, goes_next, skips, goes_on, concludes, executes, faulting, placed, decoded, enters, looks, unready, course_in, instructs, idles, by_sleep, takes, ended, step};
     ghost use Rattle.tz_twin.specs.Integrity.{LeavesSecure, EntersSecure};
+    ghost use Rattle.tz_twin.specs.Ways.{TellsWay};
 
     /// The side whose code runs; of a locked machine the Secure one.
     pub fn side(&self) -> Side
@@ -410,6 +411,7 @@ impl Machine {
         ensures steps { step self.old due.now ≡ record { state = self.new; report = report.new } }
         ensures leaves_secure { LeavesSecure self.old (record { state = self.new; report = report.new }) }
         ensures enters_secure { EntersSecure self.old due.now (record { state = self.new; report = report.new }) }
+        ensures tells_way { TellsWay (record { state = self.new; report = report.new }) }
     {
         self.report_step(due, report);
     }
@@ -425,6 +427,7 @@ impl Machine {
         ensures steps { step self.old due.now ≡ record { state = self.new; report = result } }
         ensures leaves_secure { LeavesSecure self.old (record { state = self.new; report = result }) }
         ensures enters_secure { EntersSecure self.old due.now (record { state = self.new; report = result }) }
+        ensures tells_way { TellsWay (record { state = self.new; report = result }) }
     {
         let mut report = Report::new();
         self.step_into(due, &mut report);

@@ -1,5 +1,5 @@
 -- A return by its parts, each told by an equation.
-use Rattle.std.proofs.Common.{◌≡◌, ℕ, Option, false, refl, ap, sym, ◌∙◌}
+use Rattle.std.proofs.Common.{◌≡◌, ℕ, Option, ap, sym, ◌∙◌}
 use Rattle.tz_model.specs.declared.board.Profile.{Profile}
 use Rattle.tz_model.specs.declared.report.Fault.{Fault}
 use Rattle.tz_model.specs.declared.report.Slot.{Slot}

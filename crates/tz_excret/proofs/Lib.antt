@@ -1,3 +1,4 @@
 pub mod Leaves
 pub mod Banked
 pub mod Tries
+mod Bound

@@ -4,6 +4,12 @@
 //! Each call is its definition in `tz_frames`. Nothing here reaches memory but through the frames.
 #![tactic(auto)]
 
+ghost use Rattle.std.specs.Prelude.{◌≡◌, ◌≤◌, ℕ, length};
+ghost use Rattle.tz_model.specs.declared.board.Profile.{Profile};
+ghost use Rattle.tz_regs.specs.Slots.{places};
+ghost use Rattle.tz_frames.specs.Machine.{Framed, framed};
+ghost use Rattle.tz_frames.specs.Enter.{Work, tries, chooses};
+
 mod choice;
 mod choices;
 mod entering;
@@ -22,3 +28,9 @@ pub use leaving::leave;
 pub use noted::is_exc_return;
 pub use raise::raise_fault;
 pub use tz_frames::{Entered, Left};
+
+/// The bound of the choices of an entry or a tail-chain bounds nothing: with each bound from three on they end alike. So no
+/// fourth choice is ever made.
+pub fn choices_are_enough()
+    ensures { (profile : Profile) (w : Work Framed) (n : ℕ) → length w.exceptions.slots ≡ places → 3 ≤ n → tries framed profile n w ≡ chooses framed profile w }
+{}

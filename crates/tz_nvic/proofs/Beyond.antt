@@ -6,7 +6,7 @@ use Rattle.tz_regs.specs.Slots.{ExceptionsValue, is_place}
 use Rattle.tz_regs.specs.Least.{least_below}
 use Rattle.tz_regs.specs.Priority.{is_ready, rank_of, chosen_place}
 use Rattle.tz_regs.specs.Execution.{is_active, active_below, raw_priority}
-use Rattle.tz_nvic.specs.Numbers.{numbers_below, active_numbers}
+use Rattle.tz_nvic.specs.ActiveSlots.{active_slots_below, active_slots}
 
 beyond : (e : ExceptionsValue) (j : ℕ) → e.interrupts + 32 ≤ j → is_place e j ≡ false
 beyond e j h =
@@ -39,9 +39,9 @@ same_priority : (e : ExceptionsValue) (n : ℕ) → is_active e n ≡ false → 
 unfolding active_below
 same_priority e n h = rw h refl
 
-same_numbers : (e : ExceptionsValue) (n : ℕ) → is_active e n ≡ false → numbers_below e (suc n) ≡ numbers_below e n
-unfolding numbers_below
-same_numbers e n h = rw h refl
+same_slots : (e : ExceptionsValue) (n : ℕ) → is_active e n ≡ false → active_slots_below e (suc n) ≡ active_slots_below e n
+unfolding active_slots_below
+same_slots e n h = rw h refl
 
 pub chosen_below : (e : ExceptionsValue) → e.interrupts ≤ 240 → chosen_place e ≡ least_below (is_ready e) (rank_of e) (e.interrupts + 32)
 chosen_below e h =
@@ -50,5 +50,5 @@ chosen_below e h =
 pub raw_below : (e : ExceptionsValue) → e.interrupts ≤ 240 → raw_priority e ≡ active_below e (e.interrupts + 32)
 raw_below e h = stays (is_active e) (active_below e) (same_priority e) (e.interrupts + 32) (not_active e) 272 (omega arith)
 
-pub all_numbers : (e : ExceptionsValue) → e.interrupts ≤ 240 → active_numbers e ≡ numbers_below e (e.interrupts + 32)
-all_numbers e h = stays (is_active e) (numbers_below e) (same_numbers e) (e.interrupts + 32) (not_active e) 272 (omega arith)
+pub all_active_slots : (e : ExceptionsValue) → e.interrupts ≤ 240 → active_slots e ≡ active_slots_below e (e.interrupts + 32)
+all_active_slots e h = stays (is_active e) (active_slots_below e) (same_slots e) (e.interrupts + 32) (not_active e) 272 (omega arith)

@@ -1,6 +1,6 @@
 pub mod Least
 pub mod Rank
 pub mod Places
-pub mod Numbers
+pub mod ActiveSlots
 pub mod Timers
 pub mod Beyond

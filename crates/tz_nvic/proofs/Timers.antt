@@ -11,8 +11,8 @@ use Rattle.tz_regs.specs.Slots.{ExceptionsValue, number_at, timer_of}
 use Rattle.tz_regs.specs.Priority.{rank_of, priority_of, subpriority_of, chosen_place}
 use Rattle.tz_regs.specs.Execution.{is_active, active_below}
 use Rattle.tz_nvic.specs.declared.known.Known.{Known}
-use Rattle.tz_nvic.specs.declared.active.Numbers.{Numbers}
-use Rattle.tz_nvic.specs.Numbers.{numbers_below, number_added}
+use Rattle.tz_nvic.specs.declared.active.ActiveSlots.{ActiveSlots}
+use Rattle.tz_nvic.specs.ActiveSlots.{active_slots_below, slot_added}
 use Rattle.tz_nvic.specs.Known.{IsKnown}
 
 abbrev timed : ExceptionsValue → Timer → Timer → ExceptionsValue
@@ -33,10 +33,10 @@ same_least e s ns (suc n) =
     ap (λ (p : ℕ). if is_active e n then min p (active_below (timed e s ns) n) else active_below (timed e s ns) n) (same_priority e s ns n)
     ∙ ap (λ (r : ℕ). if is_active e n then min (priority_of e n) r else r) (same_least e s ns n)
 
-same_numbers : (e : ExceptionsValue) (s ns : Timer) (n : ℕ) → numbers_below (timed e s ns) n ≡ numbers_below e n
-unfolding numbers_below
-same_numbers e s ns zero = refl
-same_numbers e s ns (suc n) = ap (λ (r : Numbers). if is_active e n then number_added (number_at n) r else r) (same_numbers e s ns n)
+same_slots : (e : ExceptionsValue) (s ns : Timer) (n : ℕ) → active_slots_below (timed e s ns) n ≡ active_slots_below e n
+unfolding active_slots_below
+same_slots e s ns zero = refl
+same_slots e s ns (suc n) = ap (λ (r : ActiveSlots). if is_active e n then slot_added (number_at n) r else r) (same_slots e s ns n)
 
 still_known : (e : ExceptionsValue) (s ns : Timer) (k : Known) → IsKnown e k → IsKnown (timed e s ns) k
 still_known e s ns k h =
@@ -47,7 +47,7 @@ still_known e s ns k h =
       raw = h.raw ∙ sym (same_least e s ns 272);
       least = h.least;
       interrupt = h.interrupt;
-      numbers = h.numbers ∙ sym (same_numbers e s ns 272);
+      active = h.active ∙ sym (same_slots e s ns 272);
     }
 
 -- what is known stays so while the timers change

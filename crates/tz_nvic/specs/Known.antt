@@ -4,7 +4,7 @@ use Rattle.tz_regs.specs.Slots.{ExceptionsValue, is_place}
 use Rattle.tz_regs.specs.Priority.{chosen_place}
 use Rattle.tz_regs.specs.Execution.{raw_priority}
 use Rattle.tz_regs.specs.ControlRegisters.{is_interrupt_pending}
-use Rattle.tz_nvic.specs.Numbers.{active_numbers}
+use Rattle.tz_nvic.specs.ActiveSlots.{active_slots}
 use Rattle.tz_nvic.specs.declared.known.Known.{Known}
 
 -- it is what a look at these exceptions finds
@@ -15,4 +15,4 @@ pub record IsKnown (e : ExceptionsValue) (k : Known) : Type 0 where
   pub raw : k.raw ≡ raw_priority e
   pub least : k.raw ≤ 260
   pub interrupt : k.interrupt ≡ is_interrupt_pending e
-  pub numbers : k.numbers ≡ active_numbers e
+  pub active : k.active ≡ active_slots e

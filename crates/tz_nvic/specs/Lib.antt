@@ -1,3 +1,3 @@
-pub mod Numbers
+pub mod ActiveSlots
 pub mod Known
 pub mod Viewed

@@ -1,51 +1,44 @@
-//! What is active: its least priority, and its numbers.
+//! What is active: its least priority, and whether it is one slot or several.
 
 ghost use Rattle.std.specs.Prelude.{◌≡◌, ◌≤◌, ◌<◌, min, if◌then◌else◌};
 ghost use Rattle.tz_regs.specs.Priority.{priority_of};
 ghost use Rattle.tz_regs.specs.Execution.{is_active, raw_priority};
 ghost use Rattle.tz_regs.specs.Slots.{number_at};
-ghost use Rattle.tz_nvic.specs.Numbers.{number_added, has_other, active_numbers};
+ghost use Rattle.tz_nvic.specs.ActiveSlots.{slot_added, has_other, active_slots};
 
 use crate::exceptions::Exceptions;
 use crate::place::number_at;
 
-/// The numbers of the active exceptions, as far as they tell whether there is one beside a given number.
+/// What is active, as far as it tells whether there is a slot beside one of a given number.
 #[derive(Clone, Copy)]
-pub(crate) enum Numbers {
+pub(crate) enum ActiveSlots {
     /// Nothing is active.
     Nothing,
-    /// All that is active has this number.
+    /// One slot is active, of this number.
     One(u16),
-    /// Exceptions of several numbers are active.
+    /// Two slots or more are active. Both may have one number, on either side.
     Several,
 }
 
-impl Numbers {
-    /// The numbers with one more.
-    fn with(self, number: u16) -> Numbers
-        ensures { result ≡ number_added number self }
+impl ActiveSlots {
+    /// With one more slot, of a given number.
+    fn with(self, number: u16) -> ActiveSlots
+        ensures { result ≡ slot_added number self }
     {
         match self {
-            Numbers::Nothing => Numbers::One(number),
-            Numbers::One(other) => {
-                if other == number {
-                    self
-                } else {
-                    Numbers::Several
-                }
-            }
-            Numbers::Several => self,
+            ActiveSlots::Nothing => ActiveSlots::One(number),
+            ActiveSlots::One(_) | ActiveSlots::Several => ActiveSlots::Several,
         }
     }
 
-    /// Whether one of them is another than a given number.
+    /// Whether there is one beside a slot of a given number.
     pub(crate) fn has_other(self, number: u16) -> bool
         ensures { result ≡ has_other self number }
     {
         match self {
-            Numbers::Nothing => false,
-            Numbers::One(other) => other != number,
-            Numbers::Several => true,
+            ActiveSlots::Nothing => false,
+            ActiveSlots::One(other) => other != number,
+            ActiveSlots::Several => true,
         }
     }
 }
@@ -87,26 +80,26 @@ impl Exceptions {
     }
 
     /// What is known with one more place.
-    fn numbers_with(&self, index: usize, numbers: Numbers) -> Numbers
+    fn slots_with(&self, index: usize, active: ActiveSlots) -> ActiveSlots
         requires { index < 272 }
-        ensures { result ≡ (if is_active self.now index then number_added (number_at index) numbers else numbers) }
+        ensures { result ≡ (if is_active self.now index then slot_added (number_at index) active else active) }
     {
         if self.is_active(index) {
-            numbers.with(number_at(index))
+            active.with(number_at(index))
         } else {
-            numbers
+            active
         }
     }
 
-    /// The numbers of the active exceptions, by a look at each slot.
-    #[tactic(auto, unfolding(crate::specs::Numbers::numbers_below))]
-    pub(crate) fn active_numbers(&self) -> Numbers
-        ensures { result ≡ active_numbers self.now }
+    /// The active slots, by a look at each.
+    #[tactic(auto, unfolding(crate::specs::ActiveSlots::active_slots_below))]
+    pub(crate) fn active_slots(&self) -> ActiveSlots
+        ensures { result ≡ active_slots self.now }
     {
-        let mut numbers = Numbers::Nothing;
+        let mut active = ActiveSlots::Nothing;
         for index in 0..self.end() {
-            numbers = self.numbers_with(index, numbers);
+            active = self.slots_with(index, active);
         }
-        numbers
+        active
     }
 }

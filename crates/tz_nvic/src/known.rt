@@ -5,10 +5,10 @@ ghost use Rattle.tz_regs.specs.Slots.{exists, is_place};
 ghost use Rattle.tz_regs.specs.Priority.{chosen_place, chosen};
 ghost use Rattle.tz_regs.specs.Execution.{raw_priority};
 ghost use Rattle.tz_regs.specs.ControlRegisters.{is_interrupt_pending, returns_to_base};
-ghost use Rattle.tz_nvic.specs.Numbers.{active_numbers};
+ghost use Rattle.tz_nvic.specs.ActiveSlots.{active_slots};
 ghost use Rattle.tz_nvic.specs.Known.{IsKnown};
 
-use crate::active::Numbers;
+use crate::active::ActiveSlots;
 use crate::exceptions::Exceptions;
 use std::sync::ledger::Ledger;
 use tz_model::Slot;
@@ -23,8 +23,8 @@ pub(crate) struct Known {
     raw: u32,
     /// Whether an external interrupt is pending.
     interrupt: bool,
-    /// The numbers of the active slots.
-    numbers: Numbers,
+    /// The active slots.
+    active: ActiveSlots,
 }
 
 impl Exceptions {
@@ -37,7 +37,7 @@ impl Exceptions {
             chosen: self.chosen_place(steps),
             raw: self.least_active(),
             interrupt: self.any_pending(),
-            numbers: self.active_numbers(),
+            active: self.active_slots(),
         }
     }
 
@@ -67,13 +67,13 @@ impl Exceptions {
         }
     }
 
-    /// The numbers of the active slots.
-    fn numbers(&self) -> Numbers
-        ensures { result ≡ active_numbers self.now }
+    /// The active slots, as far as RETTOBASE needs them.
+    fn known_active(&self) -> ActiveSlots
+        ensures { result ≡ active_slots self.now }
     {
         match &self.known {
-            Some(known) => known.numbers,
-            None => self.active_numbers(),
+            Some(known) => known.active,
+            None => self.active_slots(),
         }
     }
 
@@ -114,11 +114,11 @@ impl Exceptions {
     }
 
     /// ICSR.RETTOBASE in a handler of an exception number, 0 in Thread mode: whether an exception is handled and
-    /// none of another number is active.
-    #[tactic(auto, using(crate::proofs::Numbers::others_told))]
+    /// no slot is active but one of its number. Two slots of one number, of both sides, are two.
+    #[tactic(auto, using(crate::proofs::ActiveSlots::others_told))]
     pub fn returns_to_base(&self, ipsr: u16) -> bool
         ensures { result ≡ returns_to_base self.now ipsr }
     {
-        ipsr != 0 && !self.numbers().has_other(ipsr)
+        ipsr != 0 && !self.known_active().has_other(ipsr)
     }
 }

@@ -64,11 +64,11 @@ pending_number NonSecure (Some slot) = if is_nonsecure_side slot.side then slot.
 abbrev pub is_interrupt_pending : ExceptionsValue → Bool
 is_interrupt_pending e = any_below (λ n. (at e (32 + n)).pending) e.interrupts
 
--- an exception of another number is active at a place
+-- a slot is active at a place beside the one that is handled: of another number, or the second that is active
 abbrev pub is_other_active : ExceptionsValue → ℕ → ℕ → Bool
-is_other_active e ipsr i = is_active e i && not (number_at i == ipsr)
+is_other_active e ipsr i = is_active e i && (not (number_at i == ipsr) || any_below (is_active e) i)
 
--- RETTOBASE: an exception is handled, and none of another number is active
+-- RETTOBASE: an exception is handled, and no slot is active but one of its number
 abbrev pub returns_to_base : ExceptionsValue → ℕ → Bool
 returns_to_base e ipsr = not (ipsr == 0) && not (any_below (is_other_active e ipsr) places)
 

@@ -30,3 +30,4 @@ pub mod Stepping
 pub mod Secured
 pub mod TwoRuns
 pub mod Unharmed
+pub mod WaysOut

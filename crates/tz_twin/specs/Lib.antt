@@ -1,3 +1,4 @@
 pub mod Seen
 pub mod Trace
 pub mod Integrity
+pub mod Ways

@@ -16,6 +16,7 @@ ghost use Rattle.tz_sem.specs.Run.{Events};
 ghost use Rattle.tz_twin.specs.Seen.{Agree};
 ghost use Rattle.tz_twin.specs.Trace.{text_from};
 ghost use Rattle.tz_twin.specs.Integrity.{LeavesSecure, EntersSecure};
+ghost use Rattle.tz_twin.specs.Ways.{TellsWay};
 
 /// Isolation: two runs of a board, a Non-secure image and a script, with any two Secure images, that
 /// agree in what crosses out of Secure state print the same for Non-secure code.
@@ -30,4 +31,10 @@ pub fn isolation()
 pub fn integrity()
     ensures leaves { (s : State) (events : List ScriptEvent) → LeavesSecure s (step s events) }
     ensures enters { (s : State) (events : List ScriptEvent) → EntersSecure s events (step s events) }
+{}
+
+/// A step tells its way out of Secure state exactly where it crosses out: where it looked at Secure state and ends
+/// Non-secure.
+pub fn ways()
+    ensures { (s : State) (events : List ScriptEvent) → TellsWay (step s events) }
 {}

@@ -44,13 +44,25 @@ fn banked(core: &Core, side: Side) -> [u32; 14] {
 }
 
 /// The registers and states that stand once.
-static COMMON: [&str; 21] = [
+static COMMON: [&str; 22] = [
     "pc", "lr", "it", "ipsr", "sfsr", "sfar", "bfsr", "bfar", "hfsr", "flags", "pointer", "locked",
-    "event", "t", "handler", "n", "z", "c", "v", "q", "away",
+    "event", "t", "handler", "n", "z", "c", "v", "q", "away", "sleep",
 ];
 
+/// What a core waits for, by number: nothing, an interrupt, an event.
+static SLEEPS: [Sleep; 3] = [Sleep::Awake, Sleep::Wfi, Sleep::Wfe];
+
+/// The number of what a core waits for.
+fn sleep_number(sleep: Sleep) -> u32 {
+    match sleep {
+        Sleep::Awake => 0,
+        Sleep::Wfi => 1,
+        Sleep::Wfe => 2,
+    }
+}
+
 /// What they hold. `away` is 1 where the core isn't Secure, or isn't awake.
-fn common(core: &Core) -> [u32; 21] {
+fn common(core: &Core) -> [u32; 22] {
     let away = !matches!(core.side(), Side::Secure) || !matches!(core.sleep(), Sleep::Awake);
     [
         core.pc(),
@@ -74,6 +86,7 @@ fn common(core: &Core) -> [u32; 21] {
         u32::from(core.v()),
         u32::from(core.q()),
         u32::from(away),
+        sleep_number(core.sleep()),
     ]
 }
 
@@ -230,11 +243,18 @@ fn put(core: &mut Core, row: &mut Row<'_>) {
         6 => core.set_bfsr(value),
         7 => core.set_bfar(value),
         8 => core.set_hfsr(value),
+        21 => match SLEEPS.get(value as usize) {
+            Some(sleep) => core.set_sleep(*sleep),
+            None => row.refuse(),
+        },
         _ if value > 1 => row.refuse(),
-        12 => core.event = value == 1,
+        11 => core.set_locked(value == 1),
+        12 => core.set_event(value == 1),
         13 => core.set_t(value == 1),
         15 => core.set_n(value == 1),
+        16 => core.set_z(value == 1),
         17 => core.set_c(value == 1),
+        18 => core.set_v(value == 1),
         19 => core.set_q(value == 1),
         _ => row.refuse(),
     }
