@@ -1,5 +1,5 @@
 -- How entries and returns of Non-secure code get to Secure code: facts of one run.
-use Rattle.std.proofs.Common.{◌≡◌, ℕ, ◌+◌, ◌%◌, ◌^◌, ◌==◌, Bool, true, false, ◌||◌, cond, List, Option, Some, None, Result, Ok, Err, refl, ap, ◌∙◌, subst, arith}
+use Rattle.std.proofs.Common.{◌≡◌, ℕ, ◌+◌, ◌%◌, ◌^◌, ◌==◌, Bool, true, false, ◌&&◌, ◌||◌, not, cond, List, Option, Some, None, Result, Ok, Err, refl, ap, ◌∙◌, subst, inl, inr, arith}
 use Rattle.std.proofs.lemmas.Bool.Decides.{nat_tests}
 use Rattle.tz_table.specs.declared.units.Side.{Side}
 use Rattle.tz_table.specs.declared.units.Side.TheVariants.{Secure, NonSecure}
@@ -10,7 +10,7 @@ use Rattle.tz_model.specs.declared.report.Fault.TheVariants.{InvPc}
 use Rattle.tz_model.specs.Words.{wrap, even_of, is_nonsecure_side}
 use Rattle.tz_regs.specs.declared.parts.Core.{Core}
 use Rattle.tz_regs.specs.declared.parts.Stacks.{Stacks}
-use Rattle.tz_regs.specs.Registers.{uses_process, sp_of}
+use Rattle.tz_regs.specs.Registers.{sp_of}
 use Rattle.tz_regs.specs.declared.request.Kind.TheVariants.{Read}
 use Rattle.tz_regs.specs.Memory.{Memory, word_at}
 use Rattle.tz_regs.specs.Slots.{ExceptionsValue}
@@ -37,39 +37,39 @@ use Rattle.tz_sem.specs.declared.ending.Course.{Course}
 use Rattle.tz_sem.specs.Ended.{Passed}
 use Rattle.tz_sem.specs.Taking.{state_of, locks, framed_in, taken_by, preempted, goes_on_at, passed_by, faults, left_by, returns}
 use Rattle.tz_sem.specs.Exchange.{core_back, back_with, looking, comes_back}
-use Rattle.tz_twin.specs.Integrity.{IsCallFrame, Came, ByException, ByReturn, ByUnstacking}
+use Rattle.tz_twin.specs.Integrity.{NumbersAgree, IsCallFrame, Came, ByException, ByReturn, ByUnstacking}
 use Rattle.tz_twin.proofs.ReturnSpares.{bits, leaves_still}
 
--- where it ends in Secure code, it came there so, with these Secure stacks before
-abbrev pub Comes : Stacks → Passed → Type 0
-Comes stacks p = is_nonsecure_side (side_of p.state) ≡ false → p.state.core.run.locked ≡ false → Came stacks p.state p.ending.cause
+-- where it ends in Secure code, it came there so, with this IPSR and these Secure stacks before
+abbrev pub Comes : ℕ → Stacks → Passed → Type 0
+Comes ipsr stacks p = is_nonsecure_side (side_of p.state) ≡ false → p.state.core.run.locked ≡ false → Came ipsr stacks p.state p.ending.cause
 
-comes_locks : (stacks : Stacks) (s : State) (touched : Bool) → Comes stacks (locks s touched)
-comes_locks stacks s touched = λ secure unlocked. absurd (cc)
+comes_locks : (ipsr : ℕ) (stacks : Stacks) (s : State) (touched : Bool) → Comes ipsr stacks (locks s touched)
+comes_locks ipsr stacks s touched = λ secure unlocked. absurd (cc)
 
 -- ---- entry
 
-comes_taken_by : (stacks : Stacks) (s : State) (course : Course) (result : Entered) → Comes stacks (taken_by s course result)
-comes_taken_by stacks s course (entered.Taken given touched) = λ secure unlocked. ByException refl
-comes_taken_by stacks s course (entered.Lockup touched) = comes_locks stacks s (course.touched || touched)
+comes_taken_by : (ipsr : ℕ) (stacks : Stacks) (s : State) (course : Course) (result : Entered) → Comes ipsr stacks (taken_by s course result)
+comes_taken_by ipsr stacks s course (entered.Taken given touched) = λ secure unlocked. ByException refl
+comes_taken_by ipsr stacks s course (entered.Lockup touched) = comes_locks ipsr stacks s (course.touched || touched)
 
-pub comes_preempted : (stacks : Stacks) (s : State) (course : Course) (back : ℕ) → Comes stacks (preempted s course back)
+pub comes_preempted : (ipsr : ℕ) (stacks : Stacks) (s : State) (course : Course) (back : ℕ) → Comes ipsr stacks (preempted s course back)
 unfolding preempted
-comes_preempted stacks s course back =
+comes_preempted ipsr stacks s course back =
     let d = enters framed s.bus.board.profile s.core s.exceptions (framed_in course.negative s) back in
-    comes_taken_by stacks (state_of d.core d.exceptions d.held.bus) course d.result
+    comes_taken_by ipsr stacks (state_of d.core d.exceptions d.held.bus) course d.result
 
-comes_cond : (stacks : Stacks) (t : Bool) (p q : Passed) → Comes stacks p → Comes stacks q → Comes stacks (cond t p q)
-comes_cond stacks true p q h k = h
-comes_cond stacks false p q h k = k
+comes_cond : (ipsr : ℕ) (stacks : Stacks) (t : Bool) (p q : Passed) → Comes ipsr stacks p → Comes ipsr stacks q → Comes ipsr stacks (cond t p q)
+comes_cond ipsr stacks true p q h k = h
+comes_cond ipsr stacks false p q h k = k
 
-pub comes_faults : (stacks : Stacks) (s : State) (course : Course) (fault : Fault) → Comes stacks (faults s course fault)
+pub comes_faults : (ipsr : ℕ) (stacks : Stacks) (s : State) (course : Course) (fault : Fault) → Comes ipsr stacks (faults s course fault)
 unfolding faults
-comes_faults stacks s course fault =
+comes_faults ipsr stacks s course fault =
     let r = faulted s.core.run.side fault s.core s.exceptions in
     let entry = preempted (state_of (passed_by fault r.core) r.exceptions s.bus) course (goes_on_at fault s.core.registers.pc) in
-    comes_cond stacks r.locks _ entry (comes_locks stacks (state_of r.core r.exceptions s.bus) course.touched)
-    (comes_preempted stacks (state_of (passed_by fault r.core) r.exceptions s.bus) course (goes_on_at fault s.core.registers.pc))
+    comes_cond ipsr stacks r.locks _ entry (comes_locks ipsr stacks (state_of r.core r.exceptions s.bus) course.touched)
+    (comes_preempted ipsr stacks (state_of (passed_by fault r.core) r.exceptions s.bus) course (goes_on_at fault s.core.registers.pc))
 
 -- ---- a return
 
@@ -180,49 +180,69 @@ leaves_signed profile c e f value is =
     (unhandled_stacks e c r.es r.process r.thread r.dcrs r.secure own)
     (noting_signed profile c.run.side (noted c e value) r (unhandled e r c) (freed e (slot_returning c r)) f own)
 
-came_signed : (stacks : Stacks) (s : State) (m : Memory) → s.bus.memory ≡ m → Signed stacks m → Came stacks s causes.Resumed
-came_signed stacks s m same h = ByUnstacking refl h.process (ap (λ (n : Memory). word_at n (sp_of h.process stacks)) same ∙ h.word)
+came_signed : (ipsr : ℕ) (stacks : Stacks) (s : State) (m : Memory) → s.bus.memory ≡ m → Signed stacks m → Came ipsr stacks s causes.Resumed
+came_signed ipsr stacks s m same h = ByUnstacking refl h.process (ap (λ (n : Memory). word_at n (sp_of h.process stacks)) same ∙ h.word)
 
 unlocked_side : (locked : Bool) (side : Side) → locked ≡ false → is_nonsecure_side (cond locked Secure side) ≡ false → is_nonsecure_side side ≡ false
 unlocked_side true side l e = cc
 unlocked_side false side l e = e
 
-comes_left_by : (stacks : Stacks) (s : State) (m : Memory) (course : Course) (code : Code) (result : Left) → s.bus.memory ≡ m → SignedWhere stacks m s.core.run.side result → Comes stacks (left_by s course code result)
-comes_left_by stacks s m course code (left.Resumed touched) same h =
-    λ secure unlocked. came_signed stacks _ m same (h (unlocked_side s.core.run.locked s.core.run.side unlocked secure))
-comes_left_by stacks s m course code (left.Chained given touched) same h = λ secure unlocked. ByException refl
-comes_left_by stacks s m course code (left.Lockup touched) same h = comes_locks stacks s (course.touched || touched)
+comes_left_by : (ipsr : ℕ) (stacks : Stacks) (s : State) (m : Memory) (course : Course) (code : Code) (result : Left) → s.bus.memory ≡ m → SignedWhere stacks m s.core.run.side result → Comes ipsr stacks (left_by s course code result)
+comes_left_by ipsr stacks s m course code (left.Resumed touched) same h =
+    λ secure unlocked. came_signed ipsr stacks _ m same (h (unlocked_side s.core.run.locked s.core.run.side unlocked secure))
+comes_left_by ipsr stacks s m course code (left.Chained given touched) same h = λ secure unlocked. ByException refl
+comes_left_by ipsr stacks s m course code (left.Lockup touched) same h = comes_locks ipsr stacks s (course.touched || touched)
 
-pub comes_returns : (s : State) (course : Course) (code : Code) (value : ℕ) → s.core.run.side ≡ NonSecure → Comes s.core.stacks_s (returns s course code value)
+pub comes_returns : (ipsr : ℕ) (s : State) (course : Course) (code : Code) (value : ℕ) → s.core.run.side ≡ NonSecure → Comes ipsr s.core.stacks_s (returns s course code value)
 unfolding returns
-comes_returns s course code value is =
+comes_returns ipsr s course code value is =
     let f = framed_in course.negative s in
     let l = leaves framed s.bus.board.profile s.core s.exceptions f value in
-    comes_left_by s.core.stacks_s (state_of l.core l.exceptions l.held.bus) s.bus.memory course code l.result
+    comes_left_by ipsr s.core.stacks_s (state_of l.core l.exceptions l.held.bus) s.bus.memory course code l.result
     (ap (λ (g : Framed). g.bus.memory) (leaves_still s.bus.board.profile s.core s.exceptions f value is)) (leaves_signed s.bus.board.profile s.core s.exceptions f value is)
 
 -- ---- FNC_RETURN
 
+not_zero : (n : ℕ) → (n == 0) ≡ false → n ≡ 0 → ⊥
+not_zero n e z = grind (arith, nat_tests)
+
+-- the test of both numbers, in words
+agreed : (ipsr number : ℕ) → numbers_agree ipsr number ≡ true → NumbersAgree ipsr number
+agreed ipsr number h = go (ipsr == 0) refl (ipsr == 1) refl (number == 0) refl h where
+  go : (zero : Bool) → (ipsr == 0) ≡ zero → (one : Bool) → (ipsr == 1) ≡ one → (none : Bool) → (number == 0) ≡ none → cond zero none (one && not none) ≡ true → NumbersAgree ipsr number
+  go true z one o true n h = inl (grind (arith, nat_tests), grind (arith, nat_tests))
+  go true z one o false n h = cc
+  go false z true o false n h = inr (grind (arith, nat_tests), not_zero number n)
+  go false z true o true n h = cc
+  go false z false o none n h = cc
+
 abbrev CalledFrom : Core → Memory → Result Core Fault → Type 0
-CalledFrom c m (Ok back) = IsCallFrame c.stacks_s back m (uses_process c.registers.ipsr c.stacks_s)
+CalledFrom c m (Ok back) = IsCallFrame c.registers.ipsr c.stacks_s back m
 CalledFrom c m (Err fault) = Unit {0}
 
 second_called : (c : Core) (m : Memory) (v : Option Fault) (f : Framed) (back a : ℕ) → f.bus.memory ≡ m → a ≡ wrap (return_base c + 4) → back ≡ word_at m (return_base c) → CalledFrom c m (after_second c back (looked v f a).1)
 second_called c m (Some fault) f back a same at is = tt
-second_called c m None f back a same at is = go (numbers_agree c.registers.ipsr (word_at f.bus.memory a % 2 ^ 9)) where
-  go : (t : Bool) → CalledFrom c m (cond t (Ok (came_back c back (word_at f.bus.memory a % 2 ^ 9))) (Err (InvPc c.run.side)))
-  go true = record { pc = ap even_of is; number = ap (λ (n : ℕ). n % 2 ^ 9) ((λ i. word_at (same i) (at i))) }
-  go false = tt
+second_called c m None f back a same at is = go (numbers_agree c.registers.ipsr number) refl where
+  number : ℕ
+  number = word_at f.bus.memory a % 2 ^ 9
+
+  above : number ≡ word_at m (wrap (return_base c + 4)) % 2 ^ 9
+  above = ap (λ (n : ℕ). n % 2 ^ 9) (λ i. word_at (same i) (at i))
+
+  go : (t : Bool) → numbers_agree c.registers.ipsr number ≡ t → CalledFrom c m (cond t (Ok (came_back c back number)) (Err (InvPc c.run.side)))
+  go true agree =
+      record { pc = ap even_of is; number = above; agree = subst (λ (n : ℕ). NumbersAgree c.registers.ipsr n) above (agreed c.registers.ipsr number agree) }
+  go false agree = tt
 
 first_called : (c : Core) (m : Memory) (v w : Option Fault) (f : Framed) → f.bus.memory ≡ m → CalledFrom c m (after_first c (looked v f (return_base c)).1 (looked w f (wrap (return_base c + 4))).1)
 first_called c m (Some fault) w f same = tt
 first_called c m None w f same = second_called c m w f (word_at f.bus.memory (return_base c)) (wrap (return_base c + 4)) same refl (ap (λ (n : Memory). word_at n (return_base c)) same)
 
-comes_back_with : (before : Core) (s : State) (course : Course) (code : Code) (r : Result Core Fault) → CalledFrom s.core s.bus.memory r → Comes s.core.stacks_s (back_with before s course code r)
-comes_back_with before s course code (Ok c) h = λ secure unlocked. ByReturn refl (uses_process s.core.registers.ipsr s.core.stacks_s) h
-comes_back_with before s course code (Err fault) h = comes_faults s.core.stacks_s (with_core s (core_back before s.core)) course fault
+comes_back_with : (before : Core) (s : State) (course : Course) (code : Code) (r : Result Core Fault) → CalledFrom s.core s.bus.memory r → Comes s.core.registers.ipsr s.core.stacks_s (back_with before s course code r)
+comes_back_with before s course code (Ok c) h = λ secure unlocked. ByReturn refl h
+comes_back_with before s course code (Err fault) h = comes_faults s.core.registers.ipsr s.core.stacks_s (with_core s (core_back before s.core)) course fault
 
-pub comes_comes_back : (before : Core) (s : State) (course : Course) (code : Code) → Comes s.core.stacks_s (comes_back before s course code)
+pub comes_comes_back : (before : Core) (s : State) (course : Course) (code : Code) → Comes s.core.registers.ipsr s.core.stacks_s (comes_back before s course code)
 unfolding comes_back
 comes_comes_back before s course code =
     let f = framed_in course.negative s in
