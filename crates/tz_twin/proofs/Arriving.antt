@@ -1,5 +1,5 @@
 -- How entries and returns of Non-secure code get to Secure code: facts of one run.
-use Rattle.std.proofs.Common.{◌≡◌, ℕ, ◌+◌, ◌%◌, ◌^◌, ◌==◌, Bool, true, false, ◌&&◌, ◌||◌, not, cond, List, Option, Some, None, Result, Ok, Err, refl, ap, ◌∙◌, subst, inl, inr, arith}
+use Rattle.std.proofs.Common.{◌≡◌, ℕ, ◌+◌, ◌%◌, ◌^◌, ◌==◌, Bool, true, false, ◌&&◌, ◌||◌, not, cond, List, Option, Some, None, Result, Ok, Err, refl, sym, ap, ◌∙◌, subst, inl, inr, arith}
 use Rattle.std.proofs.lemmas.Bool.Decides.{nat_tests}
 use Rattle.tz_table.specs.declared.units.Side.{Side}
 use Rattle.tz_table.specs.declared.units.Side.TheVariants.{Secure, NonSecure}
@@ -7,6 +7,7 @@ use Rattle.tz_table.specs.declared.units.Code.{Code}
 use Rattle.tz_model.specs.declared.board.Profile.{Profile}
 use Rattle.tz_model.specs.declared.report.Fault.{Fault}
 use Rattle.tz_model.specs.declared.report.Fault.TheVariants.{InvPc}
+use Rattle.tz_model.specs.declared.report.Slot.{Slot}
 use Rattle.tz_model.specs.Words.{wrap, even_of, is_nonsecure_side}
 use Rattle.tz_regs.specs.declared.parts.Core.{Core}
 use Rattle.tz_regs.specs.declared.parts.Stacks.{Stacks}
@@ -35,10 +36,11 @@ use Rattle.tz_frames.specs.Gate.{return_base, numbers_agree, came_back, after_se
 use Rattle.tz_sem.specs.declared.ending.Cause.TheVariants as causes
 use Rattle.tz_sem.specs.declared.ending.Course.{Course}
 use Rattle.tz_sem.specs.Ended.{Passed}
-use Rattle.tz_sem.specs.Taking.{state_of, locks, framed_in, taken_by, preempted, goes_on_at, passed_by, faults, left_by, returns}
+use Rattle.tz_sem.specs.Taking.{state_of, locks, framed_in, taken, taken_by, preempted, goes_on_at, passed_by, faults, left_by, returns}
 use Rattle.tz_sem.specs.Exchange.{core_back, back_with, looking, comes_back}
-use Rattle.tz_twin.specs.Integrity.{NumbersAgree, IsCallFrame, Came, ByException, ByReturn, ByUnstacking}
+use Rattle.tz_twin.specs.Integrity.{Handles, NumbersAgree, IsCallFrame, Came, ByException, ByReturn, ByUnstacking}
 use Rattle.tz_twin.proofs.ReturnSpares.{bits, leaves_still}
+use Rattle.tz_twin.proofs.Active.{EnteredHandles, LeftHandles, enters_handles, leaves_handles}
 
 -- where it ends in Secure code, it came there so, with this IPSR and these Secure stacks before
 abbrev pub Comes : ℕ → Stacks → Passed → Type 0
@@ -49,15 +51,29 @@ comes_locks ipsr stacks s touched = λ secure unlocked. absurd (cc)
 
 -- ---- entry
 
-comes_taken_by : (ipsr : ℕ) (stacks : Stacks) (s : State) (course : Course) (result : Entered) → Comes ipsr stacks (taken_by s course result)
-comes_taken_by ipsr stacks s course (entered.Taken given touched) = λ secure unlocked. ByException refl
-comes_taken_by ipsr stacks s course (entered.Lockup touched) = comes_locks ipsr stacks s (course.touched || touched)
+unlocked_side : (locked : Bool) (side : Side) → locked ≡ false → is_nonsecure_side (cond locked Secure side) ≡ false → is_nonsecure_side side ≡ false
+unlocked_side true side l e = cc
+unlocked_side false side l e = e
+
+secure_of : (side : Side) → is_nonsecure_side side ≡ false → side ≡ Secure
+secure_of Secure e = refl
+secure_of NonSecure e = cc
+
+comes_taken : (ipsr : ℕ) (stacks : Stacks) (s : State) (touched : Bool) (given : Slot) → Handles given s.core s.exceptions → Comes ipsr stacks (taken s touched)
+comes_taken ipsr stacks s touched given h =
+    λ secure unlocked. ByException refl given (sym h.runs ∙ secure_of s.core.run.side (unlocked_side s.core.run.locked s.core.run.side unlocked secure))
+    (record { number = h.number; runs = h.runs; side = h.side; active = h.active })
+
+comes_taken_by : (ipsr : ℕ) (stacks : Stacks) (s : State) (course : Course) (result : Entered) → EnteredHandles s.core s.exceptions result → Comes ipsr stacks (taken_by s course result)
+comes_taken_by ipsr stacks s course (entered.Taken given touched) h = comes_taken ipsr stacks s (course.touched || touched) given h
+comes_taken_by ipsr stacks s course (entered.Lockup touched) h = comes_locks ipsr stacks s (course.touched || touched)
 
 pub comes_preempted : (ipsr : ℕ) (stacks : Stacks) (s : State) (course : Course) (back : ℕ) → Comes ipsr stacks (preempted s course back)
 unfolding preempted
 comes_preempted ipsr stacks s course back =
-    let d = enters framed s.bus.board.profile s.core s.exceptions (framed_in course.negative s) back in
-    comes_taken_by ipsr stacks (state_of d.core d.exceptions d.held.bus) course d.result
+    let f = framed_in course.negative s in
+    let d = enters framed s.bus.board.profile s.core s.exceptions f back in
+    comes_taken_by ipsr stacks (state_of d.core d.exceptions d.held.bus) course d.result (enters_handles s.bus.board.profile s.core s.exceptions f back)
 
 comes_cond : (ipsr : ℕ) (stacks : Stacks) (t : Bool) (p q : Passed) → Comes ipsr stacks p → Comes ipsr stacks q → Comes ipsr stacks (cond t p q)
 comes_cond ipsr stacks true p q h k = h
@@ -183,15 +199,11 @@ leaves_signed profile c e f value is =
 came_signed : (ipsr : ℕ) (stacks : Stacks) (s : State) (m : Memory) → s.bus.memory ≡ m → Signed stacks m → Came ipsr stacks s causes.Resumed
 came_signed ipsr stacks s m same h = ByUnstacking refl h.process (ap (λ (n : Memory). word_at n (sp_of h.process stacks)) same ∙ h.word)
 
-unlocked_side : (locked : Bool) (side : Side) → locked ≡ false → is_nonsecure_side (cond locked Secure side) ≡ false → is_nonsecure_side side ≡ false
-unlocked_side true side l e = cc
-unlocked_side false side l e = e
-
-comes_left_by : (ipsr : ℕ) (stacks : Stacks) (s : State) (m : Memory) (course : Course) (code : Code) (result : Left) → s.bus.memory ≡ m → SignedWhere stacks m s.core.run.side result → Comes ipsr stacks (left_by s course code result)
-comes_left_by ipsr stacks s m course code (left.Resumed touched) same h =
+comes_left_by : (ipsr : ℕ) (stacks : Stacks) (s : State) (m : Memory) (course : Course) (code : Code) (result : Left) → s.bus.memory ≡ m → SignedWhere stacks m s.core.run.side result → LeftHandles s.core s.exceptions result → Comes ipsr stacks (left_by s course code result)
+comes_left_by ipsr stacks s m course code (left.Resumed touched) same h g =
     λ secure unlocked. came_signed ipsr stacks _ m same (h (unlocked_side s.core.run.locked s.core.run.side unlocked secure))
-comes_left_by ipsr stacks s m course code (left.Chained given touched) same h = λ secure unlocked. ByException refl
-comes_left_by ipsr stacks s m course code (left.Lockup touched) same h = comes_locks ipsr stacks s (course.touched || touched)
+comes_left_by ipsr stacks s m course code (left.Chained given touched) same h g = comes_taken ipsr stacks s (course.touched || touched) given g
+comes_left_by ipsr stacks s m course code (left.Lockup touched) same h g = comes_locks ipsr stacks s (course.touched || touched)
 
 pub comes_returns : (ipsr : ℕ) (s : State) (course : Course) (code : Code) (value : ℕ) → s.core.run.side ≡ NonSecure → Comes ipsr s.core.stacks_s (returns s course code value)
 unfolding returns
@@ -200,6 +212,7 @@ comes_returns ipsr s course code value is =
     let l = leaves framed s.bus.board.profile s.core s.exceptions f value in
     comes_left_by ipsr s.core.stacks_s (state_of l.core l.exceptions l.held.bus) s.bus.memory course code l.result
     (ap (λ (g : Framed). g.bus.memory) (leaves_still s.bus.board.profile s.core s.exceptions f value is)) (leaves_signed s.bus.board.profile s.core s.exceptions f value is)
+    (leaves_handles s.bus.board.profile s.core s.exceptions f value)
 
 -- ---- FNC_RETURN
 

@@ -17,6 +17,7 @@ pub mod FaultTwins
 pub mod EntryTwins
 pub mod ReturnTwins
 pub mod Handled
+pub mod Active
 pub mod Arriving
 pub mod Halting
 pub mod Keeping

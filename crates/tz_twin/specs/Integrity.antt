@@ -4,6 +4,7 @@ use Rattle.std.specs.FinMap.{get}
 use Rattle.tz_table.specs.declared.units.Side.TheVariants.{Secure, NonSecure}
 use Rattle.tz_table.specs.declared.units.Code.{Code}
 use Rattle.tz_model.specs.declared.report.ScriptEvent.{ScriptEvent}
+use Rattle.tz_model.specs.declared.report.Slot.{Slot}
 use Rattle.tz_model.specs.declared.report.StepKind.TheVariants.{Ran}
 use Rattle.tz_model.specs.Words.{wrap, even_of, is_nonsecure_side}
 use Rattle.tz_regs.specs.declared.parts.Core.{Core}
@@ -12,7 +13,7 @@ use Rattle.tz_regs.specs.declared.parts.Stacks.{Stacks}
 use Rattle.tz_regs.specs.Registers.{sp_of, pointer_of}
 use Rattle.tz_regs.specs.Memory.{Memory, half_at, word_at}
 use Rattle.tz_regs.specs.Attribution.{MapState, attribution, is_open}
-use Rattle.tz_regs.specs.Slots.{ExceptionsValue, at, side_at}
+use Rattle.tz_regs.specs.Slots.{ExceptionsValue, at, index_of, side_at}
 use Rattle.tz_regs.specs.Timers.{counted_down}
 use Rattle.tz_regs.specs.State.{State, map_of, side_of, is_privileged_in, priority_in, is_negative_at}
 use Rattle.tz_regs.specs.Fetch.{is_runnable, is_half_mapped}
@@ -89,6 +90,15 @@ pub record RanGateway (s : State) (r : Stepped) : Type 0 where
   pub told : r.report.kind ≡ Ran s.core.registers.pc sg_code
   pub registers : r.state.core.registers ≡ after_sg s.core.registers
 
+-- ---- by an exception
+
+-- code handles this exception: IPSR is its number, it is of the side that runs, and it is active
+pub record Handles (given : Slot) (c : Core) (e : ExceptionsValue) : Type 0 where
+  pub number : c.registers.ipsr ≡ given.number
+  pub runs : c.run.side ≡ given.side
+  pub side : side_at e (index_of given) ≡ given.side
+  pub active : (at e (index_of given)).active ≡ true
+
 -- ---- by FNC_RETURN
 
 -- both numbers are of Thread mode; or the code was called from a handler, whose number it was hidden by 1 in IPSR
@@ -104,10 +114,10 @@ pub record IsCallFrame (ipsr : ℕ) (stacks : Stacks) (after : Core) (memory : M
 
 -- ---- all ways
 
--- from code with this number in IPSR and with these Secure stacks: by an exception that was taken; by FNC_RETURN; or by
+-- from code with this number in IPSR and with these Secure stacks: by an exception of the Secure side, which is handled; by FNC_RETURN; or by
 -- EXC_RETURN, with the integrity signature at a Secure stack pointer
 pub data Came (ipsr : ℕ) (stacks : Stacks) (after : State) (cause : Cause) : Type 0 where
-  ByException : cause ≡ Taken → Came ipsr stacks after cause
+  ByException : cause ≡ Taken → (given : Slot) → given.side ≡ Secure → Handles given after.core after.exceptions → Came ipsr stacks after cause
   ByReturn : cause ≡ CameBack → IsCallFrame ipsr stacks after.core after.bus.memory → Came ipsr stacks after cause
   ByUnstacking : cause ≡ Resumed → (process : Bool) → word_at after.bus.memory (sp_of process stacks) ≡ signature → Came ipsr stacks after cause
 
