@@ -1,5 +1,5 @@
 -- Integrity of Secure state: what a step of Non-secure code can't change, and how it gets to Secure code.
-use Rattle.std.specs.Prelude.{◌≡◌, ◌≢◌, ◌⊎◌, ℕ, ◌+◌, ◌%◌, ◌^◌, Bool, true, false, not, List, Some}
+use Rattle.std.specs.Prelude.{◌≡◌, ◌≢◌, ◌⊎◌, ℕ, ◌+◌, ◌*◌, ◌/◌, ◌%◌, ◌^◌, ◌==◌, Bool, true, false, not, List, [], ◌∷◌, Some}
 use Rattle.std.specs.FinMap.{get}
 use Rattle.tz_table.specs.declared.units.Side.TheVariants.{Secure, NonSecure}
 use Rattle.tz_table.specs.declared.units.Code.{Code}
@@ -10,7 +10,8 @@ use Rattle.tz_model.specs.Words.{wrap, even_of, is_nonsecure_side}
 use Rattle.tz_regs.specs.declared.parts.Core.{Core}
 use Rattle.tz_regs.specs.declared.parts.Registers.{Registers}
 use Rattle.tz_regs.specs.declared.parts.Stacks.{Stacks}
-use Rattle.tz_regs.specs.Registers.{sp_of, pointer_of}
+use Rattle.tz_regs.specs.Registers.{pointer_of}
+use Rattle.tz_regs.specs.Special.{apsr_from}
 use Rattle.tz_regs.specs.Memory.{Memory, half_at, word_at}
 use Rattle.tz_regs.specs.Attribution.{MapState, attribution, is_open}
 use Rattle.tz_regs.specs.Slots.{ExceptionsValue, at, index_of, side_at}
@@ -112,14 +113,39 @@ pub record IsCallFrame (ipsr : ℕ) (stacks : Stacks) (after : Core) (memory : M
   pub number : after.registers.ipsr ≡ word_at memory (wrap (pointer_of ipsr stacks + 4)) % 2 ^ 9
   pub agree : NumbersAgree ipsr (word_at memory (wrap (pointer_of ipsr stacks + 4)) % 2 ^ 9)
 
+-- ---- by EXC_RETURN
+
+-- the word so many bytes above an address
+abbrev pub word_above : Memory → ℕ → ℕ → ℕ
+word_above memory sp k = word_at memory (wrap (sp + k))
+
+-- the flags, T, the IT state and IPSR are those of a RETPSR
+pub record IsOfPsr (psr : ℕ) (r : Registers) : Type 0 where
+  pub flags : r.apsr ≡ apsr_from psr
+  pub t : r.t ≡ (psr / 2 ^ 24 % 2 == 1)
+  pub it : r.it ≡ psr / 2 ^ 25 % 4 + 4 * (psr / 2 ^ 10 % 64)
+  pub number : r.ipsr ≡ psr % 2 ^ 9
+
+-- at an address stand the integrity signature, R4 to R11 from 8 bytes above it on, and the basic frame from 40 bytes above it
+-- on, and the registers are what stands there
+pub record IsUnstacked (memory : Memory) (sp : ℕ) (r : Registers) : Type 0 where
+  pub signed : word_at memory sp ≡ signature
+  pub general : r.general ≡
+      word_above memory sp 0x28 ∷ word_above memory sp 0x2C ∷ word_above memory sp 0x30 ∷ word_above memory sp 0x34 ∷ word_above memory sp 0x08
+      ∷ word_above memory sp 0x0C ∷ word_above memory sp 0x10 ∷ word_above memory sp 0x14 ∷ word_above memory sp 0x18 ∷ word_above memory sp 0x1C
+      ∷ word_above memory sp 0x20 ∷ word_above memory sp 0x24 ∷ word_above memory sp 0x38 ∷ []
+  pub lr : r.lr ≡ word_above memory sp 0x3C
+  pub pc : r.pc ≡ even_of (word_above memory sp 0x40)
+  pub psr : IsOfPsr (word_above memory sp 0x44) r
+
 -- ---- all ways
 
--- from code with this number in IPSR and with these Secure stacks: by an exception of the Secure side, which is handled; by FNC_RETURN; or by
--- EXC_RETURN, with the integrity signature at a Secure stack pointer
+-- from code with this number in IPSR and with these Secure stacks: by an exception, which Secure code handles; by FNC_RETURN;
+-- or by EXC_RETURN, to frames on the Secure stack of the mode that goes on, which the number in IPSR after it tells
 pub data Came (ipsr : ℕ) (stacks : Stacks) (after : State) (cause : Cause) : Type 0 where
   ByException : cause ≡ Taken → (given : Slot) → given.side ≡ Secure → Handles given after.core after.exceptions → Came ipsr stacks after cause
   ByReturn : cause ≡ CameBack → IsCallFrame ipsr stacks after.core after.bus.memory → Came ipsr stacks after cause
-  ByUnstacking : cause ≡ Resumed → (process : Bool) → word_at after.bus.memory (sp_of process stacks) ≡ signature → Came ipsr stacks after cause
+  ByUnstacking : cause ≡ Resumed → IsUnstacked after.bus.memory (pointer_of after.core.registers.ipsr stacks) after.core.registers → Came ipsr stacks after cause
 
 -- or by SG
 abbrev pub WayIn : State → Stepped → Cause → Type 0
