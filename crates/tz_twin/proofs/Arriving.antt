@@ -1,5 +1,5 @@
 -- How entries and returns of Non-secure code get to Secure code: facts of one run.
-use Rattle.std.proofs.Common.{◌≡◌, ℕ, zero, suc, ◌+◌, ◌%◌, ◌^◌, ◌==◌, Bool, true, false, ◌&&◌, ◌||◌, not, cond, List, [], ◌∷◌, Option, Some, None, Result, Ok, Err, refl, sym, ap, ◌∙◌, subst, inl, inr, arith}
+use Rattle.std.proofs.Common.{◌≡◌, ℕ, zero, suc, ◌+◌, ◌*◌, ◌/◌, ◌%◌, ◌^◌, ◌==◌, Bool, true, false, ◌&&◌, ◌||◌, not, cond, List, [], ◌∷◌, Option, Some, None, Result, Ok, Err, refl, sym, ap, ◌∙◌, subst, inl, inr, arith}
 use Rattle.std.proofs.lemmas.Bool.Decides.{nat_tests}
 use Rattle.tz_table.specs.declared.units.Side.{Side}
 use Rattle.tz_table.specs.declared.units.Side.TheVariants.{Secure, NonSecure}
@@ -12,7 +12,7 @@ use Rattle.tz_model.specs.Words.{wrap, even_of, is_nonsecure_side}
 use Rattle.tz_regs.specs.declared.parts.Core.{Core}
 use Rattle.tz_regs.specs.declared.parts.Registers.{Registers}
 use Rattle.tz_regs.specs.declared.parts.Stacks.{Stacks}
-use Rattle.tz_regs.specs.Registers.{sp_of, pointer_of}
+use Rattle.tz_regs.specs.Registers.{is_handler, sp_of, pointer_of}
 use Rattle.tz_regs.specs.declared.request.Kind.TheVariants.{Read}
 use Rattle.tz_regs.specs.Memory.{Memory, word_at}
 use Rattle.tz_regs.specs.Slots.{ExceptionsValue}
@@ -31,16 +31,16 @@ use Rattle.tz_frames.specs.declared.leaving.Left.{Left}
 use Rattle.tz_frames.specs.declared.leaving.Left.TheVariants as left
 use Rattle.tz_frames.specs.Status.{Raised, faulted, frame_faulted}
 use Rattle.tz_frames.specs.Registers.{number_in, resumed_registers}
-use Rattle.tz_frames.specs.Stack.{signature, word_answer, word_read, with_first, reads, callee_of, callee_read, signed, popped_additional, basic_of, basic_read, popped_basic}
+use Rattle.tz_frames.specs.Stack.{with_sp, signature, word_answer, word_read, with_first, reads, callee_of, callee_read, signed, popped_additional, basic_of, basic_read, popped_basic}
 use Rattle.tz_frames.specs.Enter.{enters, tries}
-use Rattle.tz_frames.specs.Leave.{returning_by, side_by, noted, slot_returning, freed, unhandled, chaining, Leaving, left_of, chained, chained_raised, returns_privileged, return_sp, with_callee, unstacked, resumed, modes_agree, resumes, goes_back, leaves_noting, leaves}
+use Rattle.tz_frames.specs.Leave.{returning_by, side_by, noted, slot_returning, freed, unhandled, chaining, Leaving, left_of, chained, chained_raised, returns_privileged, return_sp, with_callee, unstacked, sp_above, resumed, modes_agree, resumes, goes_back, leaves_noting, leaves}
 use Rattle.tz_frames.specs.Gate.{return_base, numbers_agree, came_back, after_second, after_first, function_returned}
 use Rattle.tz_sem.specs.declared.ending.Cause.TheVariants as causes
 use Rattle.tz_sem.specs.declared.ending.Course.{Course}
 use Rattle.tz_sem.specs.Ended.{Passed}
 use Rattle.tz_sem.specs.Taking.{state_of, locks, framed_in, taken, taken_by, preempted, goes_on_at, passed_by, faults, left_by, returns}
 use Rattle.tz_sem.specs.Exchange.{core_back, back_with, looking, comes_back}
-use Rattle.tz_twin.specs.Integrity.{Handles, NumbersAgree, IsCallFrame, word_above, IsUnstacked, Came, ByException, ByReturn, ByUnstacking}
+use Rattle.tz_twin.specs.Integrity.{Handles, NumbersAgree, IsCallFrame, word_above, IsUnstacked, above_frames, TookFrames, Came, ByException, ByReturn, ByUnstacking}
 use Rattle.tz_twin.proofs.ReturnSpares.{bits, leaves_still}
 use Rattle.tz_twin.proofs.Active.{EnteredHandles, LeftHandles, enters_handles, leaves_handles}
 
@@ -93,7 +93,7 @@ comes_faults ipsr stacks s course fault =
 
 -- where it resumed Secure code, it took its registers from frames on the Secure stack of the mode
 abbrev SignedWhere : Stacks → Memory → Core → Left → Type 0
-SignedWhere stacks m c (left.Resumed touched) = is_nonsecure_side c.run.side ≡ false → IsUnstacked m (pointer_of c.registers.ipsr stacks) c.registers
+SignedWhere stacks m c (left.Resumed touched) = is_nonsecure_side c.run.side ≡ false → TookFrames stacks c m
 SignedWhere stacks m c (left.Chained given touched) = Unit {0}
 SignedWhere stacks m c (left.Lockup touched) = Unit {0}
 
@@ -210,9 +210,14 @@ unstacked_registers m sp old k b first callee basic =
     (subst (λ (x : Basic). IsUnstacked m sp (resumed_registers old (Some (callee_of (words_above m sp 4 9))) x)) (sym basic)
     (record { signed = first; general = refl; lr = refl; pc = refl; psr = record { flags = refl; t = refl; it = refl; number = refl } }))
 
+-- what was unstacked has the registers of the frames, and both of them lie below the new stack pointer
+record HasFrames (m : Memory) (sp : ℕ) (old : Registers) (u : Unstacked) : Type 0 where
+  pub frames : IsUnstacked m sp (resumed_registers old u.callee u.basic)
+  pub above : sp_above sp u ≡ above_frames m sp
+
 -- Secure code that Non-secure code returns to has an additional frame
 unstacked_signed : (c : Core) (f : Framed) (es process thread dcrs : Bool) (u : Unstacked) → es ≡ false → unstacked framed c (bits es process thread dcrs true) f ≡ Ok u
-    → IsUnstacked f.bus.memory (return_sp c (bits es process thread dcrs true)) (resumed_registers c.registers u.callee u.basic)
+    → HasFrames f.bus.memory (return_sp c (bits es process thread dcrs true)) c.registers u
 unfolding unstacked
 unstacked_signed c f true process thread dcrs u own e = cc
 unstacked_signed c f false process thread dcrs u own e =
@@ -220,8 +225,12 @@ unstacked_signed c f false process thread dcrs u own e =
     let sp = return_sp c r in
     let both = both_read (popped_additional framed f sp (returns_privileged c r)) (popped_basic framed f (wrap (sp + 40)) Secure (returns_privileged c r)) u e in
     let popped = popped_signed f sp (returns_privileged c r) (word_read framed Secure (returns_privileged c r) f sp) both.callee refl both.first in
-    subst (λ (v : Unstacked). IsUnstacked f.bus.memory sp (resumed_registers c.registers v.callee v.basic)) (sym both.whole)
-    (unstacked_registers f.bus.memory sp c.registers both.callee both.basic popped.signed popped.callee (popped_above f sp (returns_privileged c r) both.basic both.second))
+    let basic = popped_above f sp (returns_privileged c r) both.basic both.second in
+    subst (λ (v : Unstacked). HasFrames f.bus.memory sp c.registers v) (sym both.whole)
+    (record {
+      frames = unstacked_registers f.bus.memory sp c.registers both.callee both.basic popped.signed popped.callee basic;
+      above = ap (λ (b : Basic). wrap (sp + 72 + 4 * (b.retpsr / 2 ^ 9 % 2))) basic;
+    })
 
 -- Mode agrees with the number, so that the stack is the one of the mode that goes on
 mode_of : (thread zero : Bool) → cond thread zero (not zero) ≡ true → thread ≡ not (not zero)
@@ -230,12 +239,27 @@ mode_of true false e = cc
 mode_of false true e = cc
 mode_of false false e = refl
 
+-- the pointer that was put is the one in use
+pointer_put : (process : Bool) (value : ℕ) (s : Stacks) → cond process (with_sp process value s).psp (with_sp process value s).msp ≡ value
+pointer_put true value s = refl
+pointer_put false value s = refl
+
+took_frames : (c : Core) (f : Framed) (es process thread dcrs : Bool) (u : Unstacked) → thread ≡ not (is_handler (number_in u.basic.retpsr)) → HasFrames f.bus.memory (return_sp c (bits es process thread dcrs true)) c.registers u
+    → TookFrames c.stacks_s (resumed (bits es process thread dcrs true) u c) f.bus.memory
+took_frames c f es process thread dcrs u mode h = go thread (sym mode) h where
+  ipsr : ℕ
+  ipsr = number_in u.basic.retpsr
+
+  go : (t : Bool) → not (is_handler ipsr) ≡ t → HasFrames f.bus.memory (return_sp c (bits es process t dcrs true)) c.registers u → TookFrames c.stacks_s (resumed (bits es process t dcrs true) u c) f.bus.memory
+  go t same g =
+      subst (λ (x : Bool). HasFrames f.bus.memory (sp_of (x && c.stacks_s.spsel) c.stacks_s) c.registers u → TookFrames c.stacks_s (resumed (bits es process x dcrs true) u c) f.bus.memory) same
+      (λ k. record { frames = k.frames; pointer = pointer_put (not (is_handler ipsr) && c.stacks_s.spsel) (sp_above (pointer_of ipsr c.stacks_s) u) c.stacks_s ∙ k.above }) g
+
 resumed_signed : (c : Core) (f : Framed) (es process thread dcrs secure : Bool) (u : Unstacked) → es ≡ false → unstacked framed c (bits es process thread dcrs secure) f ≡ Ok u
     → modes_agree (bits es process thread dcrs secure) u.basic ≡ true → is_nonsecure_side (side_by secure) ≡ false
-    → let r = resumed (bits es process thread dcrs secure) u c in IsUnstacked f.bus.memory (pointer_of r.registers.ipsr c.stacks_s) r.registers
+    → TookFrames c.stacks_s (resumed (bits es process thread dcrs secure) u c) f.bus.memory
 resumed_signed c f es process thread dcrs true u own e agree is =
-    subst (λ (t : Bool). IsUnstacked f.bus.memory (sp_of (t && c.stacks_s.spsel) c.stacks_s) (resumed_registers c.registers u.callee u.basic))
-    (mode_of thread (number_in u.basic.retpsr == 0) agree) (unstacked_signed c f es process thread dcrs u own e)
+    took_frames c f es process thread dcrs u (mode_of thread (number_in u.basic.retpsr == 0) agree) (unstacked_signed c f es process thread dcrs u own e)
 resumed_signed c f es process thread dcrs false u own e agree is = cc
 
 resumes_signed : (profile : Profile) (r : Returning) (c : Core) (e : ExceptionsValue) (f : Framed) (u : Result Unstacked StackFault) → r.es ≡ false → unstacked framed c r f ≡ u
@@ -275,9 +299,8 @@ leaves_signed profile c e f value is =
     (unhandled_stacks e c r.es r.process r.thread r.dcrs r.secure own)
     (noting_signed profile c.run.side (noted c e value) r (unhandled e r c) (freed e (slot_returning c r)) f own)
 
-came_signed : (ipsr : ℕ) (stacks : Stacks) (s : State) (m : Memory) → s.bus.memory ≡ m → IsUnstacked m (pointer_of s.core.registers.ipsr stacks) s.core.registers → Came ipsr stacks s causes.Resumed
-came_signed ipsr stacks s m same h =
-    ByUnstacking refl (subst (λ (n : Memory). IsUnstacked n (pointer_of s.core.registers.ipsr stacks) s.core.registers) (sym same) h)
+came_signed : (ipsr : ℕ) (stacks : Stacks) (s : State) (m : Memory) → s.bus.memory ≡ m → TookFrames stacks s.core m → Came ipsr stacks s causes.Resumed
+came_signed ipsr stacks s m same h = ByUnstacking refl (subst (λ (n : Memory). TookFrames stacks s.core n) (sym same) h)
 
 comes_left_by : (ipsr : ℕ) (stacks : Stacks) (s : State) (m : Memory) (course : Course) (code : Code) (result : Left) → s.bus.memory ≡ m → SignedWhere stacks m s.core result → LeftHandles s.core s.exceptions result → Comes ipsr stacks (left_by s course code result)
 comes_left_by ipsr stacks s m course code (left.Resumed touched) same h g =
@@ -324,7 +347,7 @@ second_called c m None f back a same at is = go (numbers_agree c.registers.ipsr 
 
   go : (t : Bool) → numbers_agree c.registers.ipsr number ≡ t → CalledFrom c m (cond t (Ok (came_back c back number)) (Err (InvPc c.run.side)))
   go true agree =
-      record { pc = ap even_of is; number = above; agree = subst (λ (n : ℕ). NumbersAgree c.registers.ipsr n) above (agreed c.registers.ipsr number agree) }
+      record { pc = ap even_of is; t = ap (λ (n : ℕ). n % 2 == 1) is; it = refl; pointer = refl; number = above; agree = subst (λ (n : ℕ). NumbersAgree c.registers.ipsr n) above (agreed c.registers.ipsr number agree) }
   go false agree = tt
 
 first_called : (c : Core) (m : Memory) (v w : Option Fault) (f : Framed) → f.bus.memory ≡ m → CalledFrom c m (after_first c (looked v f (return_base c)).1 (looked w f (wrap (return_base c + 4))).1)

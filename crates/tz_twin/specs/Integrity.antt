@@ -10,7 +10,7 @@ use Rattle.tz_model.specs.Words.{wrap, even_of, is_nonsecure_side}
 use Rattle.tz_regs.specs.declared.parts.Core.{Core}
 use Rattle.tz_regs.specs.declared.parts.Registers.{Registers}
 use Rattle.tz_regs.specs.declared.parts.Stacks.{Stacks}
-use Rattle.tz_regs.specs.Registers.{pointer_of}
+use Rattle.tz_regs.specs.Registers.{pointer_of, with_pointer}
 use Rattle.tz_regs.specs.Special.{apsr_from}
 use Rattle.tz_regs.specs.Memory.{Memory, half_at, word_at}
 use Rattle.tz_regs.specs.Attribution.{MapState, attribution, is_open}
@@ -102,16 +102,19 @@ pub record Handles (given : Slot) (c : Core) (e : ExceptionsValue) : Type 0 wher
 
 -- ---- by FNC_RETURN
 
--- both numbers are of Thread mode; or the code was called from a handler, whose number it was hidden by 1 in IPSR
+-- both numbers are that of Thread mode; or IPSR is 1, in the place of the number of the handler that called
 abbrev pub NumbersAgree : ℕ → ℕ → Type 0
 NumbersAgree ipsr number = ((ipsr ≡ 0) × (number ≡ 0)) ⊎ ((ipsr ≡ 1) × (number ≢ 0))
 
--- what a call left on the Secure stack of the mode, MSP's or PSP's, says where Secure code goes on, and with which number,
--- which agrees with IPSR before
+-- what a call left on the Secure stack of the mode, MSP's or PSP's: where Secure code goes on, and with which number, which
+-- agrees with IPSR before. The stack pointer is above it
 pub record IsCallFrame (ipsr : ℕ) (stacks : Stacks) (after : Core) (memory : Memory) : Type 0 where
   pub pc : after.registers.pc ≡ even_of (word_at memory (pointer_of ipsr stacks))
+  pub t : after.registers.t ≡ (word_at memory (pointer_of ipsr stacks) % 2 == 1)
+  pub it : after.registers.it ≡ 0
   pub number : after.registers.ipsr ≡ word_at memory (wrap (pointer_of ipsr stacks + 4)) % 2 ^ 9
   pub agree : NumbersAgree ipsr (word_at memory (wrap (pointer_of ipsr stacks + 4)) % 2 ^ 9)
+  pub pointer : after.stacks_s ≡ with_pointer ipsr stacks (wrap (pointer_of ipsr stacks + 8))
 
 -- ---- by EXC_RETURN
 
@@ -138,14 +141,23 @@ pub record IsUnstacked (memory : Memory) (sp : ℕ) (r : Registers) : Type 0 whe
   pub pc : r.pc ≡ even_of (word_above memory sp 0x40)
   pub psr : IsOfPsr (word_above memory sp 0x44) r
 
+-- above both frames, and 4 bytes more where bit 9 of RETPSR says so
+abbrev pub above_frames : Memory → ℕ → ℕ
+above_frames memory sp = wrap (sp + 72 + 4 * (word_above memory sp 0x44 / 2 ^ 9 % 2))
+
+-- the frames lay at the Secure stack pointer of the mode that goes on, which the number in IPSR tells, and it is above them
+pub record TookFrames (stacks : Stacks) (after : Core) (memory : Memory) : Type 0 where
+  pub frames : IsUnstacked memory (pointer_of after.registers.ipsr stacks) after.registers
+  pub pointer : pointer_of after.registers.ipsr after.stacks_s ≡ above_frames memory (pointer_of after.registers.ipsr stacks)
+
 -- ---- all ways
 
 -- from code with this number in IPSR and with these Secure stacks: by an exception, which Secure code handles; by FNC_RETURN;
--- or by EXC_RETURN, to frames on the Secure stack of the mode that goes on, which the number in IPSR after it tells
+-- or by EXC_RETURN
 pub data Came (ipsr : ℕ) (stacks : Stacks) (after : State) (cause : Cause) : Type 0 where
   ByException : cause ≡ Taken → (given : Slot) → given.side ≡ Secure → Handles given after.core after.exceptions → Came ipsr stacks after cause
   ByReturn : cause ≡ CameBack → IsCallFrame ipsr stacks after.core after.bus.memory → Came ipsr stacks after cause
-  ByUnstacking : cause ≡ Resumed → IsUnstacked after.bus.memory (pointer_of after.core.registers.ipsr stacks) after.core.registers → Came ipsr stacks after cause
+  ByUnstacking : cause ≡ Resumed → TookFrames stacks after.core after.bus.memory → Came ipsr stacks after cause
 
 -- or by SG
 abbrev pub WayIn : State → Stepped → Cause → Type 0
