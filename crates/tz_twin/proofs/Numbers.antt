@@ -37,14 +37,20 @@ abbrev pub Numbered : Result Outcome Fault → ℕ → ℕ → Type 0
 Numbered (Ok outcome) new old = KeepsNumber outcome new old
 Numbered (Err fault) new old = Unit {0}
 
--- of what an instruction leaves
-NumberedIn : ℕ → Finished → Type 0
-NumberedIn n (Ok f) = KeepsNumber f.1 f.0.registers.ipsr n
-NumberedIn n (Err fault) = Unit {0}
+-- of what an instruction leaves, whose IPSR is told by `number`
+NumberedIn : {A : Type 0} → (A → ℕ) → ℕ → Result (A × Outcome) Fault → Type 0
+NumberedIn number n (Ok f) = KeepsNumber f.1 (number f.0) n
+NumberedIn number n (Err fault) = Unit {0}
 
-numbered_cond : (n : ℕ) (t : Bool) (x y : Finished) → NumberedIn n x → NumberedIn n y → NumberedIn n (cond t x y)
-numbered_cond n true x y p q = p
-numbered_cond n false x y p q = q
+numbered_cond : {A : Type 0} (number : A → ℕ) (n : ℕ) (t : Bool) (x y : Result (A × Outcome) Fault) → NumberedIn number n x → NumberedIn number n y → NumberedIn number n (cond t x y)
+numbered_cond number n true x y p q = p
+numbered_cond number n false x y p q = q
+
+abbrev of_local : Local → ℕ
+of_local l = l.registers.ipsr
+
+abbrev of_named : Named → ℕ
+of_named m = m.registers.ipsr
 
 -- ---- registers
 
@@ -78,18 +84,18 @@ filled_number l (k ∷ ks) (word ∷ words) = filled_number (put l k word) ks wo
 never : (n m : ℕ) → false ≡ true → n ≡ m
 never n m e = cc
 
-numbered_delivered : (n : ℕ) (op : DataOp) (rd value : ℕ) (l : Local) → NumberedIn n (delivered op rd value l)
+numbered_delivered : (n : ℕ) (op : DataOp) (rd value : ℕ) (l : Local) → NumberedIn of_local n (delivered op rd value l)
 unfolding NumberedIn
 numbered_delivered n op rd value l =
-    numbered_cond n (is_comparison op) _ _ (never _ _)
-    (numbered_cond n (rd == 15) _ _ (never _ _) (numbered_cond n (rd == 13 && is_limited op && nat_lt value (limit_of l.registers.ipsr l.own)) _ _ tt (never _ _)))
+    numbered_cond of_local n (is_comparison op) _ _ (never _ _)
+    (numbered_cond of_local n (rd == 15) _ _ (never _ _) (numbered_cond of_local n (rd == 13 && is_limited op && nat_lt value (limit_of l.registers.ipsr l.own)) _ _ tt (never _ _)))
 
-numbered_operated : (n : ℕ) (op : DataOp) (flags : Flags) (rd x y : ℕ) (carry : Bool) (l : Local) → NumberedIn n (operated op flags rd x y carry l)
+numbered_operated : (n : ℕ) (op : DataOp) (flags : Flags) (rd x y : ℕ) (carry : Bool) (l : Local) → NumberedIn of_local n (operated op flags rd x y carry l)
 numbered_operated n op flags rd x y carry l =
     let c = computed op x y carry l.registers.apsr.c l.registers.apsr.v in numbered_delivered n op rd c.value (flagged flags c l)
 
 -- data processing doesn't exchange
-numbered_alu : (n : ℕ) (i : Insn) (l : Local) → NumberedIn n (finish_alu i l)
+numbered_alu : (n : ℕ) (i : Insn) (l : Local) → NumberedIn of_local n (finish_alu i l)
 unfolding NumberedIn
 numbered_alu n (insns.DataImm op flags rd rn imm12) l = numbered_operated n op flags rd (reg l rn) (constant_of l imm12).0 (constant_of l imm12).1 l
 numbered_alu n (insns.DataReg op flags rd rn rm kind amount) l =
@@ -97,9 +103,9 @@ numbered_alu n (insns.DataReg op flags rd rn rm kind amount) l =
 numbered_alu n (insns.ShiftReg kind flags rd rn rm) l =
     numbered_operated n Mov flags rd 0 (shifted_value l rn kind (reg l rm % 256)) (shifted_carry l rn kind (reg l rm % 256)) l
 numbered_alu n (insns.AddWide sub rd rn imm) l = numbered_operated n (cond sub Sub Add) Never rd (reg l rn) imm false l
-numbered_alu n (insns.Saturate signed rd rn bits asr amount) l = numbered_cond n (is_width signed bits) _ _ (never _ _) tt
-numbered_alu n (insns.BitField op rd rn low width) l = numbered_cond n (is_field low width) _ _ (never _ _) tt
-numbered_alu n (insns.Divide signed rd rn rm) l = numbered_cond n (traps_division l.ccr && (reg l rm == 0)) _ _ tt (never _ _)
+numbered_alu n (insns.Saturate signed rd rn bits asr amount) l = numbered_cond of_local n (is_width signed bits) _ _ (never _ _) tt
+numbered_alu n (insns.BitField op rd rn low width) l = numbered_cond of_local n (is_field low width) _ _ (never _ _) tt
+numbered_alu n (insns.Divide signed rd rn rm) l = numbered_cond of_local n (traps_division l.ccr && (reg l rm == 0)) _ _ tt (never _ _)
 numbered_alu n (insns.Adr rd offset) l = never _ _
 numbered_alu n (insns.MovWide top rd imm) l = never _ _
 numbered_alu n (insns.Extend op rd rm rotation) l = never _ _
@@ -109,17 +115,17 @@ numbered_alu n (insns.MultiplyLong op lo hi rn rm) l = never _ _
 numbered_alu n _ l = tt
 
 -- a load of PC exchanges
-numbered_loaded : (rt : ℕ) (l : Local) (value : ℕ) (n : ℕ) → l.registers.ipsr ≡ n → NumberedIn n (loaded rt l value)
+numbered_loaded : (rt : ℕ) (l : Local) (value : ℕ) (n : ℕ) → l.registers.ipsr ≡ n → NumberedIn of_local n (loaded rt l value)
 unfolding NumberedIn
-numbered_loaded rt l value n e = numbered_cond n (rt == 15) _ _ (λ x. e) (never _ _)
+numbered_loaded rt l value n e = numbered_cond of_local n (rt == 15) _ _ (λ x. e) (never _ _)
 
-numbered_load_store : (i : Insn) (l : Local) (words : List ℕ) → NumberedIn l.registers.ipsr (finish_load_store i l words)
+numbered_load_store : (i : Insn) (l : Local) (words : List ℕ) → NumberedIn of_local l.registers.ipsr (finish_load_store i l words)
 unfolding NumberedIn
 numbered_load_store (insns.Load size signed rt address user) l words = numbered_loaded rt (based address l) _ l.registers.ipsr (based_number address l)
 numbered_load_store (insns.LoadMany rn list down back) l words =
     let to = based_past back rn (past_words down (reg l rn) (words_loaded list)) l in
     let same = filled_number to (listed list) words ∙ based_past_number back rn (past_words down (reg l rn) (words_loaded list)) l in
-    numbered_cond l.registers.ipsr (is_listed list 15) _ _ (λ x. same) (never _ _)
+    numbered_cond of_local l.registers.ipsr (is_listed list 15) _ _ (λ x. same) (never _ _)
 numbered_load_store (insns.Store size rt address user) l words = never _ _
 numbered_load_store (insns.LoadPair rt rt2 address) l words = never _ _
 numbered_load_store (insns.StorePair rt rt2 address) l words = never _ _
@@ -131,21 +137,21 @@ numbered_load_store (insns.LoadAcquire size rt rn) l words = never _ _
 numbered_load_store (insns.StoreRelease size rt rn) l words = never _ _
 numbered_load_store _ l words = tt
 
-numbered_taken : (n : ℕ) (t : Bool) (offset : ℤ) (l : Local) → NumberedIn n (taken_if t offset l)
+numbered_taken : (n : ℕ) (t : Bool) (offset : ℤ) (l : Local) → NumberedIn of_local n (taken_if t offset l)
 unfolding NumberedIn
-numbered_taken n t offset l = numbered_cond n t _ _ (never _ _) (never _ _)
+numbered_taken n t offset l = numbered_cond of_local n t _ _ (never _ _) (never _ _)
 
-numbered_exchange_ns : (side : Side) (l : Local) (target : ℕ) → NumberedIn l.registers.ipsr (exchange_ns side l target)
+numbered_exchange_ns : (side : Side) (l : Local) (target : ℕ) → NumberedIn of_local l.registers.ipsr (exchange_ns side l target)
 unfolding NumberedIn
 numbered_exchange_ns Secure l target = λ x. refl
 numbered_exchange_ns NonSecure l target = tt
 
-numbered_call_ns : (side : Side) (l : Local) (target : ℕ) → NumberedIn l.registers.ipsr (call_ns side l target)
+numbered_call_ns : (side : Side) (l : Local) (target : ℕ) → NumberedIn of_local l.registers.ipsr (call_ns side l target)
 unfolding NumberedIn
-numbered_call_ns Secure l target = numbered_cond l.registers.ipsr (target % 2 == 1) _ _ (never _ _) (λ x. refl)
+numbered_call_ns Secure l target = numbered_cond of_local l.registers.ipsr (target % 2 == 1) _ _ (never _ _) (λ x. refl)
 numbered_call_ns NonSecure l target = tt
 
-numbered_branch : (i : Insn) (l : Local) (words : List ℕ) → NumberedIn l.registers.ipsr (finish_branch i l words)
+numbered_branch : (i : Insn) (l : Local) (words : List ℕ) → NumberedIn of_local l.registers.ipsr (finish_branch i l words)
 unfolding NumberedIn
 numbered_branch (insns.Branch offset) l words = numbered_taken l.registers.ipsr true offset l
 numbered_branch (insns.BranchIf c offset) l words = numbered_taken l.registers.ipsr (condition_holds c l.registers.apsr) offset l
@@ -160,38 +166,30 @@ numbered_branch (insns.IfThen c mask) l words = never _ _
 numbered_branch _ l words = tt
 
 -- system instructions don't exchange
-NumberedNamed : ℕ → FinishedNamed → Type 0
-NumberedNamed n (Ok f) = KeepsNumber f.1 f.0.registers.ipsr n
-NumberedNamed n (Err fault) = Unit {0}
+numbered_waits : (n : ℕ) (m : Named) → NumberedIn of_named n (waits_for_event m)
+unfolding NumberedIn
+numbered_waits n m = numbered_cond of_named n m.event _ _ (never _ _) (never _ _)
 
-named_cond : (n : ℕ) (t : Bool) (x y : FinishedNamed) → NumberedNamed n x → NumberedNamed n y → NumberedNamed n (cond t x y)
-named_cond n true x y p q = p
-named_cond n false x y p q = q
+numbered_hint : (n op : ℕ) (m : Named) → NumberedIn of_named n (finish_hint op m)
+unfolding NumberedIn
+numbered_hint n op m = numbered_cond of_named n (op == 2) _ _ (numbered_waits n m) (numbered_cond of_named n (op == 3) _ _ (never _ _) (numbered_cond of_named n (op == 4) _ _ (never _ _) (never _ _)))
 
-numbered_waits : (n : ℕ) (m : Named) → NumberedNamed n (waits_for_event m)
-unfolding NumberedNamed
-numbered_waits n m = named_cond n m.event _ _ (never _ _) (never _ _)
+numbered_written : (n : ℕ) (priority : ℤ) (sysm value : ℕ) (m : Named) → NumberedIn of_named n (finish_write priority sysm value m)
+unfolding NumberedIn
+numbered_written n priority sysm value m = numbered_cond of_named n (is_below_limit m sysm value) _ _ tt (never _ _)
 
-numbered_hint : (n op : ℕ) (m : Named) → NumberedNamed n (finish_hint op m)
-unfolding NumberedNamed
-numbered_hint n op m = named_cond n (op == 2) _ _ (numbered_waits n m) (named_cond n (op == 3) _ _ (never _ _) (named_cond n (op == 4) _ _ (never _ _) (never _ _)))
-
-numbered_written : (n : ℕ) (priority : ℤ) (sysm value : ℕ) (m : Named) → NumberedNamed n (finish_write priority sysm value m)
-unfolding NumberedNamed
-numbered_written n priority sysm value m = named_cond n (is_below_limit m sysm value) _ _ tt (never _ _)
-
-numbered_lazy : (n : ℕ) (side : Side) (m : Named) → NumberedNamed n (finish_lazy side m)
-unfolding NumberedNamed
+numbered_lazy : (n : ℕ) (side : Side) (m : Named) → NumberedIn of_named n (finish_lazy side m)
+unfolding NumberedIn
 numbered_lazy n Secure m = never _ _
 numbered_lazy n NonSecure m = tt
 
-numbered_test : (n : ℕ) (side : Side) (a : Bool) (rd : ℕ) (m : Named) (word : ℕ) → NumberedNamed n (finish_test side a rd m word)
-unfolding NumberedNamed
+numbered_test : (n : ℕ) (side : Side) (a : Bool) (rd : ℕ) (m : Named) (word : ℕ) → NumberedIn of_named n (finish_test side a rd m word)
+unfolding NumberedIn
 numbered_test n Secure a rd m word = never _ _
-numbered_test n NonSecure a rd m word = named_cond n a _ _ tt (never _ _)
+numbered_test n NonSecure a rd m word = numbered_cond of_named n a _ _ tt (never _ _)
 
-numbered_system : (n : ℕ) (priority : ℤ) (i : Insn) (m : Named) (word : ℕ) → NumberedNamed n (finish_system priority i m word)
-unfolding NumberedNamed
+numbered_system : (n : ℕ) (priority : ℤ) (i : Insn) (m : Named) (word : ℕ) → NumberedIn of_named n (finish_system priority i m word)
+unfolding NumberedIn
 numbered_system n priority (insns.Hint op) m word = numbered_hint n op m
 numbered_system n priority (insns.WriteSpecial rn sysm) m word = numbered_written n priority sysm _ m
 numbered_system n priority (insns.TestTarget a t rd rn) m word = numbered_test n m.side a rd m word
@@ -207,17 +205,17 @@ numbered_system n priority _ m word = tt
 abbrev NumberedBy : ℕ → Executed → Type 0
 NumberedBy n e = Numbered e.outcome e.state.core.registers.ipsr n
 
-numbered_alone : (s : State) (f : Finished) → NumberedIn s.core.registers.ipsr f → NumberedBy s.core.registers.ipsr (alone s (finished_in s.core f))
+numbered_alone : (s : State) (f : Finished) → NumberedIn of_local s.core.registers.ipsr f → NumberedBy s.core.registers.ipsr (alone s (finished_in s.core f))
 unfolding NumberedIn
 numbered_alone s (Ok f) h = h
 numbered_alone s (Err fault) h = tt
 
-numbered_ported : (s : State) (a : Reached × Result (List ℕ) Fault) (finish : List ℕ → Finished) → ((words : List ℕ) → NumberedIn s.core.registers.ipsr (finish words))
+numbered_ported : (s : State) (a : Reached × Result (List ℕ) Fault) (finish : List ℕ → Finished) → ((words : List ℕ) → NumberedIn of_local s.core.registers.ipsr (finish words))
     → NumberedBy s.core.registers.ipsr (through s (after_accesses s.core a finish))
 unfolding NumberedIn
 numbered_ported s (h, Err fault) finish all = tt
 numbered_ported s (h, Ok words) finish all = go (finish words) (all words) where
-  go : (f : Finished) → NumberedIn s.core.registers.ipsr f → NumberedBy s.core.registers.ipsr (through s (ported h (finished_in s.core f)))
+  go : (f : Finished) → NumberedIn of_local s.core.registers.ipsr f → NumberedBy s.core.registers.ipsr (through s (ported h (finished_in s.core f)))
   go (Ok f) p = p
   go (Err fault) p = tt
 
@@ -245,8 +243,8 @@ numbered_exclusive Free s i = numbered_loads s i
 numbered_exclusive (Marks e) s i = numbered_loads s i
 numbered_exclusive (Takes e rd) s i = numbered_stores s i e rd
 
-numbered_beside : (s : State) (i : Insn) (f : FinishedNamed) → NumberedNamed s.core.registers.ipsr f → NumberedBy s.core.registers.ipsr (beside s (ported (cleared_by i s.bus) (finished_named s.core f)))
-unfolding NumberedNamed
+numbered_beside : (s : State) (i : Insn) (f : FinishedNamed) → NumberedIn of_named s.core.registers.ipsr f → NumberedBy s.core.registers.ipsr (beside s (ported (cleared_by i s.bus) (finished_named s.core f)))
+unfolding NumberedIn
 numbered_beside s i (Ok f) h = h
 numbered_beside s i (Err fault) h = tt
 
