@@ -1,5 +1,5 @@
--- The exception that an entry or a tail-chain takes: IPSR is its number, its slot is of its side and active, and code of that
--- side handles it.
+-- The exception that an entry or a tail-chain takes: IPSR is its number, its slot is of its side and active, and code of
+-- that side handles it.
 use Rattle.std.proofs.Common.{◌≡◌, ℕ, zero, suc, ◌/◌, ◌%◌, ◌==◌, Bool, true, false, ◌&&◌, ◌||◌, not, cond, List, [], ◌∷◌, Option, Some, None, Result, Ok, Err, refl, ap, ◌∙◌, subst}
 use Rattle.std.specs.Prelude.{nat_lt, slice_set, slice_index_or}
 use Rattle.tz_table.specs.declared.units.Side.{Side}

@@ -224,7 +224,7 @@ differs : (t : Bool) → t ≡ true → t ≡ false → ⊥
 differs true e f = cc
 differs false e f = cc
 
--- FNC_RETURN has looked at Secure state; the instruction that branched left IPSR and the Secure stacks as they were
+-- FNC_RETURN has looked at Secure state; the branch to it left IPSR and the Secure stacks as they were
 pub passes_comes_back : (s0 s : State) (before : Core) (course : Course) (code : Code) → s.bus.board ≡ s0.bus.board → s.core.registers.ipsr ≡ s0.core.registers.ipsr → s.core.stacks_s ≡ s0.core.stacks_s
     → Passes s0 true before.registers.general (comes_back before s course code)
 passes_comes_back s0 s before course code board ipsr stacks =

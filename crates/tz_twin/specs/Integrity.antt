@@ -69,8 +69,8 @@ LeavesSecure s r =
 abbrev pub IsCallable : MapState → ℕ → Type 0
 IsCallable m a = ((attribution m true NonSecure a).side ≡ Secure) × ((attribution m true NonSecure a).callable ≡ true)
 
--- a halfword of SG: Non-secure code may call it, the Secure MPU lets it run with the privilege of Secure code, it lies in
--- regions of the board, and it is E97F
+-- a halfword of SG: Non-secure code may call it, the Secure MPU lets it run with the privilege of Secure code, it lies
+-- in regions of the board, and it is E97F
 pub record IsGatewayHalf (s : State) (a : ℕ) : Type 0 where
   pub callable : IsCallable (map_of s) a
   pub runs : is_runnable s.bus Secure (is_privileged_in Secure s.core) (is_negative_at (priority_in s)) a ≡ true
@@ -106,8 +106,8 @@ pub record Handles (given : Slot) (c : Core) (e : ExceptionsValue) : Type 0 wher
 abbrev pub NumbersAgree : ℕ → ℕ → Type 0
 NumbersAgree ipsr number = ((ipsr ≡ 0) × (number ≡ 0)) ⊎ ((ipsr ≡ 1) × (number ≢ 0))
 
--- what a call left on the Secure stack of the mode, MSP's or PSP's: where Secure code goes on, and with which number, which
--- agrees with IPSR before. The stack pointer is above it
+-- what a call left on the Secure stack of the mode, MSP's or PSP's: where Secure code goes on, and with which number,
+-- which agrees with IPSR before. The stack pointer is above it
 pub record IsCallFrame (ipsr : ℕ) (stacks : Stacks) (after : Core) (memory : Memory) : Type 0 where
   pub pc : after.registers.pc ≡ even_of (word_at memory (pointer_of ipsr stacks))
   pub t : after.registers.t ≡ (word_at memory (pointer_of ipsr stacks) % 2 == 1)
@@ -129,8 +129,8 @@ pub record IsOfPsr (psr : ℕ) (r : Registers) : Type 0 where
   pub it : r.it ≡ psr / 2 ^ 25 % 4 + 4 * (psr / 2 ^ 10 % 64)
   pub number : r.ipsr ≡ psr % 2 ^ 9
 
--- at an address stand the integrity signature, R4 to R11 from 8 bytes above it on, and the basic frame from 40 bytes above it
--- on, and the registers are what stands there
+-- at an address stand the integrity signature, R4 to R11 from 8 bytes above it on, and the basic frame from 40 bytes
+-- above it on, and the registers are what stands there
 pub record IsUnstacked (memory : Memory) (sp : ℕ) (r : Registers) : Type 0 where
   pub signed : word_at memory sp ≡ signature
   pub general : r.general ≡
@@ -145,15 +145,16 @@ pub record IsUnstacked (memory : Memory) (sp : ℕ) (r : Registers) : Type 0 whe
 abbrev pub above_frames : Memory → ℕ → ℕ
 above_frames memory sp = wrap (sp + 72 + 4 * (word_above memory sp 0x44 / 2 ^ 9 % 2))
 
--- the frames lay at the Secure stack pointer of the mode that goes on, which the number in IPSR tells, and it is above them
+-- the frames lay at the Secure stack pointer of the mode that goes on, which the number in IPSR tells, and it is above
+-- them
 pub record TookFrames (stacks : Stacks) (after : Core) (memory : Memory) : Type 0 where
   pub frames : IsUnstacked memory (pointer_of after.registers.ipsr stacks) after.registers
   pub pointer : pointer_of after.registers.ipsr after.stacks_s ≡ above_frames memory (pointer_of after.registers.ipsr stacks)
 
 -- ---- all ways
 
--- from code with this number in IPSR and with these Secure stacks: by an exception, which Secure code handles; by FNC_RETURN;
--- or by EXC_RETURN
+-- from code with this number in IPSR and with these Secure stacks: by an exception, which Secure code handles; by
+-- FNC_RETURN; or by EXC_RETURN
 pub data Came (ipsr : ℕ) (stacks : Stacks) (after : State) (cause : Cause) : Type 0 where
   ByException : cause ≡ Taken → (given : Slot) → given.side ≡ Secure → Handles given after.core after.exceptions → Came ipsr stacks after cause
   ByReturn : cause ≡ CameBack → IsCallFrame ipsr stacks after.core after.bus.memory → Came ipsr stacks after cause
