@@ -57,13 +57,13 @@ unlocked_side : (locked : Bool) (side : Side) → locked ≡ false → is_nonsec
 unlocked_side true side l e = cc
 unlocked_side false side l e = e
 
-secure_of : (side : Side) → is_nonsecure_side side ≡ false → side ≡ Secure
-secure_of Secure e = refl
-secure_of NonSecure e = cc
+pub runs_secure : (side : Side) → is_nonsecure_side side ≡ false → side ≡ Secure
+runs_secure Secure e = refl
+runs_secure NonSecure e = cc
 
 comes_taken : (ipsr : ℕ) (stacks : Stacks) (s : State) (touched : Bool) (given : Slot) → Handles given s.core s.exceptions → Comes ipsr stacks (taken s touched)
 comes_taken ipsr stacks s touched given h =
-    λ secure unlocked. ByException refl given (sym h.runs ∙ secure_of s.core.run.side (unlocked_side s.core.run.locked s.core.run.side unlocked secure))
+    λ secure unlocked. ByException refl given (sym h.runs ∙ runs_secure s.core.run.side (unlocked_side s.core.run.locked s.core.run.side unlocked secure))
     (record { number = h.number; runs = h.runs; side = h.side; active = h.active })
 
 comes_taken_by : (ipsr : ℕ) (stacks : Stacks) (s : State) (course : Course) (result : Entered) → EnteredHandles s.core s.exceptions result → Comes ipsr stacks (taken_by s course result)
