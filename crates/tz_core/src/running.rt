@@ -421,8 +421,9 @@ impl Machine {
     ///
     /// It is the step relation. Where Non-secure code runs and doesn't look at Secure state, that stays
     /// as it was, but for the count of the Secure timer and for what pends and is active; where Non-secure code gets to
-    /// Secure code, it ran SG where it may call, took an exception, returned by FNC_RETURN to what a Secure stack holds, or
-    /// returned by EXC_RETURN to a frame with the integrity signature.
+    /// Secure code, SG ran where it may call, an exception of the Secure side was taken and is active, it returned by
+    /// FNC_RETURN to what the Secure stack of the mode holds, with a number that agrees, or it returned by EXC_RETURN to
+    /// frames with the integrity signature there, and has their registers.
     pub fn step(&mut self, due: &[ScriptEvent]) -> Report
         ensures steps { step self.old due.now ≡ record { state = self.new; report = result } }
         ensures leaves_secure { LeavesSecure self.old (record { state = self.new; report = result }) }

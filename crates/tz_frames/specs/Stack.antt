@@ -76,8 +76,8 @@ access_fault (Some fault) = Some (Access fault)
 abbrev pub pushed_with : {H : Type 0} → Core → H × Option Fault → Pushed H
 pushed_with c left = record { core = c; held = left.0; fault = access_fault left.1 }
 
--- a frame at a base: below the limit nothing is written, and the stack pointer becomes the limit; (own) else it
--- becomes the base, also where a word faults
+-- a frame at a base: one below the limit isn't written, and leaves the stack pointer at the limit; (own) any other leaves
+-- it at the base, whether or not a word of it faults
 abbrev pub pushed : {H : Type 0} → Looking H → Core → H → Side → Bool → Bool → ℕ → List ℕ → Pushed H
 pushed look c h side process privileged base words =
     if nat_lt base (limit_of process (stacks_of side c))
@@ -158,7 +158,7 @@ abbrev pub callee_read : Result (List ℕ) StackFault → Result Callee StackFau
 callee_read (Ok words) = Ok (callee_of words)
 callee_read (Err fault) = Err fault
 
--- the signature is compared before what stands above it is read
+-- the first word is tested, and only behind the signature do the others count
 abbrev pub signed : Result ℕ StackFault → Result (List ℕ) StackFault → Result Callee StackFault
 signed (Err fault) later = Err fault
 signed (Ok word) later = if word == signature then callee_read later else Err Signature

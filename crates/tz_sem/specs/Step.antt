@@ -187,7 +187,7 @@ idles s =
 abbrev pub without_event : State → State
 without_event s = record s { core = record s.core { event = false } }
 
--- the chosen exception would be taken with both PRIMASKs read as 0
+-- an exception could be taken now if neither PRIMASK were set
 abbrev pub is_woken : State → Bool
 is_woken s = wakes s.exceptions s.core.masks
 

@@ -49,7 +49,7 @@ touching_found s before e looked board found =
 
 -- of one run: where a step ends in Secure code, it came there by one of the ways
 abbrev pub Arrives : State → Ended → Type 0
-Arrives s e = is_nonsecure_side (side_of e.state) ≡ false → e.state.core.run.locked ≡ false → WayIn s e
+Arrives s e = is_nonsecure_side (side_of e.state) ≡ false → e.state.core.run.locked ≡ false → WayIn s (stepped (before_in s.core) e) e.ending.cause
 
 -- during a step the Secure side is kept, and the Secure timer stands
 pub record Kept (old new : State) : Type 0 where

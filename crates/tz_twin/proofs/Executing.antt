@@ -22,7 +22,7 @@ use Rattle.tz_regs.specs.declared.parts.Registers.{Registers}
 use Rattle.tz_regs.specs.declared.request.Exclusive.{Exclusive}
 use Rattle.tz_regs.specs.Memory.{Memory}
 use Rattle.tz_regs.specs.Access.{is_aligned, Reached, reached_in}
-use Rattle.tz_regs.specs.State.{priority_in, asker_in, is_held}
+use Rattle.tz_regs.specs.State.{State, priority_in, asker_in, is_held}
 use Rattle.tz_regs.specs.declared.asker.Asker.{Asker}
 use Rattle.tz_regs.specs.Target.{target_word}
 use Rattle.tz_sem.specs.declared.family.Family.{Family}
@@ -41,6 +41,7 @@ use Rattle.tz_twin.proofs.Both.{Both, both_cond}
 use Rattle.tz_twin.proofs.Registers.{Written, moved}
 use Rattle.tz_twin.proofs.Accesses.{SameAnswers, reached, rested, answers_same}
 use Rattle.tz_twin.proofs.Faults.{is_own, Own, OwnSome, own_answers, own_alu, own_refusal, own_load_store, own_branch, own_system}
+use Rattle.tz_twin.proofs.Numbers.{Numbered, executed_numbered}
 use Rattle.tz_twin.proofs.Leaving.{Leaves, Left, left_all, left_again, both_faults, both_fault, CallsNothing, Follows, goes_on_same, skips_same}
 
 -- what instructions left of twins: one open part, the same stores and outcome, and rests that are the same to
@@ -62,22 +63,25 @@ CallsNone i (Ok outcome) = CallsNothing i outcome
 CallsNone i (Err fault) = Unit {0}
 
 -- the step goes on alike
-concluded : (o p : Open) (x x' y y' : Rest) (r : Registers) (before before' : Core) (course : Course) (code : Code) (i : Insn) (stores : List Store) (out : Result Outcome Fault) → Own out → CallsNone i out → Follows course r before before' → Left o x x' p y y'
+concluded : (o p : Open) (x x' y y' : Rest) (r : Registers) (before before' : Core) (course : Course) (code : Code) (i : Insn) (stores : List Store) (out : Result Outcome Fault) → Own out → CallsNone i out → Follows course r before before'
+    → Numbered out p.registers.ipsr o.registers.ipsr → Left o x x' p y y'
     → Both (join o x) (join o x') (executes before course code i (record { state = join p y; stores = stores; outcome = out })) (executes before' course code i (record { state = join p y'; stores = stores; outcome = out }))
 unfolding Own CallsNone
-concluded o p x x' y y' r before before' course code i stores (Ok outcome) own calls f h = goes_on_same o p x x' y y' r before before' course code i stores outcome calls f h
-concluded o p x x' y y' r before before' course code i stores (Err fault) own calls f h = both_faults o p x x' y y' course fault stores own h
+concluded o p x x' y y' r before before' course code i stores (Ok outcome) own calls f n h = goes_on_same o p x x' y y' r before before' course code i stores outcome calls f n h
+concluded o p x x' y y' r before before' course code i stores (Err fault) own calls f n h = both_faults o p x x' y y' course fault stores own h
 
-executes_same : (o : Open) (x x' : Rest) (r : Registers) (before before' : Core) (course : Course) (code : Code) (i : Insn) (e e' : Executed) → CallsNone i e.outcome → Follows course r before before' → Alike o x x' e e'
+executes_same : (o : Open) (x x' : Rest) (r : Registers) (before before' : Core) (course : Course) (code : Code) (i : Insn) (e e' : Executed) → CallsNone i e.outcome → Follows course r before before'
+    → Numbered e.outcome e.state.core.registers.ipsr o.registers.ipsr → Alike o x x' e e'
     → Both (join o x) (join o x') (executes before course code i e) (executes before' course code i e')
-executes_same o x x' r before before' course code i e e' calls f a =
+executes_same o x x' r before before' course code i e e' calls f n a =
     let here : e ≡ record { state = join a.part a.rest; stores = e.stores; outcome = e.outcome } =
     λ j. record { state = a.state j; stores = e.stores; outcome = e.outcome } in
     let there : e' ≡ record { state = join a.part a.rest'; stores = e.stores; outcome = e.outcome } =
     λ j. record { state = a.state' j; stores = sym a.stores j; outcome = sym a.outcome j } in
     subst (λ (y : Executed). Both (join o x) (join o x') (executes before course code i y) (executes before' course code i e')) (sym here)
     (subst (λ (y : Executed). Both (join o x) (join o x') (executes before course code i (record { state = join a.part a.rest; stores = e.stores; outcome = e.outcome })) (executes before' course code i y)) (sym there)
-    (concluded o a.part x x' a.rest a.rest' r before before' course code i e.stores e.outcome a.own calls f a.left))
+    (concluded o a.part x x' a.rest a.rest' r before before' course code i e.stores e.outcome a.own calls f
+    (subst (λ (s : State). Numbered e.outcome s.core.registers.ipsr o.registers.ipsr) a.state n) a.left))
 
 alike_cond : (o : Open) (x x' : Rest) (t : Bool) (e f e' f' : Executed) → Alike o x x' e e' → Alike o x x' f f' → Alike o x x' (cond t e f) (cond t e' f')
 alike_cond o x x' true e f e' f' p q = p
@@ -355,7 +359,8 @@ unfolding is_own
 placed_same o x x' course code i quiet same =
     both_cond _ _ (is_misplaced i o.registers) _ _ _ _ (both_fault o x x' course Undef refl same)
     (both_cond _ _ (is_passed_over o.registers && not (ignores_condition NonSecure i)) _ _ _ _ (skips_same o x x' course code same)
-    (executes_same o x x' o.registers (join o x).core (join o x').core course code i _ _ (calls_none o x i) (record { quiet = quiet; first = refl; second = refl }) (alike_family o x x' i (family_of i) same)))
+    (executes_same o x x' o.registers (join o x).core (join o x').core course code i _ _ (calls_none o x i) (record { quiet = quiet; first = refl; second = refl }) (executed_numbered (join o x) i)
+    (alike_family o x x' i (family_of i) same)))
 
 -- one that looked at nothing Secure where it was fetched
 pub decoded_same : (o : Open) (x x' : Rest) (course : Course) (code : Code) (d : Decoded) → course.touched ≡ false → Same o x x' → Both (join o x) (join o x') (decoded (join o x) course code d) (decoded (join o x') course code d)

@@ -190,10 +190,10 @@ kept_faults s0 s course fault is own k e =
 pub record Passes (s0 : State) (looked : Bool) (general : List ℕ) (p : Passed) : Type 0 where
   pub halts : Halts NonSecure s0.bus.board looked general p
   pub kept : p.ending.touched ≡ false → Kept s0 p.state
-  pub comes : Comes s0.core.stacks_s p
+  pub comes : Comes s0.core.registers.ipsr s0.core.stacks_s p
 
-comes_on : (stacks stacks' : Stacks) (p : Passed) → stacks ≡ stacks' → Comes stacks p → Comes stacks' p
-comes_on stacks stacks' p e h = subst (λ (t : Stacks). Comes t p) e h
+comes_on : (ipsr : ℕ) (stacks stacks' : Stacks) (p : Passed) → stacks ≡ stacks' → Comes ipsr stacks p → Comes ipsr stacks' p
+comes_on ipsr stacks stacks' p e h = subst (λ (t : Stacks). Comes ipsr t p) e h
 
 halts_on : (b b' : BoardValue) (looked : Bool) (general : List ℕ) (p : Passed) → b ≡ b' → Halts NonSecure b looked general p → Halts NonSecure b' looked general p
 halts_on b b' looked general p e h = subst (λ (x : BoardValue). Halts NonSecure x looked general p) e h
@@ -202,14 +202,14 @@ pub passes_preempted : (s0 s : State) (course : Course) (back : ℕ) → s.core.
 passes_preempted s0 s course back is k = record {
   halts = halts_on s.bus.board s0.bus.board course.touched s.core.registers.general (preempted s course back) k.keeps.board (halts_preempted NonSecure s course back);
   kept = λ e. kept_preempted s0 s course back is k e;
-  comes = comes_preempted s0.core.stacks_s s course back;
+  comes = comes_preempted s0.core.registers.ipsr s0.core.stacks_s s course back;
 }
 
 pub passes_faults : (s0 s : State) (course : Course) (fault : Fault) → s.core.run.side ≡ NonSecure → is_own fault ≡ true → Kept s0 s → Passes s0 course.touched s.core.registers.general (faults s course fault)
 passes_faults s0 s course fault is own k = record {
   halts = halts_on s.bus.board s0.bus.board course.touched s.core.registers.general (faults s course fault) k.keeps.board (halts_faults NonSecure s course fault);
   kept = λ e. kept_faults s0 s course fault is own k e;
-  comes = comes_faults s0.core.stacks_s s course fault;
+  comes = comes_faults s0.core.registers.ipsr s0.core.stacks_s s course fault;
 }
 
 pub passes_returns : (s0 s : State) (course : Course) (code : Code) (value : ℕ) → course.touched ≡ false → s.core.run.side ≡ NonSecure → Kept s0 s
@@ -217,19 +217,21 @@ pub passes_returns : (s0 s : State) (course : Course) (code : Code) (value : ℕ
 passes_returns s0 s course code value quiet is k = record {
   halts = halts_on s.bus.board s0.bus.board course.touched s.core.registers.general (returns s course code value) k.keeps.board (halts_returns NonSecure s course code value (λ h. quiet));
   kept = λ e. kept_returns s0 s course code value is k e;
-  comes = comes_on s.core.stacks_s s0.core.stacks_s (returns s course code value) k.keeps.stacks (comes_returns s course code value is);
+  comes = comes_on s0.core.registers.ipsr s.core.stacks_s s0.core.stacks_s (returns s course code value) k.keeps.stacks (comes_returns s0.core.registers.ipsr s course code value is);
 }
 
 differs : (t : Bool) → t ≡ true → t ≡ false → ⊥
 differs true e f = cc
 differs false e f = cc
 
--- FNC_RETURN has looked at Secure state
-pub passes_comes_back : (s0 s : State) (before : Core) (course : Course) (code : Code) → s.bus.board ≡ s0.bus.board → s.core.stacks_s ≡ s0.core.stacks_s → Passes s0 true before.registers.general (comes_back before s course code)
-passes_comes_back s0 s before course code board stacks =
-    let h = halts_on s.bus.board s0.bus.board true before.registers.general (comes_back before s course code) board (halts_comes_back NonSecure before s course code) in
+-- FNC_RETURN has looked at Secure state; the branch to it left IPSR and the Secure stacks as they were
+pub passes_comes_back : (s0 s : State) (before : Core) (course : Course) (code : Code) → s.bus.board ≡ s0.bus.board → s.core.registers.ipsr ≡ s0.core.registers.ipsr → s.core.stacks_s ≡ s0.core.stacks_s
+    → Passes s0 true before.registers.general (comes_back before s course code)
+passes_comes_back s0 s before course code board ipsr stacks =
+    let p = comes_back before s course code in
+    let h = halts_on s.bus.board s0.bus.board true before.registers.general p board (halts_comes_back NonSecure before s course code) in
     record {
       halts = h;
-      kept = λ e. absurd (differs (comes_back before s course code).ending.touched (h.touched refl) e);
-      comes = comes_on s.core.stacks_s s0.core.stacks_s (comes_back before s course code) stacks (comes_comes_back before s course code);
+      kept = λ e. absurd (differs p.ending.touched (h.touched refl) e);
+      comes = comes_on s0.core.registers.ipsr s.core.stacks_s s0.core.stacks_s p stacks (subst (λ (n : ℕ). Comes n s.core.stacks_s p) ipsr (comes_comes_back before s course code));
     }

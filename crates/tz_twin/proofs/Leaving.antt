@@ -168,12 +168,12 @@ pub record Follows (course : Course) (r : Registers) (before before' : Core) : T
   pub first : before.registers ≡ r
   pub second : before'.registers ≡ r
 
-exchanged_same : (o p q : Open) (x x' y y' : Rest) (r : Registers) (before before' : Core) (course : Course) (code : Code) (stores : List Store) (target : ℕ) (ns : Bool) → Follows course r before before' → Left o x x' p y y' → Left o x x' q y y'
+exchanged_same : (o p q : Open) (x x' y y' : Rest) (r : Registers) (before before' : Core) (course : Course) (code : Code) (stores : List Store) (target : ℕ) (ns : Bool) → Follows course r before before' → p.registers.ipsr ≡ o.registers.ipsr → Left o x x' p y y' → Left o x x' q y y'
     → Both (join o x) (join o x') (with_stores stores (exchanged before (join p y) (join q y) course code target ns)) (with_stores stores (exchanged before' (join p y') (join q y') course code target ns))
 unfolding exchanged
-exchanged_same o p q x x' y y' r before before' course code stores target ns f h g =
+exchanged_same o p q x x' y y' r before before' course code stores target ns f n h g =
     passed_cond o x x' stores (is_fnc_return target) _ _ _ _
-    (comes_back_both o p x x' y y' r before before' course code stores f.first f.second h.same h.leaves.board h.leaves.stacks h.leaves'.stacks)
+    (comes_back_both o p x x' y y' r before before' course code stores f.first f.second h.same h.leaves.board n h.leaves.stacks h.leaves'.stacks)
     (passed_cond o x x' stores (is_handler p.registers.ipsr && is_exc_return target) _ _ _ _
     (returns_both o q x x' y y' course code target stores f.quiet g.same (kept_of o x q y g.leaves) (kept_of o x' q y' g.leaves'))
     (passed_cond o x x' stores ns _ _ _ _ (branch_ns_same o q x x' y y' course code stores target g)
@@ -194,29 +194,33 @@ asleep_of : Bool → Open → Open
 asleep_of event p = record p { sleep = sleep_of event }
 
 -- an exchange that is no call
-exchanges_same : (o p : Open) (x x' y y' : Rest) (r : Registers) (before before' : Core) (course : Course) (code : Code) (i : Insn) (stores : List Store) (target : ℕ) (ns : Bool) → is_call i ≡ false → Follows course r before before' → Left o x x' p y y'
+exchanges_same : (o p : Open) (x x' y y' : Rest) (r : Registers) (before before' : Core) (course : Course) (code : Code) (i : Insn) (stores : List Store) (target : ℕ) (ns : Bool) → is_call i ≡ false → Follows course r before before' → p.registers.ipsr ≡ o.registers.ipsr → Left o x x' p y y'
     → Both (join o x) (join o x') (exchanges before i (join p y) course code stores target ns) (exchanges before' i (join p y') course code stores target ns)
-exchanges_same o p x x' y y' r before before' course code i stores target ns plain f h =
+exchanges_same o p x x' y y' r before before' course code i stores target ns plain f n h =
     both_second _ _ (is_call i) _ _ _ _ plain
-    (exchanged_same o p (past_of i p) x x' y y' r before before' course code stores target ns f h (left_registers o p x x' y y' _ h))
+    (exchanged_same o p (past_of i p) x x' y y' r before before' course code stores target ns f n h (left_registers o p x x' y y' _ h))
 
 abbrev pub is_exchange : Outcome → Bool
 is_exchange (Exchange target ns) = true
 is_exchange outcome = false
 
+-- where it exchanges, IPSR is as it was
+abbrev pub KeepsNumber : Outcome → ℕ → ℕ → Type 0
+KeepsNumber out new old = is_exchange out ≡ true → new ≡ old
+
 -- an instruction that calls nothing
 abbrev pub CallsNothing : Insn → Outcome → Type 0
 CallsNothing i out = is_exchange out ≡ true → is_call i ≡ false
 
-pub goes_on_same : (o p : Open) (x x' y y' : Rest) (r : Registers) (before before' : Core) (course : Course) (code : Code) (i : Insn) (stores : List Store) (out : Outcome) → CallsNothing i out → Follows course r before before' → Left o x x' p y y'
+pub goes_on_same : (o p : Open) (x x' y y' : Rest) (r : Registers) (before before' : Core) (course : Course) (code : Code) (i : Insn) (stores : List Store) (out : Outcome) → CallsNothing i out → Follows course r before before' → KeepsNumber out p.registers.ipsr o.registers.ipsr → Left o x x' p y y'
     → Both (join o x) (join o x') (goes_on before i (join p y) course code stores out) (goes_on before' i (join p y') course code stores out)
 unfolding asleep_of
-goes_on_same o p x x' y y' r before before' course code i stores Next calls f h =
+goes_on_same o p x x' y y' r before before' course code i stores Next calls f n h =
     at_pc o (past_of i p) x x' y y' stores _ (wrap (p.registers.pc + length_of code)) (left_registers o p x x' y y' _ h)
-goes_on_same o p x x' y y' r before before' course code i stores (Jump to) calls f h = at_pc o (past_of i p) x x' y y' stores _ to (left_registers o p x x' y y' _ h)
-goes_on_same o p x x' y y' r before before' course code i stores (Exchange target ns) calls f h =
-    exchanges_same o p x x' y y' r before before' course code i stores target ns (calls refl) f h
-goes_on_same o p x x' y y' r before before' course code i stores (Sleep event) calls f h =
+goes_on_same o p x x' y y' r before before' course code i stores (Jump to) calls f n h = at_pc o (past_of i p) x x' y y' stores _ to (left_registers o p x x' y y' _ h)
+goes_on_same o p x x' y y' r before before' course code i stores (Exchange target ns) calls f n h =
+    exchanges_same o p x x' y y' r before before' course code i stores target ns (calls refl) f (n refl) h
+goes_on_same o p x x' y y' r before before' course code i stores (Sleep event) calls f n h =
     at_pc o (asleep_of event (past_of i p)) x x' y y' stores _ (wrap (p.registers.pc + length_of code))
     (left_again o x x' p (asleep_of event (past_of i p)) y y' refl refl refl refl h)
 

@@ -17,11 +17,13 @@ pub mod FaultTwins
 pub mod EntryTwins
 pub mod ReturnTwins
 pub mod Handled
+pub mod Active
 pub mod Arriving
 pub mod Halting
 pub mod Keeping
 pub mod Passing
 pub mod Leaving
+pub mod Numbers
 pub mod Executing
 pub mod Fetching
 pub mod Entering

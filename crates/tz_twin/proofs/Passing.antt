@@ -262,16 +262,16 @@ returns_both o p x x' y y' course code value stores quiet same k k' =
 
 -- both look at Secure state; where it faults, both have the registers before the instruction
 pub comes_back_both : (o p : Open) (x x' y y' : Rest) (r : Registers) (before before' : Core) (course : Course) (code : Code) (stores : List Store) → before.registers ≡ r → before'.registers ≡ r → Same p y y' → p.board ≡ o.board
-    → y.stacks_s ≡ x.stacks_s → y'.stacks_s ≡ x'.stacks_s → Both (join o x) (join o x') (with_stores stores (comes_back before (join p y) course code)) (with_stores stores (comes_back before' (join p y') course code))
-comes_back_both o p x x' y y' r before before' course code stores is is' same board stacks stacks' =
+    → p.registers.ipsr ≡ o.registers.ipsr → y.stacks_s ≡ x.stacks_s → y'.stacks_s ≡ x'.stacks_s → Both (join o x) (join o x') (with_stores stores (comes_back before (join p y) course code)) (with_stores stores (comes_back before' (join p y') course code))
+comes_back_both o p x x' y y' r before before' course code stores is is' same board ipsr stacks stacks' =
     both_touch o p x x' y y' r true stores _ _ same board h h' (h.halts.touched refl) (h'.halts.touched refl)
   where
     h : Passes (join o x) true r.general (comes_back before (join p y) course code)
     h =
         subst (λ (b : Registers). Passes (join o x) true b.general (comes_back before (join p y) course code)) is
-        (passes_comes_back (join o x) (join p y) before course code board stacks)
+        (passes_comes_back (join o x) (join p y) before course code board ipsr stacks)
 
     h' : Passes (join o x') true r.general (comes_back before' (join p y') course code)
     h' =
         subst (λ (b : Registers). Passes (join o x') true b.general (comes_back before' (join p y') course code)) is'
-        (passes_comes_back (join o x') (join p y') before' course code board stacks')
+        (passes_comes_back (join o x') (join p y') before' course code board ipsr stacks')

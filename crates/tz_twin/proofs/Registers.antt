@@ -175,7 +175,7 @@ sized_same o x x' r lane Byte value same = narrow_same o x x' r (narrow_of r) la
 sized_same o x x' r lane Half value same = narrow_same o x x' r (narrow_of r) lane Half value same
 sized_same o x x' r lane Word value same = word_written o x x' r value same
 
--- what holds of every register in the Non-secure view, and where there is none, holds at every address
+-- a fact of each register as Non-secure code names it, and of no register, is a fact of each address
 at_view : (P : Option Found → Type 0) → P None → ((r : Register) → P (Some (record { view = NonSecure; register = r }))) → (r : Option Register) → P (found_by NonSecure r)
 at_view P none some None = none
 at_view P none some (Some r) = some r

@@ -62,6 +62,7 @@ use Rattle.tz_twin.specs.Seen.{crossing, Seen}
 use Rattle.tz_twin.proofs.Split.{board_seen}
 use Rattle.tz_twin.proofs.After.{general_seen, after}
 use Rattle.tz_twin.proofs.Both.{Touching}
+use Rattle.tz_twin.proofs.Arriving.{runs_secure}
 use Rattle.tz_twin.proofs.Halting.{halts_locks, halts_preempted, halts_returns, halts_comes_back, touching_halts, touching_secure}
 use Rattle.tz_twin.proofs.Entering.{touching_faults, touching_enters}
 use Rattle.tz_twin.proofs.Returning.{secured, never, touching_returned, touching_called}
@@ -358,10 +359,6 @@ unfolding ended
 touching_secured s before e =
     touching_cond (secured s) before (takes_first s.exceptions s.core.masks) _ _ (touching_taken s before e)
     (touching_sleeps s before s.core.run.sleep e)
-
-runs_secure : (side : Side) → is_nonsecure_side side ≡ false → side ≡ Secure
-runs_secure Secure e = refl
-runs_secure NonSecure e = cc
 
 false_is_true : {P : Type 0} → false ≡ true → P
 false_is_true e = cc

@@ -9,6 +9,7 @@ use Rattle.tz_model.specs.declared.report.Sleep.TheVariants.{Awake, Wfi, Wfe}
 use Rattle.tz_model.specs.declared.fetch.Fetched.{Fetched}
 use Rattle.tz_model.specs.Words.{wrap}
 use Rattle.tz_regs.specs.declared.fetcher.Fetcher.{Fetcher}
+use Rattle.tz_regs.specs.Registers.{before_in}
 use Rattle.tz_regs.specs.Memory.{half_at}
 use Rattle.tz_regs.specs.State.{Bus, State}
 use Rattle.tz_regs.specs.Fetch.{fetch, needs_second, half_verdict, with_second, with_first, own_fetch, gateway_fetch, is_own_fetch, own_touch, is_entry_fault}
@@ -16,12 +17,12 @@ use Rattle.tz_regs.specs.Execution.{takes_first}
 use Rattle.tz_regs.specs.Due.{begun}
 use Rattle.tz_model.specs.Codes.{meaning_of}
 use Rattle.tz_sem.specs.Ended.{Ended}
-use Rattle.tz_sem.specs.Step.{fetched, fetches, fetcher_in, fetch_in, looks, unready, instructs, course_in, takes, idles, is_woken, by_sleep, ended, started}
+use Rattle.tz_sem.specs.Step.{stepped, fetched, fetches, fetcher_in, fetch_in, looks, unready, instructs, course_in, takes, idles, is_woken, by_sleep, ended, started}
 use Rattle.tz_twin.specs.Seen.{Seen, seen}
 use Rattle.tz_twin.proofs.Fetching.{own_fetch_same, own_fetch_own}
 use Rattle.tz_twin.proofs.Faults.{is_own, Own}
 use Rattle.tz_twin.proofs.Split.{Open, Rest, open_map, join_bus, join, Same, Twins, twins_join, by_join, seen_of_twins}
-use Rattle.tz_twin.specs.Integrity.{WayIn}
+use Rattle.tz_twin.specs.Integrity.{IsGatewayHalf, WayIn}
 use Rattle.tz_twin.proofs.Both.{Kept, Touching, Stops, Arrives, Both, Go, Stop, Touch, both_cond, both_second}
 use Rattle.tz_twin.proofs.Passing.{preempted_both}
 use Rattle.tz_twin.proofs.Executing.{decoded_same}
@@ -127,8 +128,14 @@ resting_stops o x sleep event e h =
 resting_arrives : (o : Open) (x : Rest) (sleep : Sleep) (event : Bool) (e : Ended) → Arrives (join (resting o sleep event) x) e → Arrives (join o x) e
 unfolding resting
 resting_arrives o x sleep event e a secure unlocked = go (a secure unlocked) where
-  go : WayIn (join (resting o sleep event) x) e → WayIn (join o x) e
-  go (inl gateway) = inl gateway
+  q : State
+  q = join (resting o sleep event) x
+
+  half : (a : ℕ) → IsGatewayHalf q a → IsGatewayHalf (join o x) a
+  half a h = record { callable = h.callable; runs = h.runs; mapped = h.mapped; half = h.half }
+
+  go : WayIn q (stepped (before_in q.core) e) e.ending.cause → WayIn (join o x) (stepped (before_in (join o x).core) e) e.ending.cause
+  go (inl ran) = inl (record { first = half _ ran.first; second = half _ ran.second; told = ran.told; registers = ran.registers })
   go (inr came) = inr came
 
 -- a step from such a part is one from that part

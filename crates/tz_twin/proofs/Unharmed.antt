@@ -3,9 +3,10 @@ use Rattle.std.proofs.Common.{◌≡◌, Bool, true, false, List, refl}
 use Rattle.tz_model.specs.declared.report.ScriptEvent.{ScriptEvent}
 use Rattle.tz_model.specs.Words.{is_nonsecure_side}
 use Rattle.tz_regs.specs.Due.{begun}
+use Rattle.tz_regs.specs.Registers.{before_in}
 use Rattle.tz_regs.specs.State.{State, side_of}
 use Rattle.tz_sem.specs.Ended.{Ended}
-use Rattle.tz_sem.specs.Step.{ended, started}
+use Rattle.tz_sem.specs.Step.{ended, started, stepped, step}
 use Rattle.tz_twin.specs.Integrity.{Keeps, CountsAlone, WayIn}
 use Rattle.tz_twin.proofs.Split.{twins_of_seen}
 use Rattle.tz_twin.proofs.Slots.{then, begun_kept}
@@ -21,7 +22,7 @@ keeps_both s e (Go h) untouched = h.kept
 keeps_both s e (Stop h h') untouched = h.kept untouched
 keeps_both s e (Touch before before' alike h h' a a') untouched = absurd (apart e.ending.touched h.touched untouched)
 
-arrives_both : (s : State) (e : Ended) → Both s s e e → is_nonsecure_side (side_of e.state) ≡ false → e.state.core.run.locked ≡ false → WayIn s e
+arrives_both : (s : State) (e : Ended) → Both s s e e → is_nonsecure_side (side_of e.state) ≡ false → e.state.core.run.locked ≡ false → WayIn s (stepped (before_in s.core) e) e.ending.cause
 arrives_both s e (Go h) secure unlocked = absurd (apart (is_nonsecure_side (side_of e.state)) h.twins.runs secure)
 arrives_both s e (Stop h h') secure unlocked = absurd (apart e.state.core.run.locked h.locked unlocked)
 arrives_both s e (Touch before before' alike h h' a a') secure unlocked = a secure unlocked
@@ -51,6 +52,6 @@ leaves_secure s events is untouched =
     let r = started s events in kept_from s events (ended r).state (keeps_both r (ended r) (itself r is) untouched)
 
 pub enters_secure : (s : State) (events : List ScriptEvent) → is_nonsecure_side (side_of s) ≡ true → is_nonsecure_side (side_of (ended (started s events)).state) ≡ false
-    → (ended (started s events)).state.core.run.locked ≡ false → WayIn (started s events) (ended (started s events))
+    → (ended (started s events)).state.core.run.locked ≡ false → WayIn (started s events) (step s events) (ended (started s events)).ending.cause
 enters_secure s events is secure unlocked =
     let r = started s events in arrives_both r (ended r) (itself r is) secure unlocked

@@ -25,9 +25,10 @@ pub fn isolation()
         text_from Ns events 0 (boot b secure nonsecure) n ≡ text_from Ns events 0 (boot b other nonsecure) n }
 {}
 
-/// Integrity: a step of Non-secure code that doesn't look at Secure state leaves it as it was, and one that gets to
-/// Secure code without locking ran SG where Non-secure code may call, took an exception, returned by FNC_RETURN to what a
-/// Secure stack holds, or returned by EXC_RETURN to a frame with the integrity signature.
+/// Integrity: a step of Non-secure code that doesn't look at Secure state leaves it as it was, and after one that gets to
+/// Secure code without locking SG ran where Non-secure code may call, an exception of the Secure side was taken and is
+/// active, it returned by FNC_RETURN to what the Secure stack of the mode holds, with a number that agrees, or it returned
+/// by EXC_RETURN to frames with the integrity signature there, and has their registers.
 pub fn integrity()
     ensures leaves { (s : State) (events : List ScriptEvent) → LeavesSecure s (step s events) }
     ensures enters { (s : State) (events : List ScriptEvent) → EntersSecure s events (step s events) }
