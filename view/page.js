@@ -90,6 +90,7 @@ class Page {
         byId('title').textContent = this.traces.map((trace) => trace.name).join(' | ');
         this.axis = new Axis(this.traces, isFirst ? true : this.axis.isFolded);
         this.comparison = new Comparison(this.axis);
+        byId('fold').setAttribute('aria-pressed', String(this.axis.isFolded));
         this.layOut();
         if (isFirst) this.chart.showAll();
         this.select(isFirst ? this.firstCell() : this.axis.cellOfStep(step));
@@ -144,15 +145,24 @@ class Page {
     goToWay(isBackwards, accepts) {
         const found = this.axis.tracks.map((track) => track.findTurn(this.cell, isBackwards, accepts))
             .filter((cell) => cell >= 0);
-        if (found.length) this.select(isBackwards ? Math.max(...found) : Math.min(...found));
-        else this.say(`No such step ${isBackwards ? 'before' : 'behind'} this one.`);
+        const cell = isBackwards ? Math.max(...found) : Math.min(...found);
+        this.goTo(found.length ? cell : -1, `No such step ${isBackwards ? 'before' : 'behind'} this one.`);
     }
 
     goToDifference(isBackwards) {
         if (!this.comparison.isMade) return;
         const cell = isBackwards ? this.comparison.before(this.cell) : this.comparison.next(this.cell);
-        if (cell >= 0) this.select(cell);
-        else this.say(`No line differs ${isBackwards ? 'before' : 'behind'} this one.`);
+        this.goTo(cell, `No line differs ${isBackwards ? 'before' : 'behind'} this one.`);
+    }
+
+    // Shows a cell, or says why there is none.
+    goTo(cell, why) {
+        if (cell < 0) {
+            this.say(why);
+            return;
+        }
+        this.select(cell);
+        this.tell();
     }
 
     search(words, isBackwards) {
@@ -178,11 +188,9 @@ class Page {
     }
 
     fold() {
-        const isFolded = !this.axis.isFolded;
-        this.axis.isFolded = isFolded;
-        byId('fold').setAttribute('aria-pressed', String(isFolded));
+        this.axis.isFolded = !this.axis.isFolded;
         this.open(false);
-        this.say(isFolded ? 'Equal lines are folded.' : 'Each step is shown.');
+        this.say(this.axis.isFolded ? 'Equal lines are folded.' : 'Each step is shown.');
     }
 
     zoom(factor) {
@@ -198,11 +206,19 @@ class Page {
     }
 
     theme() {
-        const root = document.documentElement;
-        const isDark = getComputedStyle(root).getPropertyValue('--is-dark').trim() === '1';
-        root.dataset.theme = isDark ? 'light' : 'dark';
-        if (this.traces.length) this.layOut();
-        if (this.map) this.map.layOut();
+        const { dataset } = document.documentElement;
+        dataset.theme = dataset.theme === 'dark' ? 'light' : 'dark';
+        this.layOutAll();
+    }
+
+    // Takes the window's size and the colours anew, whatever is shown.
+    layOutAll() {
+        if (this.traces.length) {
+            this.layOut();
+            this.lines.draw();
+        } else if (this.map) {
+            this.map.layOut();
+        }
     }
 
     help() {
@@ -283,10 +299,20 @@ function listenToPrint(page) {
         drawNow();
     });
     window.addEventListener('afterprint', () => {
-        if (before) root.dataset.theme = before;
-        else delete root.dataset.theme;
+        root.dataset.theme = before;
         drawNow();
     });
+}
+
+// Light or dark as the system has it, until a key or the button says otherwise.
+function listenToScheme(page) {
+    const dark = window.matchMedia('(prefers-color-scheme: dark)');
+    const follow = () => {
+        document.documentElement.dataset.theme = dark.matches ? 'dark' : 'light';
+        page.layOutAll();
+    };
+    dark.addEventListener('change', follow);
+    follow();
 }
 
 async function start() {
@@ -296,18 +322,15 @@ async function start() {
     listenToKeys(page);
     listenToChart(page);
     listenToPrint(page);
-    const layOut = () => {
-        if (page.traces.length) {
-            page.layOut();
-            page.lines.draw();
-        }
-        if (page.map) page.map.layOut();
-    };
-    window.addEventListener('resize', layOut);
-    window.matchMedia('(prefers-color-scheme: dark)').addEventListener('change', layOut);
+    listenToScheme(page);
+    window.addEventListener('resize', () => page.layOutAll());
     window.addEventListener('hashchange', () => page.traces.length && page.select(page.firstCell()));
-    const files = await embeddedFiles();
-    if (files.length) await page.take(files, false);
+    try {
+        const files = await embeddedFiles();
+        if (files.length) await page.take(files, false);
+    } catch (error) {
+        page.say(`What this page has embedded can't be read: ${error.message}`);
+    }
     await new Promise((resolve) => { requestAnimationFrame(() => setTimeout(resolve)); });
     performance.mark('ready');
     page.isReady = true;

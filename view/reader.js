@@ -126,6 +126,7 @@ class Reader {
             for (; trace.bytes[at] !== SPACE; at++) number = number * 10 + trace.bytes[at] - 48;
             this.levels.take(row, side, number, hexAt(trace.bytes, at + 1, 8), this.nextPlaces(row - 1));
             trace.ways[row] = WAY.EXCEPTION;
+            this.hasClosed = false;
         }
     }
 

@@ -81,10 +81,6 @@ class Trace {
         return this.bands[row] >= LEVELS ? NONSECURE : SECURE;
     }
 
-    rowOfStep(step) {
-        return Math.max(0, lastAtMost(this.steps, this.count, step));
-    }
-
     // The last step of a row.
     lastOf(row) {
         return row + 1 < this.count ? this.steps[row + 1] - 1 : this.lastStep;
