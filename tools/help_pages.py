@@ -2,7 +2,7 @@
 
 A page is share/help/NAME.txt. Its first line is `NAME - SUMMARY`. Behind it stand sections: a line of capitals at the
 margin begins one, and its text is indented by two spaces. A line of SYNOPSIS is a form of the command, and lines that
-are indented further go on with it. The text of other sections is in blocks:
+are indented further go on with it; behind ` > ` stands where its output goes. The text of other sections is in blocks:
 
   code   what follows an empty line and is indented by four spaces or more; `$ ` begins a command, `\` at the end of a
          line goes on with it, and the lines behind it are what it prints
@@ -123,6 +123,11 @@ def forms(page):
         elif line:
             found.append(line.strip())
     return found
+
+
+def words_of(form):
+    """A form without where the output goes, which the shell does."""
+    return form.partition(" > ")[0]
 
 
 def examples(page):
