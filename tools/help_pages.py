@@ -4,8 +4,8 @@ A page is share/help/NAME.txt. Its first line is `NAME - SUMMARY`. Behind it sta
 margin begins one, and its text is indented by two spaces. A line of SYNOPSIS is a form of the command, and lines that
 are indented further go on with it; behind ` > ` stands where its output goes. The text of other sections is in blocks:
 
-  code   what follows an empty line and is indented by four spaces or more; `$ ` begins a command, `\` at the end of a
-         line goes on with it, and the lines behind it are what it prints
+  code   what follows an empty line and is indented by four spaces or more; `$ ` begins a command, `\` or `|` at the end
+         of a line goes on with it, and the lines behind it are what it prints
   items  lines `TERM  TEXT`, with two spaces or more between; more of the text stands below it, indented further
   text   all else; what is typed stands between backticks
 
@@ -130,15 +130,20 @@ def words_of(form):
     return form.partition(" > ")[0]
 
 
+def examples_in(lines):
+    """The commands among lines of code, with the lines behind each."""
+    found = []
+    for line in lines:
+        if line.startswith("$ "):
+            found.append(Example(line[2:], []))
+        elif found and not found[-1].lines and found[-1].command.endswith(("\\", "|")):
+            found[-1] = Example(f"{found[-1].command}\n{line}", [])
+        elif found:
+            found[-1].lines.append(line)
+    return found
+
+
 def examples(page):
     """The commands of a page with what they print."""
-    found = []
-    for block in blocks(page.sections.get("EXAMPLE", [])):
-        for line in block.content if block.kind == "code" else []:
-            if line.startswith("$ "):
-                found.append(Example(line[2:], []))
-            elif found and found[-1].command.endswith("\\"):
-                found[-1] = Example(f"{found[-1].command}\n{line}", [])
-            elif found:
-                found[-1].lines.append(line)
-    return found
+    code = [block.content for block in blocks(page.sections.get("EXAMPLE", [])) if block.kind == "code"]
+    return examples_in([line for lines in code for line in lines])
