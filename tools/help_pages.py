@@ -4,8 +4,8 @@ A page is share/help/NAME.txt. Its first line is `NAME - SUMMARY`. Behind it sta
 margin begins one, and its text is indented by two spaces. A line of SYNOPSIS is a form of the command, and lines that
 are indented further go on with it; behind ` > ` stands where its output goes. The text of other sections is in blocks:
 
-  code   what follows an empty line and is indented by four spaces or more; `$ ` begins a command, `\\` or `|` at the end
-         of a line goes on with it, and the lines behind it are what it prints
+  code   what follows an empty line and is indented by four spaces or more; `$ ` begins a command, `\\` or `|` at the
+         end of a line goes on with it, and the lines behind it are what it prints
   items  lines `TERM  TEXT`, with two spaces or more between; more of the text stands below it, indented further
   text   all else; what is typed stands between backticks
 
