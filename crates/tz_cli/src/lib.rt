@@ -14,6 +14,7 @@ mod dis;
 mod files;
 mod lines;
 mod output;
+mod process;
 mod program;
 mod run;
 mod shelf;
@@ -21,6 +22,7 @@ mod stops;
 mod words;
 
 pub use output::OutSink;
+pub use process::run_process;
 pub use program::top;
 pub use shelf::{FileShelf, read_to_limit};
 pub use words::{AsmWords, Command, DisWords, Form, RunWords, command_words};
