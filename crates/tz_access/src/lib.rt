@@ -4,12 +4,14 @@
 //! `Bus` stands for the part of the state that accesses see and change. It asks attribution, then the MPU,
 //! then the map, each once for a block of 32 bytes that an access meets: all three go by such blocks, so
 //! the first byte of an access and its last tell all. It knows nothing of the core: who asks, with which
-//! privilege and at which priority, is told with each call.
+//! privilege and at which priority, is told with each call. `BusFrames` is the bus as entries and returns of
+//! exceptions reach it.
 #![tactic(auto)]
 
 mod bus;
 mod data;
 mod fetch;
+mod frames;
 mod monitor;
 mod place;
 mod registers;
@@ -19,4 +21,5 @@ mod units;
 
 pub use bus::Bus;
 pub use data::is_aligned;
+pub use frames::BusFrames;
 pub use place::Place;

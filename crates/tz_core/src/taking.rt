@@ -7,9 +7,8 @@ ghost use Rattle.tz_sem.specs.Taking.{goes_on_at, passed_by};
 ghost use Rattle.tz_sem.specs.Exchange.{ran_by};
 
 use crate::running::Machine;
-use tz_access::Bus;
+use tz_access::{Bus, BusFrames};
 use tz_excret::{Entered, Left, enter, leave, raise_fault};
-use tz_frames::BusFrames;
 use tz_model::{Code, Fault, Side};
 use tz_regs::Core;
 use tz_sem::{Cause, Course, Ending};

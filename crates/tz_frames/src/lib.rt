@@ -2,9 +2,9 @@
 //! definitions of entries, returns and the calls between the sides: frames, what a fault sets and pends, how an
 //! exception is taken, and how one is left.
 //!
-//! `Frames` is what they are written over. `BusFrames` is the machine's: its words go through the checks of the
-//! bus. The definitions of entries stand in `specs/`, over whatever frames and ports they reach; bodies that meet
-//! them stand in crates above. The one call of their own is a law.
+//! `Frames` is what they are written over; the machine's are made of the bus, in `tz_access`. The definitions of
+//! entries stand in `specs/`, over whatever frames and ports they reach; bodies that meet them stand in crates
+//! above. The one call of their own is a law.
 #![tactic(auto)]
 
 ghost use Rattle.std.specs.Prelude.{◌≡◌, ℕ, Bool, true};
@@ -19,13 +19,11 @@ mod entering;
 mod frame;
 mod frames;
 mod leaving;
-mod machine;
 
 pub use entering::{Choice, Entered, Entering};
 pub use frame::{Basic, Callee, StackFault};
 pub use frames::Frames;
 pub use leaving::{Left, Returning, Unstacked};
-pub use machine::BusFrames;
 
 /// A Non-secure exception that interrupts Secure code finds zeros in R0 to R12, whatever stood there.
 pub fn hides_registers()

@@ -2,8 +2,8 @@
 
 use crate::units::asked::Asked;
 use crate::units::faults::tell_word;
-use tz_access::Bus;
-use tz_frames::{BusFrames, Frames};
+use tz_access::{Bus, BusFrames};
+use tz_frames::Frames;
 use tz_rows::Row;
 
 /// Takes a step by its place: `vector VTOR_S VTOR_NS NUMBER` of a side; `frame_load ADDRESS` of a side, a word of a

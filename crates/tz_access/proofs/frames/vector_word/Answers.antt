@@ -1,5 +1,5 @@
 use Rattle.std.proofs.Common.{rules, tests}
-use Rattle.tz_frames.proofs.machine.vector_word.Goals as goal
+use Rattle.tz_access.proofs.frames.vector_word.Goals as goal
 
 -- What the tactics try first, by name: a body that is refused is then told without a search for what to offer.
 pub returns-then-not-may_touch : goal.returns-then-not-may_touch

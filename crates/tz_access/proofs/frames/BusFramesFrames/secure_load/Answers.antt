@@ -1,5 +1,5 @@
 use Rattle.std.proofs.Common.{rules, tests}
-use Rattle.tz_frames.proofs.machine.BusFramesFrames.secure_load.Goals as goal
+use Rattle.tz_access.proofs.frames.BusFramesFrames.secure_load.Goals as goal
 
 -- What the tactics try first, by name: a body that is refused is then told without a search for what to offer.
 pub returns-clause-answer : goal.returns-clause-answer

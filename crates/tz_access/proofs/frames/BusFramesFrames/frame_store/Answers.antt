@@ -1,12 +1,12 @@
 use Rattle.std.proofs.Common.{rules, tests}
-use Rattle.tz_frames.proofs.machine.BusFramesFrames.frame_load.Goals as goal
+use Rattle.tz_access.proofs.frames.BusFramesFrames.frame_store.Goals as goal
 
 -- What the tactics try first, by name: a body that is refused is then told without a search for what to offer.
 pub returns-clause-answer : goal.returns-clause-answer
 returns-clause-answer c = first_of (assumption, search (tests, rules))
 
-pub returns-clause-kept : goal.returns-clause-kept
-returns-clause-kept c = first_of (assumption, search (tests, rules))
+pub returns-clause-fault : goal.returns-clause-fault
+returns-clause-fault c = first_of (assumption, search (tests, rules))
 
 pub returns-clause-room : goal.returns-clause-room
 returns-clause-room c = first_of (assumption, search (tests, rules))

@@ -1,19 +1,19 @@
-//! The frames of the machine: words by the bus.
+//! Frames over the bus: the words of entries and returns, which go through its checks.
 
 ghost use Rattle.std.specs.Prelude.{◌≡◌, ◌+◌, ◌*◌, true, false, MatchResult, Some, None};
 ghost use Rattle.tz_table.specs.declared.units.Size.TheVariants.{Word};
 ghost use Rattle.tz_model.specs.Words.{wrap};
 ghost use Rattle.tz_regs.specs.Banks.{of_side};
 ghost use Rattle.tz_regs.specs.Memory.{every, word_at, with_word};
-ghost use Rattle.tz_regs.specs.Attribution.{is_open};
 ghost use Rattle.tz_regs.specs.declared.request.Kind.TheVariants.{Read, Write};
-ghost use Rattle.tz_regs.specs.Access.{may_touch, verdict, request_by};
-ghost use Rattle.tz_regs.specs.State.{map_in, with_memory};
+ghost use Rattle.tz_regs.specs.Access.{verdict, request_by};
+ghost use Rattle.tz_regs.specs.State.{with_memory};
 ghost use Rattle.tz_frames.specs.Machine.{vector_verdict, in_map_alone};
 
-use crate::frames::Frames;
-use tz_access::{Bus, Place};
-use tz_model::{Fault, RegionSide, Side, Size};
+use crate::bus::Bus;
+use crate::place::Place;
+use tz_frames::Frames;
+use tz_model::{Fault, Side, Size};
 use tz_regs::Asker;
 
 /// Frames over the bus: made for one entry or return.
@@ -31,37 +31,13 @@ pub struct BusFrames<'a> {
     pub room: u32,
 }
 
-/// Whether Non-secure code may read the byte at an address.
-#[tactic(auto, unfolding(tz_regs::specs::Attribution::is_open))]
-fn is_open(bus: &Bus, addr: u32) -> bool
-    ensures { result ≡ is_open (map_in bus.now) addr }
-{
-    bus.sau().data_attribution(Side::NonSecure, addr) == RegionSide::NonSecure
-}
-
-/// Whether attribution lets code of a side read the word at an address.
-#[tactic(auto, unfolding(tz_regs::specs::Access::may_touch))]
-fn may_touch(bus: &Bus, side: Side, addr: u32) -> bool
-    ensures { result ≡ may_touch (map_in bus.now) side Word addr }
-{
-    match side {
-        Side::Secure => true,
-        Side::NonSecure => {
-            is_open(bus, addr)
-                && is_open(bus, addr.wrapping_add(1))
-                && is_open(bus, addr.wrapping_add(2))
-                && is_open(bus, addr.wrapping_add(3))
-        }
-    }
-}
-
 /// The word of a vector table at an address.
 fn vector_word(bus: &Bus, side: Side, addr: u32) -> Result<u32, Fault>
     ensures { MatchResult result
         (λ word. (vector_verdict bus.now side addr ≡ None) × (word ≡ word_at bus.now.memory addr))
         (λ fault. vector_verdict bus.now side addr ≡ Some fault) }
 {
-    if !may_touch(bus, side, addr) {
+    if !bus.may_touch(side, Size::Word, addr) {
         return Err(Fault::Violation(addr));
     }
     match bus.read(addr, Size::Word) {
