@@ -4,6 +4,7 @@ use Rattle.std.specs.Prelude.{◌==◌, not, nat_eq, is_some}
 use Rattle.std.specs.List.{slice_range}
 use Rattle.std.specs.FinMap.{get}
 use Rattle.std.specs.Cmp.Lexicographic.{pointwise}
+use Rattle.std.proofs.lemmas.List.{length-map, length-drop, length-take-le}
 use Rattle.std.proofs.lemmas.Bool.{and_parts}
 use Rattle.std.proofs.lemmas.Bool.Decides.{nat_tests}
 use Rattle.tz_model.specs.declared.board.Region.{Region}
@@ -25,6 +26,9 @@ pub region_there : (ks : List BlockValue) (i : ℕ) (k : BlockValue) → i < len
 region_there [] i k l is = absurd (omega arith)
 region_there (r ∷ ks) zero k l is = ap region_of (sym is)
 region_there (r ∷ ks) (suc i) k l is = region_there ks i k (omega arith) is
+
+pub same_length : (ks hs : List BlockValue) → map region_of ks ≡ map region_of hs → length ks ≡ length hs
+same_length ks hs e = sym (length-map ks region_of) ∙ ap (length {A = Region}) e ∙ length-map hs region_of
 
 apart_there : (r : Region) (ks : List BlockValue) (i : ℕ) (k : BlockValue) → apart_from r (map region_of ks) ≡ true → i < length ks → k ≡ get_or ks i k → is_apart r (region_of k) ≡ true
 apart_there r [] i k apart l is = absurd (omega arith)
@@ -73,22 +77,23 @@ lists_differ m n a (u ∷ us) (v ∷ vs) e at other =
     rw (first, second) (not_both (u == v) (pointwise nat_eq us vs) ∙ ap (λ x. not (u == v) || x) rest)
 
 get_take : (xs : List ℕ) (n t : ℕ) → t < n → slice_get (take n xs) t ≡ slice_get xs t
-get_take [] n t l = refl
+get_take [] zero t l = refl
+get_take [] (suc n) t l = refl
 get_take (x ∷ xs) zero t l = absurd (omega arith)
 get_take (x ∷ xs) (suc n) zero l = refl
 get_take (x ∷ xs) (suc n) (suc t) l = get_take xs n t (omega arith)
 
 get_drop : (xs : List ℕ) (j t : ℕ) → slice_get (drop j xs) t ≡ slice_get xs (j + t)
-get_drop xs zero t = refl
+get_drop xs zero t = ap (slice_get xs) (omega arith)
 get_drop [] (suc j) t = refl
-get_drop (x ∷ xs) (suc j) t = get_drop xs j t
+get_drop (x ∷ xs) (suc j) t =
+    let next : suc (j + t) ≡ suc j + t = omega arith in
+    get_drop xs j t ∙ ap (slice_get (x ∷ xs)) next
 
 length_range : (xs : List ℕ) (j n : ℕ) → j + n ≤ length xs → length (slice_range xs j (j + n)) ≡ n
-length_range xs zero zero l = refl
-length_range [] zero (suc n) l = absurd (omega arith)
-length_range (x ∷ xs) zero (suc n) l = ap suc (length_range xs zero n (omega arith))
-length_range [] (suc j) n l = absurd (omega arith)
-length_range (x ∷ xs) (suc j) n l = length_range xs j n (omega arith)
+length_range xs j n l =
+    let short : j + n - j ≤ length (drop j xs) = omega (arith, length-drop j xs) in
+    length-take-le (j + n - j) (drop j xs) short ∙ omega arith
 
 get_range : (xs : List ℕ) (j n t : ℕ) → t < n → slice_get (slice_range xs j (j + n)) t ≡ slice_get xs (j + t)
 get_range xs j n t l = get_take (drop j xs) (j + n - j) t (omega arith) ∙ get_drop xs j t
