@@ -10,6 +10,7 @@
 
 mod bus;
 mod data;
+mod difference;
 mod fetch;
 mod frames;
 mod monitor;
