@@ -1,6 +1,8 @@
 -- Bytes of numbers and statements.
-use Rattle.std.proofs.Common.{◌≡◌, ◌∙◌, ◌-◌, ◌/◌, ◌%◌, ◌<◌, ℕ, zero, suc, refl, sym, ap, arith, List, [], ◌∷◌, ◌++◌, append_assoc, length, Option, Some, None, unwrap_or, Result, Ok, Err}
-use Rattle.std.proofs.lemmas.List.{append-nil, length-append, map-append}
+use Rattle.std.proofs.Common.{◌≡◌, ◌∙◌, ◌/◌, ◌%◌, ℕ, zero, suc, refl, sym, ap, arith, List, [], ◌∷◌, ◌++◌, length, Option, Some, None, unwrap_or, Result, Ok, Err}
+use Rattle.std.specs.Prelude.{take}
+use Rattle.std.specs.Int.{bytes_low_first}
+use Rattle.std.proofs.lemmas.List.{length-append, map-append}
 use Rattle.tz_asm.specs.Layouts.{size_bytes, width_bytes}
 use Rattle.tz_asm.specs.Places.{Places}
 use Rattle.tz_asm.specs.Refusals.{Refusal}
@@ -13,6 +15,7 @@ use Rattle.tz_asm.specs.Coded.{Coded}
 use Rattle.tz_asm.specs.declared.code.uncoded.Uncoded.{Uncoded}
 use Rattle.tz_table.specs.declared.units.Code.{Code}
 use Rattle.tz_table.specs.declared.units.Size.{Size}
+use Rattle.tz_table.specs.declared.units.Size.TheVariants.{Byte, Half, Word}
 use Rattle.tz_table.specs.declared.units.Width.{Width}
 use Rattle.tz_table.specs.declared.units.Width.TheVariants.{Narrow, Wide}
 use Rattle.tz_syntax.specs.Tokens.{TokenValue}
@@ -24,19 +27,20 @@ unfolding low_first
 length-low_first zero number = refl
 length-low_first (suc count) number = ap suc (length-low_first count (number / 256))
 
--- one more byte
-pub low_first_more : (left number : ℕ) (bytes all : List ℕ) → 0 < left → bytes ++ low_first left number ≡ all
-    → (bytes ++ number % 256 ∷ []) ++ low_first (left - 1) (number / 256) ≡ all
+-- four bytes of a number, each by its place
+four_bytes : (number : ℕ) → low_first 4 number ≡ bytes_low_first 0 4 number
 unfolding low_first
-low_first_more zero number bytes all h is = absurd (omega arith)
-low_first_more (suc left) number bytes all h is =
-    let one : suc left - 1 ≡ left = omega arith in
-    rw one (append_assoc bytes (number % 256 ∷ []) (low_first left (number / 256)) ∙ is)
+four_bytes number =
+    let third : number / 256 / 256 ≡ number / 65536 = omega arith in
+    let fourth : number / 256 / 256 / 256 ≡ number / 16777216 = omega arith in
+    rw fourth (rw third refl)
 
-pub low_first_all : (left number : ℕ) (bytes all : List ℕ) → left ≡ 0 → bytes ++ low_first left number ≡ all → bytes ≡ all
+-- the bytes of a size are the first of eight
+pub first_bytes : (size : Size) (number : ℕ) (rest : List ℕ) → take (size_bytes size) (bytes_low_first 0 8 number ++ rest) ≡ low_first (size_bytes size) number
 unfolding low_first
-low_first_all zero number bytes all h is = sym (append-nil bytes) ∙ is
-low_first_all (suc left) number bytes all h is = absurd (omega arith)
+first_bytes Byte number rest = refl
+first_bytes Half number rest = refl
+first_bytes Word number rest = sym (four_bytes number)
 
 last_word-push : (tokens : List TokenValue) (token : TokenValue) → last_word (tokens ++ token ∷ []) ≡ word_of token
 unfolding last_word

@@ -1,12 +1,15 @@
 //! The values of `.byte`, `.half` and `.word`.
 
 ghost use Rattle.std.specs.Prelude.{◌≡◌, ◌+◌, ◌<◌, ◌≤◌, ◌^◌, ◌++◌, IfSome, OnOk};
+ghost use Rattle.tz_asm.specs.Layouts.{size_bytes};
 ghost use Rattle.tz_asm.specs.Places.{places_in};
 ghost use Rattle.tz_asm.specs.Values.{in_size, low_first, modulus, moved, value_of};
 ghost use Rattle.tz_asm.specs.Views.{expression_view};
 
+use crate::layout::size_bytes;
 use crate::places::{Places, place_of};
 use crate::source::{Expression, Signed};
+use byteorder::{ByteOrder, LittleEndian};
 use std::alloc::AllocError;
 use tz_table::Size;
 
@@ -91,16 +94,12 @@ pub fn in_size(size: Size, value: Value) -> Option<u64>
     }
 }
 
-/// Appends so many bytes of a number, the lowest first.
-pub fn push_low_first(bytes: &mut Vec<u8>, count: u64, number: u64) -> Result<(), AllocError>
-    ensures { OnOk result (bytes.new.items ≡ bytes.old.items ++ low_first count number) }
+/// Appends the bytes of a number of a size, the lowest first.
+#[tactic(auto, using(crate::proofs::Bytes::first_bytes))]
+pub fn push_low_first(bytes: &mut Vec<u8>, size: Size, number: u64) -> Result<(), AllocError>
+    ensures { OnOk result (bytes.new.items ≡ bytes.old.items ++ low_first (size_bytes size) number) }
 {
-    let mut rest = number;
-    let mut left = count;
-    while left > 0 {
-        bytes.push((rest % 256) as u8)?;
-        rest /= 256;
-        left -= 1;
-    }
-    Ok(())
+    let mut all = [0; 8];
+    LittleEndian::write_u64(&mut all, number);
+    bytes.extend_from_slice(&all[..size_bytes(size) as usize])
 }

@@ -11,7 +11,7 @@ ghost use Rattle.tz_syntax.specs.Views.{token_view};
 
 use crate::code::{Uncoded, code_of};
 use crate::error::AsmError;
-use crate::layout::{padding, size_bytes};
+use crate::layout::padding;
 use crate::places::{Places, place_of};
 use crate::source::{Expression, Statement};
 use crate::values::{in_size, push_low_first, value_of};
@@ -40,7 +40,7 @@ fn write_data<'s>(
     let Some(number) = in_size(size, value) else {
         return Err(AsmError::Range(line));
     };
-    match push_low_first(bytes, size_bytes(size), number) {
+    match push_low_first(bytes, size, number) {
         Ok(()) => Ok(()),
         Err(_) => Err(AsmError::Memory),
     }
@@ -73,10 +73,10 @@ fn label_place<'s>(places: &Places<'s>, operands: &[Token<'s>]) -> Option<u64>
 fn push_code(bytes: &mut Vec<u8>, width: Width, code: Code) -> Result<(), AllocError>
     ensures { OnOk result (bytes.new.items ≡ bytes.old.items ++ code_bytes width code) }
 {
-    push_low_first(bytes, 2, u64::from(code.first))?;
+    push_low_first(bytes, Size::Half, u64::from(code.first))?;
     match width {
         Width::Narrow => Ok(()),
-        Width::Wide => push_low_first(bytes, 2, u64::from(code.second.unwrap_or(0))),
+        Width::Wide => push_low_first(bytes, Size::Half, u64::from(code.second.unwrap_or(0))),
     }
 }
 

@@ -244,8 +244,3 @@ enters_both profile c e f back is untouched =
 pub enters_kept : (profile : Profile) (c : Core) (e : ExceptionsValue) (f : Framed) (back : ℕ) → c.run.side ≡ NonSecure → entered_touched (enters framed profile c e f back).result ≡ false
     → KeptBy c (enters framed profile c e f back).core e (enters framed profile c e f back).exceptions (map_in f.bus) f.bus.memory (enters framed profile c e f back).held.bus.memory
 enters_kept profile c e f back is untouched = (enters_both profile c e f back is untouched).kept
-
--- and Non-secure code runs on, or the core is locked
-pub enters_side : (profile : Profile) (c : Core) (e : ExceptionsValue) (f : Framed) (back : ℕ) → c.run.side ≡ NonSecure → entered_touched (enters framed profile c e f back).result ≡ false
-    → (enters framed profile c e f back).core.run.side ≡ NonSecure
-enters_side profile c e f back is untouched = (enters_both profile c e f back is untouched).side

@@ -33,9 +33,6 @@ use Rattle.tz_frames.specs.Leave.{returning_by, noted, slot_returning, freed, un
 abbrev pub BusKept : Framed → Framed → Type 0
 BusKept f f' = f'.bus ≡ with_memory f.bus f'.bus.memory
 
-pub bus_kept : (f : Framed) → BusKept f f
-bus_kept f = refl
-
 pub bus_then : (f f' f'' : Framed) → BusKept f f' → BusKept f' f'' → BusKept f f''
 bus_then f f' f'' h k = k ∙ ap (λ (b : Bus). with_memory b f''.bus.memory) h
 

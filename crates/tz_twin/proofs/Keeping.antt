@@ -123,10 +123,6 @@ kept_returns s0 s course code value is k e =
 
 -- ---- a fault
 
-passed_side : (fault : Fault) (c : Core) → (passed_by fault c).run.side ≡ c.run.side
-passed_side faults_of.Call c = refl
-passed_side _ c = refl
-
 pub kept_passed : (s0 : State) (fault : Fault) (c : Core) (e : ExceptionsValue) (b : Bus) → Kept s0 (state_of c e b) → Kept s0 (state_of (passed_by fault c) e b)
 kept_passed s0 fault c e b k = record {
   keeps = record {
@@ -162,27 +158,6 @@ kept_fault s0 s fault is own k =
     (sym is) (faulted_kept fault s.core s.exceptions (map_of s) s.bus.memory own) in
     kept_then s0 s r.core r.exceptions s.bus k h refl
 
-kept_raised : (s0 s : State) (course : Course) (fault : Fault) (r : Raised) → r.core.run.side ≡ NonSecure → Kept s0 (state_of r.core r.exceptions s.bus)
-    → (after_raise s course fault r).ending.touched ≡ false → Kept s0 (after_raise s course fault r).state
-kept_raised s0 s course fault r is k e = go r.locks e where
-  locked : Passed
-  locked = locks (state_of r.core r.exceptions s.bus) course.touched
-
-  entry : Passed
-  entry = preempted (state_of (passed_by fault r.core) r.exceptions s.bus) course (goes_on_at fault s.core.registers.pc)
-
-  go : (t : Bool) → (cond t locked entry).ending.touched ≡ false → Kept s0 (cond t locked entry).state
-  go true h = kept_locked s0 (state_of r.core r.exceptions s.bus) k
-  go false h =
-      kept_preempted s0 (state_of (passed_by fault r.core) r.exceptions s.bus) course (goes_on_at fault s.core.registers.pc) (passed_side fault r.core ∙ is)
-      (kept_passed s0 fault r.core r.exceptions s.bus k) h
-
-kept_faults : (s0 s : State) (course : Course) (fault : Fault) → s.core.run.side ≡ NonSecure → is_own fault ≡ true → Kept s0 s → (faults s course fault).ending.touched ≡ false
-    → Kept s0 (faults s course fault).state
-unfolding faults
-kept_faults s0 s course fault is own k e =
-    kept_raised s0 s course fault (faulted s.core.run.side fault s.core s.exceptions) (faulted_side s.core.run.side fault s.core s.exceptions ∙ is) (kept_fault s0 s fault is own k) e
-
 -- ---- as ends of a step
 
 -- of a step of Non-secure code: it halts as entries and returns do, keeps the Secure side where it didn't look at it, and
@@ -203,13 +178,6 @@ passes_preempted s0 s course back is k = record {
   halts = halts_on s.bus.board s0.bus.board course.touched s.core.registers.general (preempted s course back) k.keeps.board (halts_preempted NonSecure s course back);
   kept = λ e. kept_preempted s0 s course back is k e;
   comes = comes_preempted s0.core.registers.ipsr s0.core.stacks_s s course back;
-}
-
-pub passes_faults : (s0 s : State) (course : Course) (fault : Fault) → s.core.run.side ≡ NonSecure → is_own fault ≡ true → Kept s0 s → Passes s0 course.touched s.core.registers.general (faults s course fault)
-passes_faults s0 s course fault is own k = record {
-  halts = halts_on s.bus.board s0.bus.board course.touched s.core.registers.general (faults s course fault) k.keeps.board (halts_faults NonSecure s course fault);
-  kept = λ e. kept_faults s0 s course fault is own k e;
-  comes = comes_faults s0.core.registers.ipsr s0.core.stacks_s s course fault;
 }
 
 pub passes_returns : (s0 s : State) (course : Course) (code : Code) (value : ℕ) → course.touched ≡ false → s.core.run.side ≡ NonSecure → Kept s0 s

@@ -225,8 +225,3 @@ leaves_kept profile c e f value is untouched =
     let l = leaves framed profile c e f value in
     let h = leaves_returns profile c e f value is in
     subst (λ (g : Framed). KeptBy c l.core e l.exceptions (map_in f.bus) f.bus.memory g.bus.memory) (sym h.held) ((h.spared untouched).kept (map_in f.bus) f.bus.memory)
-
--- and Non-secure code runs on, or the core is locked
-pub leaves_side : (profile : Profile) (c : Core) (e : ExceptionsValue) (f : Framed) (value : ℕ) → c.run.side ≡ NonSecure → left_touched (leaves framed profile c e f value).result ≡ false
-    → (leaves framed profile c e f value).core.run.side ≡ NonSecure
-leaves_side profile c e f value is untouched = ((leaves_returns profile c e f value is).spared untouched).side is

@@ -89,9 +89,6 @@ pub slot_quiet : (e : ExceptionsValue) (i : ℕ) (r : SlotState) → r.target �
     → (is_secure_at e i ≡ true → r.priority ≡ (at e i).priority) → Quiet e (with_slot e i r)
 slot_quiet e i r target enabled priority = record { keeps = slot_kept e i r target enabled priority; timer = refl }
 
-pub pended_quiet : (e : ExceptionsValue) (i : ℕ) (flag : Bool) → Quiet e (with_slot e i (record (at e i) { pending = flag }))
-pended_quiet e i flag = record { keeps = pended_kept e i flag; timer = refl }
-
 -- ---- what a step begins with
 
 event_kept : (e : ExceptionsValue) (slot : Slot) → KeepsExceptions e (record e { slots = slots_pended e slot })
