@@ -65,6 +65,7 @@ lists_differ : (m n : Memory) (a : ℕ) (us vs : List ℕ) → length us ≡ len
     → ((t : ℕ) → t < length us → get m (a + t) ≡ slice_get us t)
     → ((t : ℕ) → t < length vs → get n (a + t) ≡ slice_get vs t)
     → not (pointwise nat_eq us vs) ≡ some_from (byte_differs m n) a (length us)
+unfolding some_from
 lists_differ m n a [] [] e at other = refl
 lists_differ m n a [] (v ∷ vs) e at other = absurd (omega arith)
 lists_differ m n a (u ∷ us) [] e at other = absurd (omega arith)
