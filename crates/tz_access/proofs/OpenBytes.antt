@@ -94,8 +94,8 @@ pub some_open : (b c : Bus) (a : ℕ) → IsByBlocks (is_open (map_in b)) → Is
 some_open b c a mine others whole some =
     one_answer (open_byte_differs b c) (byte_differs b.memory c.memory) (is_open (map_in b) a && is_open (map_in c) a) a 32
     (λ t l.
-      let block : (a + t) / 32 ≡ a / 32 = omega (arith, whole, l) in
-      rw (mine.same (a + t) a block, others.same (a + t) a block) (both_open (is_open (map_in b) a) (is_open (map_in c) a) (byte_differs b.memory c.memory (a + t))))
+    let block : (a + t) / 32 ≡ a / 32 = omega (arith, whole, l) in
+    rw (mine.same (a + t) a block, others.same (a + t) a block) (both_open (is_open (map_in b) a) (is_open (map_in c) a) (byte_differs b.memory c.memory (a + t))))
     ∙ ap (λ x. (is_open (map_in b) a && is_open (map_in c) a) && x) some
     ∙ and_true (is_open (map_in b) a && is_open (map_in c) a)
   where

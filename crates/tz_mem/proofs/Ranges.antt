@@ -45,8 +45,7 @@ placed : (ks : List BlockValue) (i j : ℕ) (k : BlockValue) → are_apart (map 
 placed [] i j k apart l is fit = absurd (omega arith)
 placed (r ∷ ks) zero j k apart l is fit = (ap (λ (x : BlockValue). x.base + j) (sym is), subst (λ (x : BlockValue). j < length x.bytes) is fit)
 placed (r ∷ ks) (suc i) j k apart l is fit =
-    let parts = and_parts (apart_from (region_of r) (map region_of ks)) (are_apart (map region_of ks)) apart in
-    (
+    let parts = and_parts (apart_from (region_of r) (map region_of ks)) (are_apart (map region_of ks)) apart in (
       out_of_other r k j (apart_there (region_of r) ks i k parts.0 (omega arith) is) fit,
       placed ks i j k parts.1 (omega arith) is fit,
     )
