@@ -1,5 +1,5 @@
 -- Bytes of two memories that differ and are open in both: in a block, in a region, and at all.
-use Rattle.std.proofs.Common.{◌≡◌, ◌⊎◌, inl, inr, ℕ, zero, suc, ◌+◌, ◌-◌, ◌*◌, ◌/◌, ◌%◌, ◌<◌, ◌≤◌, Bool, true, false, ◌&&◌, ◌||◌, List, [], ◌∷◌, length, take, refl, sym, ap, ◌∙◌, subst, arith}
+use Rattle.std.proofs.Common.{◌≡◌, ℕ, zero, suc, ◌+◌, ◌-◌, ◌*◌, ◌/◌, ◌%◌, ◌<◌, ◌≤◌, Bool, true, false, ◌&&◌, ◌||◌, List, [], ◌∷◌, length, take, refl, sym, ap, ◌∙◌, subst, arith}
 use Rattle.std.specs.Prelude.{is_some, None, Option, Some}
 use Rattle.std.specs.List.{list_any}
 use Rattle.std.specs.FinMap.{get}
@@ -7,10 +7,11 @@ use Rattle.std.proofs.Math.Bool.{or_assoc}
 use Rattle.std.proofs.lemmas.Bool.{and_parts}
 use Rattle.std.proofs.lemmas.Bool.Decides.{nat_tests}
 use Rattle.tz_model.specs.declared.board.Region.{Region}
-use Rattle.tz_model.specs.Board.{in_region, is_region, are_regions}
-use Rattle.tz_regs.specs.Attribution.{is_open}
+use Rattle.tz_model.specs.declared.board.RegionSide.{RegionSide}
+use Rattle.tz_model.specs.declared.board.RegionSide.TheVariants.{Secure, Nsc, NonSecure}
+use Rattle.tz_model.specs.Board.{in_region, is_region, are_regions, is_apart, apart_from, are_apart, is_nonsecure}
+use Rattle.tz_regs.specs.Attribution.{MapState, more_secure, sau_side, idau_side, mapped_side, is_exempt, data_attribution, is_open}
 use Rattle.tz_regs.specs.Access.{is_mapped}
-use Rattle.tz_regs.specs.Memory.{Memory}
 use Rattle.tz_regs.specs.State.{Bus, map_in}
 use Rattle.tz_regs.specs.Difference.{is_same_byte, byte_differs, open_byte_differs, open_bytes_differ}
 use Rattle.tz_regs.proofs.Difference.{none_differs, differs_nowhere}
@@ -122,6 +123,56 @@ pub region_whole : (rs : List Region) (i : ℕ) → are_regions rs ≡ true → 
 region_whole [] i is l = absurd (omega arith)
 region_whole (r ∷ rs) zero is l = (and_parts (is_region r) (are_regions rs) is).0
 region_whole (r ∷ rs) (suc i) is l = region_whole rs i (and_parts (is_region r) (are_regions rs) is).1 (omega arith)
+
+none_within : (p : ℕ → Bool) (a n : ℕ) → ((t : ℕ) → t < n → p (a + t) ≡ false) → some_from p a n ≡ false
+unfolding some_from
+none_within p a zero none = refl
+none_within p a (suc n) none =
+    let first : p a ≡ false = subst (λ x. p x ≡ false) (omega arith) (none 0 (omega arith)) in
+    rw first (none_within p (a + 1) n (λ t l. subst (λ x. p x ≡ false) (omega arith) (none (suc t) (omega arith))))
+
+apart_there : (r : Region) (rs : List Region) (i : ℕ) → apart_from r rs ≡ true → i < length rs → is_apart r (region_at rs i) ≡ true
+apart_there r [] i apart l = absurd (omega arith)
+apart_there r (q ∷ rs) zero apart l = (and_parts (is_apart r q) (apart_from r rs) apart).0
+apart_there r (q ∷ rs) (suc i) apart l = apart_there r rs i (and_parts (is_apart r q) (apart_from r rs) apart).1 (omega arith)
+
+out_of_other : (r q : Region) (a : ℕ) → is_apart r q ≡ true → in_region q a ≡ true → in_region r a ≡ false
+out_of_other r q a apart is = grind (arith, nat_tests)
+
+-- of regions that share no byte each decides at its own addresses
+idau_there : (rs : List Region) (i a : ℕ) → are_apart rs ≡ true → i < length rs → in_region (region_at rs i) a ≡ true → idau_side rs a ≡ (region_at rs i).side
+unfolding idau_side
+idau_there [] i a apart l is = absurd (omega arith)
+idau_there (r ∷ rs) zero a apart l is = rw is refl
+idau_there (r ∷ rs) (suc i) a apart l is =
+    let parts = and_parts (apart_from r rs) (are_apart rs) apart in
+    rw (out_of_other r (region_at rs i) a (apart_there r rs i parts.0 (omega arith)) is) (idau_there rs i a parts.1 (omega arith) is)
+
+secure_side : (s t : RegionSide) → is_nonsecure t ≡ false → is_nonsecure (more_secure s t) ≡ false
+secure_side Secure t e = refl
+secure_side Nsc Secure e = refl
+secure_side Nsc Nsc e = refl
+secure_side Nsc NonSecure e = refl
+secure_side NonSecure t e = e
+
+below_private : (r : Region) (a : ℕ) → is_region r ≡ true → in_region r a ≡ true → is_exempt a ≡ false
+below_private r a whole is = grind (arith, nat_tests)
+
+closed_there : (m : MapState) (i a : ℕ) → are_regions m.regions ≡ true → are_apart m.regions ≡ true → i < length m.regions → in_region (region_at m.regions i) a ≡ true
+    → is_nonsecure (region_at m.regions i).side ≡ false → is_open m a ≡ false
+unfolding is_open data_attribution mapped_side
+closed_there m i a whole apart l is secure =
+    rw (below_private (region_at m.regions i) a (region_whole m.regions i whole l) is, idau_there m.regions i a apart l is)
+    (secure_side (sau_side m.sau a) (region_at m.regions i).side secure)
+
+-- no byte is open in a region that the board makes Secure
+pub none_secure : (b c : Bus) (i : ℕ) → are_regions b.board.regions ≡ true → are_apart b.board.regions ≡ true → i < length b.board.regions
+    → false ≡ is_nonsecure (region_at b.board.regions i).side → false ≡ some_from (open_byte_differs b c) (region_at b.board.regions i).base (region_at b.board.regions i).size
+none_secure b c i whole apart l secure =
+    let r = region_at b.board.regions i in
+    sym (none_within (open_byte_differs b c) r.base r.size (λ t below.
+    let is : in_region r (r.base + t) ≡ true = grind (arith, nat_tests) in
+    rw (closed_there (map_in b) i (r.base + t) whole apart l is (sym secure)) refl))
 
 -- the bytes of a whole region
 pub none_whole : (b c : Bus) (a n m : ℕ) → n ≡ m → false ≡ some_from (byte_differs b.memory c.memory) (a + 0) n → false ≡ some_from (open_byte_differs b c) a m

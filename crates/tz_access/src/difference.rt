@@ -2,10 +2,11 @@
 
 ghost use Rattle.std.specs.Prelude.{◌≡◌, ◌+◌, ◌*◌, ◌<◌, ◌≤◌, length, true};
 ghost use Rattle.tz_mem.specs.Difference.{some_from, region_at, IsFilled};
-ghost use Rattle.tz_model.specs.Board.{are_apart, is_region};
+ghost use Rattle.tz_model.specs.Board.{are_apart, is_nonsecure, is_region};
 ghost use Rattle.tz_regs.specs.Difference.{byte_differs, open_byte_differs, open_bytes_differ};
 
 use crate::bus::Bus;
+use tz_model::RegionSide;
 
 impl Bus {
     /// The board's regions share no bytes.
@@ -85,14 +86,27 @@ impl Bus {
         mine && others
     }
 
-    /// Whether a byte of a region differs and is open in both. Only where some byte of it differs does it go
-    /// block by block.
+    /// Whether the board leaves the attribution of a region to the SAU. Else no byte of it is open.
+    fn is_left_to_sau(&self, index: usize) -> bool
+        requires { index < length self.now.board.regions }
+        ensures { result ≡ is_nonsecure (region_at self.now.board.regions index).side }
+    {
+        self.board.regions[index].side == RegionSide::NonSecure
+    }
+
+    /// Whether a byte of a region differs and is open in both. It looks at bytes only where the board leaves
+    /// the region to the SAU, and goes block by block only where some byte differs.
     fn differs_in_region(&self, other: &Bus, index: usize) -> bool
         requires same { self.now.board.regions ≡ other.now.board.regions }
         requires there { index < length self.now.board.regions }
         ensures { result ≡ some_from (open_byte_differs self.now other.now) (region_at self.now.board.regions index).base (region_at self.now.board.regions index).size }
     {
+        self.know_regions();
         self.know_region(index);
+        self.know_apart();
+        if !self.is_left_to_sau(index) {
+            return false;
+        }
         let size = self.size_of(index);
         if !self.differs_in(other, index, 0, size) {
             return false;
@@ -106,8 +120,8 @@ impl Bus {
     }
 
     /// Whether an address that Non-secure code may read in both, each by its own SAU, has another byte in each.
-    /// Both are of the same regions. Its cost is that of a look at each byte, and where bytes differ of one at
-    /// the attribution of each block of 32 bytes.
+    /// Both are of the same regions. Each byte is compared once or twice at most; the attribution is asked once
+    /// for a block of 32 bytes, of those that differ alone.
     pub fn differs_in_open_bytes(&self, other: &Bus) -> bool
         requires { self.now.board.regions ≡ other.now.board.regions }
         ensures { result ≡ open_bytes_differ self.now other.now }

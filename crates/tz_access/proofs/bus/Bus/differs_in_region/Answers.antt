@@ -1,8 +1,12 @@
 use Rattle.std.proofs.Common.{◌+◌, ◌*◌, ◌≤◌, arith, sym}
 use Rattle.tz_regs.specs.Difference.{open_byte_differs}
 use Rattle.tz_mem.specs.Difference.{region_at}
-use Rattle.tz_access.proofs.OpenBytes.{none_whole, none_of_nothing, some_in_block, none_in_block}
+use Rattle.tz_access.proofs.OpenBytes.{none_secure, none_whole, none_of_nothing, some_in_block, none_in_block}
 use Rattle.tz_access.proofs.bus.Bus.differs_in_region.Goals as goal
+
+pub returns-then-not-is_left_to_sau : goal.returns-then-not-is_left_to_sau
+returns-then-not-is_left_to_sau c =
+    none_secure c.args.self.now c.args.other.now c.args.index c.know_regions.ensures c.know_apart.ensures c.requires.there c.if-not-is_left_to_sau.ensures
 
 pub returns-then-not-differs_in : goal.returns-then-not-differs_in
 returns-then-not-differs_in c =
