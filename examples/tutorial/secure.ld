@@ -18,6 +18,10 @@ nonsecure_vectors = 0x00200000;
 SECTIONS
 {
     .text : { KEEP(*(.vectors)) *(.text*) *(.rodata*) } > ROM : code
+    /* GCC has a constant that is volatile among the data. A variable that is written and begins with a value would have to
+       be copied, as docs/C_IMAGES.md does. */
+    .data : { *(.data*) } > ROM : code
+    .bss (NOLOAD) : { *(.bss*) *(COMMON) } > RAM : NONE
     .gnu.sgstubs : { *(.gnu.sgstubs*) . = ALIGN(32); } > NSC : gateways
     .ARM.attributes 0 : { *(.ARM.attributes) }
     /DISCARD/ : { *(.comment) *(.ARM.exidx*) }
