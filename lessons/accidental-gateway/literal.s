@@ -1,6 +1,6 @@
 ; The Non-secure image that calls a constant.
 .org 0x00200040
-        ldr     r4, target
+start:  ldr     r4, target
         ldr     r5, kept
         movs    r0, #1          ; a wrong number
         blx     r4

@@ -1,7 +1,7 @@
 ; The Non-secure image that finds the number: it counts the steps of each call by its SysTick, and keeps for each byte the
 ; digit that took longest.
 .org 0x00200080
-        ldr     r7, systick
+start:  ldr     r7, systick
         ldr     r0, most
         str     r0, [r7, #4]    ; SYST_RVR
         movs    r0, #1

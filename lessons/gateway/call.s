@@ -1,6 +1,6 @@
 ; The Non-secure image that calls as it is meant to: with a wrong number, and then with the right one.
 .org 0x00200040
-        ldr     r4, gate
+start:  ldr     r4, gate
         ldr     r5, kept
         movs    r0, #1
         blx     r4

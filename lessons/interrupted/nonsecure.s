@@ -3,7 +3,7 @@
         .word   look+1          ; interrupt 0, where it belongs to this side
 
 .org 0x00200080
-        ldr     r0, iser
+start:  ldr     r0, iser
         movs    r1, #1
         str     r1, [r0, #0]    ; interrupt 0 is enabled, where it belongs to this side
         ldr     r4, gate

@@ -1,6 +1,6 @@
 ; The Non-secure image that looks at what a call left behind.
 .org 0x00200040
-        ldr     r4, gate
+start:  ldr     r4, gate
         ldr     r5, kept
         movs    r0, #64
         blx     r4

@@ -1,6 +1,6 @@
 ; The Non-secure image that finds the number in eight calls, by the flag C that each of them left behind.
 .org 0x00200040
-        ldr     r4, gate
+start:  ldr     r4, gate
         ldr     r5, kept
         movs    r6, #0          ; the number is above this one
         movs    r7, #128

@@ -1,6 +1,6 @@
 ; plain.s with its interrupts and faults held off.
 .org 0x00200040
-        cpsid   f               ; FAULTMASK of this side
+start:  cpsid   f               ; FAULTMASK of this side
         ldr     r4, gate
         ldr     r5, kept
         movs    r6, #3

@@ -1,6 +1,6 @@
 ; The Non-secure image that waits, and asks for the key when the session should be over.
 .org 0x00200040
-        nop
+start:  nop
         ldr     r4, gate
         ldr     r5, kept
         movs    r6, #3

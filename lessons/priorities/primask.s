@@ -1,6 +1,6 @@
 ; plain.s with its interrupts held off.
 .org 0x00200040
-        cpsid   i               ; PRIMASK of this side
+start:  cpsid   i               ; PRIMASK of this side
         ldr     r4, gate
         ldr     r5, kept
         movs    r6, #3

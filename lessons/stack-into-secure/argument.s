@@ -1,6 +1,6 @@
 ; The Non-secure image that has its stack pointer point at a Secure word, and calls.
 .org 0x00200080
-        ldr     r4, gate
+start:  ldr     r4, gate
         ldr     r5, kept
         ldr     r6, secret
         movs    r0, #0

@@ -3,7 +3,7 @@
         .word   served+1        ; SVCall
 
 .org 0x00200080
-        ldr     r6, behind
+start:  ldr     r6, behind
         msr     msp, r6
         svc     #0
 stay:   b       stay

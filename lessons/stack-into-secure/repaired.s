@@ -3,7 +3,7 @@
         .word   onward+1        ; interrupt 0
 
 .org 0x00200080
-        ldr     r0, iser
+start:  ldr     r0, iser
         movs    r1, #1
         str     r1, [r0, #0]    ; interrupt 0 is enabled
         ldr     r0, stack

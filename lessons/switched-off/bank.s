@@ -1,6 +1,6 @@
 ; The Non-secure image: a call, and a look at the upper half of the RAM.
 .org 0x00200040
-        ldr     r4, gate
+start:  ldr     r4, gate
         ldr     r5, kept
         movs    r0, #7
         blx     r4

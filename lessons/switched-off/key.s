@@ -1,6 +1,6 @@
 ; The Non-secure image: it has the key changed to none, and then has it read.
 .org 0x00200040
-        ldr     r4, change
+start:  ldr     r4, change
         movs    r0, #0
         blx     r4
         ldr     r4, read

@@ -1,6 +1,6 @@
 ; The Non-secure image: it has Secure code add up five ranges of words, and keeps the answers.
 .org 0x00200040
-        ldr     r4, gate
+start:  ldr     r4, gate
         ldr     r5, kept
         adr     r6, ranges
 next:   ldr     r0, [r6, #0]

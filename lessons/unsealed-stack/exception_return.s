@@ -3,7 +3,7 @@
         .word   served+1        ; SVCall
 
 .org 0x00200080
-        ldr     r4, keep
+start:  ldr     r4, keep
         ldr     r5, kept
         adr     r6, frames
         movs    r7, #0

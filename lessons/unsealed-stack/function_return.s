@@ -1,6 +1,6 @@
 ; The Non-secure image that returns from a call which nobody made.
 .org 0x00200080
-        ldr     r4, keep
+start:  ldr     r4, keep
         ldr     r5, kept
         movs    r0, #0
         ldr     r1, reveal
