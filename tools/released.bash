@@ -74,8 +74,14 @@ build_program() {
 
 # The version of the release, and with which kit it was proved and built.
 tell_version() {
-    local with=
-    is_whole || with=', which is broken'
-    [ "$(sources_of_tree)" = "$(sources_in_sums)" ] || with=', with other sources'
-    printf 'tzrun %s%s, proved and built with %s\n' "$(sed -n 's/^version //p' "$sums")" "$with" "$(sed -n 's/^kit //p' "$sums")"
+    local version kit
+    version=$(sed -n 's/^version //p' "$sums")
+    kit=$(sed -n 's/^kit //p' "$sums")
+    if [ "$(sources_of_tree)" != "$(sources_in_sums)" ]; then
+        printf 'tzrun %s with other sources, which %s proves and builds\n' "$version" "$kit"
+    elif is_whole; then
+        printf 'tzrun %s, proved and built with %s\n' "$version" "$kit"
+    else
+        printf "tzrun %s, whose release/ isn't as it was released, and isn't run\n" "$version"
+    fi
 }
