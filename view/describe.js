@@ -90,10 +90,10 @@ function linkOf(link) {
     const parts = exceptionReturn(link);
     const side = (isSecure) => SIDE_NAMES[isSecure ? SECURE : NONSECURE];
     const spsel = parts.processStack ? 1 : 0;
-    const callee = parts.defaultStacking ? 'handled by the rule' : 'in a frame already';
+    const isFramed = !parts.defaultStacking || (parts.secureFrame && !parts.secureHandler);
     const meanings = [
         ['S', parts.secureFrame, `the frame is on a ${side(parts.secureFrame)} stack`],
-        ['DCRS', parts.defaultStacking, `R4 to R11 are ${callee}`],
+        ['DCRS', parts.defaultStacking, `R4 to R11 are in ${isFramed ? 'the' : 'no'} additional frame`],
         ['Mode', parts.thread, parts.thread ? 'to Thread mode' : 'to a handler'],
         ['SPSEL', parts.processStack, `SPSEL of the ${side(parts.secureHandler)} side was ${spsel}`],
         ['ES', parts.secureHandler, `the handler is ${side(parts.secureHandler)}`],
