@@ -1,6 +1,6 @@
 pub mod Same
-pub mod Handed
+pub mod HandedOver
 pub mod Public
 pub mod Told
 pub mod Boards
-pub mod Runs
+pub mod Agreement

@@ -116,16 +116,37 @@ none_public s t e =
     same.and_both _ _ (same.passed_by_same is_same_monitor same.monitor_itself s.bus.monitor t.bus.monitor (λ i. (e i).monitor))
     (same.and_both _ _ (same.passed_by_same is_same_flag same.flag_itself s.core.event t.core.event (λ i. (e i).event))
     (same.passed_by_same is_same_sleep same.sleep_itself s.core.run.sleep t.core.run.sleep (λ i. (e i).sleep))) in
-    same.none_apart _
-    ( false_not _ (open_bytes_alike s.bus t.bus (λ i. (e i).bytes))
-    , ( same.passed_by_same is_same_sp same.sp_itself s.core.stacks_ns t.core.stacks_ns stacks
-    , ( same.passed_by_same is_same_limits same.limits_itself s.core.stacks_ns t.core.stacks_ns stacks
-    , ( same.passed_by_same is_same_control same.control_itself s.core.stacks_ns t.core.stacks_ns stacks
-    , ( same.passed_by_same is_same_masks same.masks_itself s.core.masks t.core.masks (λ i. (e i).masks)
-    , ( false_not _ (subst (λ u. sau_differs s.bus.sau u ≡ false) (λ i. (e i).sau) (sau_itself s.bus.sau))
-    , ( false_not _ (subst (λ m. mpu_differs s.bus.mpu_ns m ≡ false) (λ i. (e i).mpu) (mpu_itself s.bus.mpu_ns))
-    , ( same.number_alike s.core.status.ns.vtor t.core.status.ns.vtor (λ i. (status i).vtor)
-    , ( same.number_alike s.core.status.ns.ccr t.core.status.ns.ccr (λ i. (status i).ccr)
-    , ( faults
-    , ( false_not _ (subst (λ x. exceptions_differ s.exceptions x ≡ false) exceptions (exceptions_itself s.exceptions))
-    , ( timers, ( rest, tt)))))))))))))
+    same.none_apart _ (
+      false_not _ (open_bytes_alike s.bus t.bus (λ i. (e i).bytes)),
+      (
+        same.passed_by_same is_same_sp same.sp_itself s.core.stacks_ns t.core.stacks_ns stacks,
+        (
+          same.passed_by_same is_same_limits same.limits_itself s.core.stacks_ns t.core.stacks_ns stacks,
+          (
+            same.passed_by_same is_same_control same.control_itself s.core.stacks_ns t.core.stacks_ns stacks,
+            (
+              same.passed_by_same is_same_masks same.masks_itself s.core.masks t.core.masks (λ i. (e i).masks),
+              (
+                false_not _ (subst (λ u. sau_differs s.bus.sau u ≡ false) (λ i. (e i).sau) (sau_itself s.bus.sau)),
+                (
+                  false_not _ (subst (λ m. mpu_differs s.bus.mpu_ns m ≡ false) (λ i. (e i).mpu) (mpu_itself s.bus.mpu_ns)),
+                  (
+                    same.number_alike s.core.status.ns.vtor t.core.status.ns.vtor (λ i. (status i).vtor),
+                    (
+                      same.number_alike s.core.status.ns.ccr t.core.status.ns.ccr (λ i. (status i).ccr),
+                      (
+                        faults,
+                        (
+                          false_not _ (subst (λ x. exceptions_differ s.exceptions x ≡ false) exceptions (exceptions_itself s.exceptions)),
+                          (timers, (rest, tt)),
+                        ),
+                      ),
+                    ),
+                  ),
+                ),
+              ),
+            ),
+          ),
+        ),
+      ),
+    )

@@ -17,7 +17,7 @@ use Rattle.tz_iso.specs.declared.answer.What.{What}
 use Rattle.tz_iso.specs.Parts.{is_same_way}
 use Rattle.tz_iso.specs.What.{handed_apart, public_apart, crossings_apart, what_by, what_of}
 use Rattle.tz_iso.proofs.Same.{same_way, way_itself, passed_by_same, neither, or_none}
-use Rattle.tz_iso.proofs.Handed.{same_handed, none_handed}
+use Rattle.tz_iso.proofs.HandedOver.{same_handed, none_handed}
 use Rattle.tz_iso.proofs.Public.{same_public, none_public}
 
 -- ---- the crossing by the way that is told

@@ -110,8 +110,7 @@ pub first_of : (events : Events) (n j : ℕ) (what : What) (s t : State) → IsL
     → (j < n) × Agree events 0 s t j × (what_at events s t j ≡ Some what)
 first_of events n j what s t linked e =
     let h = first_from events n 0 s t linked j what e in
-    let is : h.before ≡ j = go h.before j h.is in
-    (
+    let is : h.before ≡ j = go h.before j h.is in (
       subst (λ (i : ℕ). i < n) is h.below,
       subst (λ (i : ℕ). Agree events 0 s t i) is h.agree,
       subst (λ (i : ℕ). what_of (step (state_after events 0 s i) (events j)) (step (state_after events 0 t i) (events j)) ≡ Some what) is h.differs,
