@@ -1,5 +1,5 @@
 -- What nothing tells apart is the same, and nothing is told apart from itself.
-use Rattle.std.proofs.Common.{◌≡◌, ◌⊎◌, inl, inr, ℕ, Bool, true, false, ◌&&◌, ◌||◌, List, [], ◌∷◌, Option, Some, None, refl, sym, ap, ◌∙◌, subst, arith}
+use Rattle.std.proofs.Common.{◌≡◌, ℕ, Bool, true, false, ◌&&◌, ◌||◌, List, [], ◌∷◌, Option, Some, None, refl, sym, ap, ◌∙◌}
 use Rattle.std.specs.Prelude.{◌==◌, not, if◌then◌else◌, is_some}
 use Rattle.std.specs.Bool.{Decides}
 use Rattle.std.specs.List.{list_any}
@@ -8,7 +8,7 @@ use Rattle.std.specs.FinMap.{get, keys, contains_key-keys}
 use Rattle.std.specs.Cmp.{unsigned_tied}
 use Rattle.std.specs.Cmp.Lexicographic.{pointwise, pointwise_decides}
 use Rattle.std.proofs.Math.Path.{fun_ext}
-use Rattle.std.proofs.lemmas.Bool.{and_parts, eqb-true}
+use Rattle.std.proofs.lemmas.Bool.{eqb-true}
 use Rattle.std.proofs.lemmas.Bool.Decides.{Decides-eqb}
 use Rattle.tz_table.specs.declared.units.Side.{Side}
 use Rattle.tz_table.specs.declared.units.Side.TheVariants.{Secure, NonSecure}
@@ -18,7 +18,7 @@ use Rattle.tz_regs.specs.Attribution.{SauState, MapState, is_open}
 use Rattle.tz_regs.specs.Protection.{MpuState}
 use Rattle.tz_regs.specs.Slots.{ExceptionsValue}
 use Rattle.tz_regs.specs.State.{Bus, map_in}
-use Rattle.tz_regs.specs.Difference.{is_same_flag, is_same_side, is_same_bounds, is_same_slot, sau_differs, mpu_differs, exceptions_differ, is_same_byte, byte_differs, open_byte_differs, open_bytes_differ}
+use Rattle.tz_regs.specs.Difference.{is_same_flag, is_same_side, is_same_bounds, is_same_slot, is_same_choice, sau_differs, mpu_differs, exceptions_differ, is_same_byte, byte_differs, open_byte_differs, open_bytes_differ}
 
 -- ---- tests that decide
 
@@ -107,8 +107,7 @@ record SameSlots (e f : ExceptionsValue) : Type 0 where
   bfhfnmins : e.bfhfnmins ≡ f.bfhfnmins
 
 exceptions_decide : (e f : ExceptionsValue)
-    → Decides (pointwise is_same_slot e.slots f.slots && (e.interrupts == f.interrupts && (e.prigroup_s == f.prigroup_s && (e.prigroup_ns == f.prigroup_ns
-    && (is_same_flag e.pris f.pris && is_same_flag e.bfhfnmins f.bfhfnmins))))) (SameSlots e f)
+    → Decides (pointwise is_same_slot e.slots f.slots && (e.interrupts == f.interrupts && is_same_choice e f)) (SameSlots e f)
 exceptions_decide e f =
     by_parts _
     (and_decides _ _ (pointwise_decides slot_decides e.slots f.slots) (and_decides _ _ (Decides-eqb e.interrupts f.interrupts)
@@ -194,12 +193,21 @@ in_turn false q r h = refl
 in_turn true false r h = refl
 in_turn true true r h = h refl refl
 
-pub bytes_alike : (b c : Bus) → ((a : ℕ) → is_open (map_in b) a ≡ true → is_open (map_in c) a ≡ true → get b.memory a ≡ get c.memory a) → open_bytes_differ b c ≡ false
+same_differs : (b c : Bus) (a : ℕ) → (is_open (map_in b) a ≡ true → is_open (map_in c) a ≡ true → get b.memory a ≡ get c.memory a) → open_byte_differs b c a ≡ false
+same_differs b c a same =
+    in_turn (is_open (map_in b) a) (is_open (map_in c) a) (byte_differs b.memory c.memory a)
+    (λ mine others. ap not ((byte_decides (get b.memory a) (get c.memory a)).1 (same mine others)))
+
+-- the test of all keys tells of each address
+pub none_differs : (b c : Bus) → open_bytes_differ b c ≡ false → (a : ℕ) → open_byte_differs b c a ≡ false
+none_differs b c e a = same_differs b c a (same_bytes b c e a)
+
+pub differs_nowhere : (b c : Bus) → ((a : ℕ) → open_byte_differs b c a ≡ false) → open_bytes_differ b c ≡ false
 unfolding open_bytes_differ
-bytes_alike b c same =
-    let none : (a : ℕ) → open_byte_differs b c a ≡ false = λ a. in_turn (is_open (map_in b) a) (is_open (map_in c) a) (byte_differs b.memory c.memory a)
-    (λ mine others. ap not ((byte_decides (get b.memory a) (get c.memory a)).1 (same a mine others))) in
-    rw (none_of (open_byte_differs b c) (keys b.memory) none) (none_of (open_byte_differs b c) (keys c.memory) none)
+differs_nowhere b c none = rw (none_of (open_byte_differs b c) (keys b.memory) none) (none_of (open_byte_differs b c) (keys c.memory) none)
+
+pub bytes_alike : (b c : Bus) → ((a : ℕ) → is_open (map_in b) a ≡ true → is_open (map_in c) a ≡ true → get b.memory a ≡ get c.memory a) → open_bytes_differ b c ≡ false
+bytes_alike b c same = differs_nowhere b c (λ a. same_differs b c a (same a))
 
 -- what Non-secure code may read, by address
 abbrev pub shown : Bus → ℕ → Option ℕ
