@@ -67,12 +67,12 @@ what_found other None = other
 what_found other (Some found) = found.1
 
 -- it is this one
-first_here : (events : Events) (n k : ℕ) (s t : State) (i : ℕ) (what seen : What) → what_of (step s (events k)) (step t (events k)) ≡ Some seen → Some (k, seen) ≡ Some (i, what)
-    → First events (suc n) k s t i what
+first_here : (events : Events) (n k : ℕ) (s t : State) (i : ℕ) (what here : What) (later : Option (ℕ × What)) → what_of (step s (events k)) (step t (events k)) ≡ Some here
+    → found_at k (Some here) later ≡ Some (i, what) → First events (suc n) k s t i what
 unfolding number_found what_found
-first_here events n k s t i what seen e h =
+first_here events n k s t i what here later e h =
     let number : k ≡ i = ap (number_found k) h in
-    let same : seen ≡ what = ap (what_found seen) h in
+    let same : here ≡ what = ap (what_found here) h in
     record {
       before = zero;
       is = sym number ∙ omega arith;
@@ -95,16 +95,20 @@ first_later events n k s t i what same h =
       differs = h.differs;
     }
 
+-- by what differs here; `after` is of the steps after this one
+first_by : (events : Events) (n k : ℕ) (s t : State) (i : ℕ) (what : What) (here : Option What) (later : Option (ℕ × What)) → IsLinked s t
+    → what_of (step s (events k)) (step t (events k)) ≡ here → found_at k here later ≡ Some (i, what)
+    → (crossing (step s (events k)) ≡ crossing (step t (events k)) → later ≡ Some (i, what) → First events n (k + 1) (step s (events k)).state (step t (events k)).state i what)
+    → First events (suc n) k s t i what
+first_by events n k s t i what (Some here) later linked is e after = first_here events n k s t i what here later is e
+first_by events n k s t i what None later linked is e after =
+    let same = crossings_same s t (events k) linked is in first_later events n k s t i what same (after same e)
+
 first_from : (events : Events) (n k : ℕ) (s t : State) → IsLinked s t → (i : ℕ) (what : What) → difference events k s t n ≡ Some (i, what) → First events n k s t i what
 first_from events zero k s t linked i what e = cc
-first_from events (suc n) k s t linked i what e = go (what_of (step s (events k)) (step t (events k))) refl e where
-  go : (here : Option What) → what_of (step s (events k)) (step t (events k)) ≡ here
-      → found_at k here (difference events (k + 1) (step s (events k)).state (step t (events k)).state n) ≡ Some (i, what) → First events (suc n) k s t i what
-  go (Some seen) is h = first_here events n k s t i what seen is h
-  go None is h =
-      let same = crossings_same s t (events k) linked is in
-      first_later events n k s t i what same
-      (first_from events n (k + 1) (step s (events k)).state (step t (events k)).state (linked_alike k s t (events k) linked same).seen i what h)
+first_from events (suc n) k s t linked i what e =
+    first_by events n k s t i what (what_of (step s (events k)) (step t (events k))) _ linked refl e
+    (λ same h. first_from events n (k + 1) (step s (events k)).state (step t (events k)).state (linked_alike k s t (events k) linked same).seen i what h)
 
 pub first_of : (events : Events) (n j : ℕ) (what : What) (s t : State) → IsLinked s t → difference events 0 s t n ≡ Some (j, what)
     → (j < n) × Agree events 0 s t j × (what_at events s t j ≡ Some what)

@@ -11,7 +11,7 @@ use Rattle.tz_iso.specs.declared.answer.What.{What}
 use Rattle.tz_iso.specs.declared.answer.What.TheVariants.{R}
 use Rattle.tz_iso.specs.Parts.{is_same_apsr}
 use Rattle.tz_iso.specs.What.{general_apart, all_apart, called_apart, saved_apart, handed_apart}
-use Rattle.tz_iso.proofs.Same.{and_both, number_itself, same_flag, flag_itself, same_flags, flags_itself, all_same, none_apart, neither, or_none}
+use Rattle.tz_iso.proofs.Same.{and_both, number_itself, same_flag, flag_itself, same_flags, flags_itself, first_same, also_same, neither, or_none}
 
 -- ---- R0 to R12
 
@@ -61,19 +61,22 @@ same_all : (r q : Registers) → r.ipsr ≡ q.ipsr → all_apart r q ≡ None �
 same_all r q ipsr e =
     let h = neither _ _ e in
     let general = same_general 0 r.general q.general h.0 in
-    let parts = all_same _ h.1 in
-    let lr = eqb-true r.lr q.lr parts.0 in
-    let a = same_apsr r q parts.1.0 in
-    let pc = eqb-true r.pc q.pc parts.1.1.0 in
+    let p1 = first_same (r.lr == q.lr) _ _ h.1 in
+    let p2 = first_same (is_same_apsr r q) _ _ p1.1 in
+    let p3 = first_same (r.pc == q.pc) _ _ p2.1 in
+    let lr = eqb-true r.lr q.lr p1.0 in
+    let a = same_apsr r q p2.0 in
+    let pc = eqb-true r.pc q.pc p3.0 in
     λ i. record { general = general i; lr = lr i; pc = pc i; apsr = a.apsr i; it = a.it i; t = a.t i; ipsr = ipsr i }
 
 same_called : (r q : Registers) → r.ipsr ≡ q.ipsr → called_apart r q ≡ None → record r { lr = fnc_return } ≡ record q { lr = fnc_return }
 same_called r q ipsr e =
     let h = neither _ _ e in
     let general = same_general 0 r.general q.general h.0 in
-    let parts = all_same _ h.1 in
-    let a = same_apsr r q parts.0 in
-    let pc = eqb-true r.pc q.pc parts.1.0 in
+    let p1 = first_same (is_same_apsr r q) _ _ h.1 in
+    let p2 = first_same (r.pc == q.pc) _ _ p1.1 in
+    let a = same_apsr r q p1.0 in
+    let pc = eqb-true r.pc q.pc p2.0 in
     λ i. record { general = general i; lr = fnc_return; pc = pc i; apsr = a.apsr i; it = a.it i; t = a.t i; ipsr = ipsr i }
 
 pub same_handed : (kind : CrossKind) (r q : Registers) → r.ipsr ≡ q.ipsr → handed_apart kind r q ≡ None → handed_by kind r ≡ handed_by kind q
@@ -88,10 +91,11 @@ same_handed Refused r q ipsr e = refl
 
 all_itself : (r : Registers) → all_apart r r ≡ None
 all_itself r =
-    or_none _ _ (general_itself 0 r.general) (none_apart _ (number_itself r.lr, (apsr_itself r, (number_itself r.pc, tt))))
+    or_none _ _ (general_itself 0 r.general)
+    (also_same _ _ _ (number_itself r.lr) (also_same _ _ _ (apsr_itself r) (also_same _ _ _ (number_itself r.pc) refl)))
 
 called_itself : (r : Registers) → called_apart r r ≡ None
-called_itself r = or_none _ _ (general_itself 0 r.general) (none_apart _ (apsr_itself r, (number_itself r.pc, tt)))
+called_itself r = or_none _ _ (general_itself 0 r.general) (also_same _ _ _ (apsr_itself r) (also_same _ _ _ (number_itself r.pc) refl))
 
 whole_of : Registers → Handed → Registers
 whole_of other Nothing = other

@@ -6,10 +6,11 @@ use Rattle.tz_regs.specs.declared.parts.BusStatus.{BusStatus}
 use Rattle.tz_regs.specs.declared.request.Exclusive.{Exclusive}
 use Rattle.tz_regs.specs.declared.slot.Timer.{Timer}
 use Rattle.tz_regs.specs.Attribution.{SauState, MapState}
+use Rattle.tz_regs.specs.Protection.{MpuState}
 use Rattle.tz_regs.specs.Slots.{ExceptionsValue}
 use Rattle.tz_regs.specs.Difference.{is_same_flag, sau_differs, mpu_differs, exceptions_differ, open_bytes_differ}
 use Rattle.tz_regs.specs.State.{State, map_of}
-use Rattle.tz_regs.proofs.Difference.{same_sau, sau_itself, same_mpu, mpu_itself, same_exceptions, exceptions_itself, same_open_bytes, open_bytes_alike}
+use Rattle.tz_regs.proofs.Difference.{same_sau, sau_itself, same_mpu, mpu_itself, same_exceptions, exceptions_itself, same_shown, shown_alike}
 use Rattle.tz_twin.specs.Seen.{open_bytes, open_bus, Public, public_of}
 use Rattle.tz_twin.proofs.Bytes.{and_first, and_second}
 use Rattle.tz_iso.specs.Parts.{is_same_sp, is_same_limits, is_same_control, is_same_masks, is_same_side_faults, is_same_open_faults, is_same_faults, is_same_timer, is_same_timers, is_same_monitor, is_same_sleep, is_same_rest}
@@ -61,19 +62,19 @@ same_rest s t e =
 -- of one board
 pub same_public : (s t : State) → s.bus.board.regions ≡ t.bus.board.regions → public_apart s t ≡ None → public_of s ≡ public_of t
 same_public s t regions e =
-    let a1 = same.all_same _ e in
-    let a2 = a1.1 in
-    let a3 = a2.1 in
-    let a4 = a3.1 in
-    let a5 = a4.1 in
-    let a6 = a5.1 in
-    let a7 = a6.1 in
-    let a8 = a7.1 in
-    let a9 = a8.1 in
-    let a10 = a9.1 in
-    let a11 = a10.1 in
-    let a12 = a11.1 in
-    let a13 = a12.1 in
+    let a1 = same.first_same _ _ _ e in
+    let a2 = same.first_same _ _ _ a1.1 in
+    let a3 = same.first_same _ _ _ a2.1 in
+    let a4 = same.first_same _ _ _ a3.1 in
+    let a5 = same.first_same _ _ _ a4.1 in
+    let a6 = same.first_same _ _ _ a5.1 in
+    let a7 = same.first_same _ _ _ a6.1 in
+    let a8 = same.first_same _ _ _ a7.1 in
+    let a9 = same.first_same _ _ _ a8.1 in
+    let a10 = same.first_same _ _ _ a9.1 in
+    let a11 = same.first_same _ _ _ a10.1 in
+    let a12 = same.first_same _ _ _ a11.1 in
+    let a13 = same.first_same _ _ _ a12.1 in
     let stacks = same.same_stacks s.core.stacks_ns t.core.stacks_ns a2.0 a3.0 a4.0 in
     let masks = same.same_masks s.core.masks t.core.masks a5.0 in
     let sau = same_sau s.bus.sau t.bus.sau (not_false _ a6.0) in
@@ -83,7 +84,7 @@ same_public s t regions e =
     let timer_ns = same.same_timer s.exceptions.timer_ns t.exceptions.timer_ns (and_second _ _ a12.0) in
     let exceptions = same_exceptions s.exceptions t.exceptions (not_false _ a11.0) timer_s timer_ns in
     let map : map_of s ≡ map_of t = λ i. record { regions = regions i; sau = sau i } in
-    let bytes : open_bytes (map_of s) s.bus.memory ≡ open_bytes (map_of t) t.bus.memory = same_open_bytes s.bus t.bus map (not_false _ a1.0) in
+    let bytes : open_bytes (map_of s) s.bus.memory ≡ open_bytes (map_of t) t.bus.memory = same_shown s.bus t.bus map (not_false _ a1.0) in
     let bus = same_open_bus s.exceptions.bfhfnmins t.exceptions.bfhfnmins s.core.status.bus t.core.status.bus (λ i. (exceptions i).bfhfnmins) (and_second _ _ a10.0) in
     let rest = same_rest s t a13.0 in
     λ i. record {
@@ -116,37 +117,16 @@ none_public s t e =
     same.and_both _ _ (same.passed_by_same is_same_monitor same.monitor_itself s.bus.monitor t.bus.monitor (λ i. (e i).monitor))
     (same.and_both _ _ (same.passed_by_same is_same_flag same.flag_itself s.core.event t.core.event (λ i. (e i).event))
     (same.passed_by_same is_same_sleep same.sleep_itself s.core.run.sleep t.core.run.sleep (λ i. (e i).sleep))) in
-    same.none_apart _ (
-      false_not _ (open_bytes_alike s.bus t.bus (λ i. (e i).bytes)),
-      (
-        same.passed_by_same is_same_sp same.sp_itself s.core.stacks_ns t.core.stacks_ns stacks,
-        (
-          same.passed_by_same is_same_limits same.limits_itself s.core.stacks_ns t.core.stacks_ns stacks,
-          (
-            same.passed_by_same is_same_control same.control_itself s.core.stacks_ns t.core.stacks_ns stacks,
-            (
-              same.passed_by_same is_same_masks same.masks_itself s.core.masks t.core.masks (λ i. (e i).masks),
-              (
-                false_not _ (subst (λ u. sau_differs s.bus.sau u ≡ false) (λ i. (e i).sau) (sau_itself s.bus.sau)),
-                (
-                  false_not _ (subst (λ m. mpu_differs s.bus.mpu_ns m ≡ false) (λ i. (e i).mpu) (mpu_itself s.bus.mpu_ns)),
-                  (
-                    same.number_alike s.core.status.ns.vtor t.core.status.ns.vtor (λ i. (status i).vtor),
-                    (
-                      same.number_alike s.core.status.ns.ccr t.core.status.ns.ccr (λ i. (status i).ccr),
-                      (
-                        faults,
-                        (
-                          false_not _ (subst (λ x. exceptions_differ s.exceptions x ≡ false) exceptions (exceptions_itself s.exceptions)),
-                          (timers, (rest, tt)),
-                        ),
-                      ),
-                    ),
-                  ),
-                ),
-              ),
-            ),
-          ),
-        ),
-      ),
-    )
+    same.also_same _ _ _ (false_not _ (shown_alike s.bus t.bus (λ i. (e i).bytes)))
+    (same.also_same _ _ _ (same.passed_by_same is_same_sp same.sp_itself s.core.stacks_ns t.core.stacks_ns stacks)
+    (same.also_same _ _ _ (same.passed_by_same is_same_limits same.limits_itself s.core.stacks_ns t.core.stacks_ns stacks)
+    (same.also_same _ _ _ (same.passed_by_same is_same_control same.control_itself s.core.stacks_ns t.core.stacks_ns stacks)
+    (same.also_same _ _ _ (same.passed_by_same is_same_masks same.masks_itself s.core.masks t.core.masks (λ i. (e i).masks))
+    (same.also_same _ _ _ (false_not _ (subst (λ (u : SauState). sau_differs s.bus.sau u ≡ false) (λ i. (e i).sau) (sau_itself s.bus.sau)))
+    (same.also_same _ _ _ (false_not _ (subst (λ (m : MpuState). mpu_differs s.bus.mpu_ns m ≡ false) (λ i. (e i).mpu) (mpu_itself s.bus.mpu_ns)))
+    (same.also_same _ _ _ (same.number_alike s.core.status.ns.vtor t.core.status.ns.vtor (λ i. (status i).vtor))
+    (same.also_same _ _ _ (same.number_alike s.core.status.ns.ccr t.core.status.ns.ccr (λ i. (status i).ccr))
+    (same.also_same _ _ _ faults
+    (same.also_same _ _ _ (false_not _ (subst (λ (x : ExceptionsValue). exceptions_differ s.exceptions x ≡ false) exceptions (exceptions_itself s.exceptions)))
+    (same.also_same _ _ _ timers
+    (same.also_same _ _ _ rest refl))))))))))))

@@ -21,7 +21,6 @@ use Rattle.tz_regs.specs.State.{is_same_size}
 use Rattle.tz_twin.proofs.Bytes.{and_first, and_second}
 use Rattle.tz_iso.specs.declared.answer.What.{What}
 use Rattle.tz_iso.specs.Parts.{kind_number, is_same_lr, is_same_way, is_same_flags, is_same_sp, is_same_limits, is_same_control, is_same_side_masks, is_same_masks, is_same_side_faults, is_same_bus_faults, is_same_timer, is_same_monitor, is_same_sleep}
-use Rattle.tz_iso.specs.What.{first_apart}
 
 pub and_both : (p q : Bool) → p ≡ true → q ≡ true → (p && q) ≡ true
 and_both true q e h = h
@@ -41,7 +40,7 @@ number_alike m n e = eq-eqb m n e
 
 pub same_flag : (p q : Bool) → is_same_flag p q ≡ true → p ≡ q
 same_flag true q e = sym e
-same_flag false true e = sym e
+same_flag false true e = e
 same_flag false false e = refl
 
 pub flag_itself : (p : Bool) → is_same_flag p p ≡ true
@@ -230,24 +229,14 @@ sleep_itself Wfe = refl
 
 -- ---- parts in a row
 
--- all of them are the same
-abbrev pub AllSame : List (Bool × What) → Type 0
-AllSame [] = Unit {0}
-AllSame (part ∷ parts) = (part.0 ≡ true) × AllSame parts
-
-first_same : (t : Bool) (what : What) (later : Option What) → cond t later (Some what) ≡ None → (t ≡ true) × (later ≡ None)
+-- the first of them is the same, and nothing differs in the others
+pub first_same : (same : Bool) (what : What) (later : Option What) → (if same then later else Some what) ≡ None → (same ≡ true) × (later ≡ None)
 first_same true what later e = (refl, e)
 first_same false what later e = cc
 
-pub all_same : (parts : List (Bool × What)) → first_apart parts ≡ None → AllSame parts
-all_same [] e = tt
-all_same (part ∷ parts) e =
-    let h = first_same part.0 part.1 (first_apart parts) e in
-    (h.0, all_same parts h.1)
-
-pub none_apart : (parts : List (Bool × What)) → AllSame parts → first_apart parts ≡ None
-none_apart [] h = refl
-none_apart (part ∷ parts) h = rw h.0 (none_apart parts h.1)
+pub also_same : (same : Bool) (what : What) (later : Option What) → same ≡ true → later ≡ None → (if same then later else Some what) ≡ None
+also_same true what later e h = h
+also_same false what later e h = cc
 
 pub neither : (a b : Option What) → option_or a b ≡ None → (a ≡ None) × (b ≡ None)
 neither None b e = (refl, e)

@@ -16,7 +16,7 @@ use Rattle.tz_twin.proofs.WaysOut.{tells_way}
 use Rattle.tz_iso.specs.declared.answer.What.{What}
 use Rattle.tz_iso.specs.Parts.{is_same_way}
 use Rattle.tz_iso.specs.What.{handed_apart, public_apart, crossings_apart, what_by, what_of}
-use Rattle.tz_iso.proofs.Same.{same_way, way_itself, passed_by_same, neither, or_none}
+use Rattle.tz_iso.proofs.Same.{same_way, way_itself, passed_by_same, first_same, neither, or_none}
 use Rattle.tz_iso.proofs.HandedOver.{same_handed, none_handed}
 use Rattle.tz_iso.proofs.Public.{same_public, none_public}
 
@@ -65,15 +65,10 @@ public_of_told : Public → Option Crossing → Public
 public_of_told other None = other
 public_of_told other (Some c) = c.public
 
--- both crossings told the same way, and nothing differs after it
-ways_first : (t : Bool) (what : What) (later : Option What) → cond t later (Some what) ≡ None → (t ≡ true) × (later ≡ None)
-ways_first true what later e = (refl, e)
-ways_first false what later e = cc
-
 same_crossed : (w v : Way) (s t : State) → s.bus.board.regions ≡ t.bus.board.regions → w.number ≡ s.core.registers.ipsr → v.number ≡ t.core.registers.ipsr
     → crossings_apart w v s t ≡ None → told_by s w ≡ told_by t v
 same_crossed w v s t regions m n e =
-    let h = ways_first (is_same_way w v) _ _ e in
+    let h = first_same (is_same_way w v) _ _ e in
     let way : w ≡ v = same_way w v h.0 in
     let parts = neither _ _ h.1 in
     let ipsr : s.core.registers.ipsr ≡ t.core.registers.ipsr = sym m ∙ ap (λ (x : Way). x.number) way ∙ n in

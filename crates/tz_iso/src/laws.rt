@@ -22,5 +22,5 @@ pub fn difference_told()
     ensures agree { (events : Events) (k n : ℕ) (s t : State) → IsLinked s t → difference events k s t n ≡ None → Agree events k s t n }
     ensures none { (events : Events) (k n : ℕ) (s t : State) → IsLinked s t → Agree events k s t n → difference events k s t n ≡ None }
     ensures first { (events : Events) (n j : ℕ) (what : What) (s t : State) → IsLinked s t → difference events 0 s t n ≡ Some (j, what) →
-        (j < n) × Agree events 0 s t j × (what_at events 0 s t j ≡ Some what) }
+        (j < n) × Agree events 0 s t j × (what_at events s t j ≡ Some what) }
 {}
