@@ -1,13 +1,13 @@
 -- Bytes of numbers and statements.
-use Rattle.std.proofs.Common.{◌≡◌, ◌∙◌, ◌/◌, ◌%◌, ℕ, zero, suc, refl, sym, ap, arith, List, [], ◌∷◌, ◌++◌, length, Option, Some, None, unwrap_or, Result, Ok, Err}
+use Rattle.std.proofs.Common.{◌≡◌, ◌∙◌, ◌/◌, ℕ, zero, suc, refl, sym, ap, arith, Bool, true, false, List, [], ◌∷◌, ◌++◌, length, Option, Some, None, unwrap_or, Result, Ok, Err}
 use Rattle.std.specs.Prelude.{take}
 use Rattle.std.specs.Int.{bytes_low_first}
 use Rattle.std.proofs.lemmas.List.{length-append, map-append}
-use Rattle.tz_asm.specs.Layouts.{size_bytes, width_bytes}
+use Rattle.tz_asm.specs.Layouts.{size_bytes, text_count, width_bytes}
 use Rattle.tz_asm.specs.Places.{Places}
 use Rattle.tz_asm.specs.Refusals.{Refusal}
 use Rattle.tz_asm.specs.Values.{data_bytes, in_size, low_first, number_bytes, value_bytes, value_of}
-use Rattle.tz_asm.specs.Written.{InstructionWrites, as_address, code_bytes, coded_bytes, label_place, last_word, word_of}
+use Rattle.tz_asm.specs.Written.{InstructionWrites, as_address, code_bytes, coded_bytes, label_value, last_word, text_bytes, word_of}
 use Rattle.tz_asm.specs.declared.values.Value.{Value}
 use Rattle.tz_asm.specs.Operands.{ExpressionValue}
 use Rattle.tz_asm.specs.Views.{views}
@@ -74,6 +74,11 @@ pub data_bytes-length : (line : ℕ) (places : Places) (size : Size) (e : Expres
 unfolding data_bytes
 data_bytes-length line places size e bytes is = value_bytes-length line size (value_of places e) bytes is
 
+-- and a text
+pub text_bytes-length : (bytes : List ℕ) (ends : Bool) → length (text_bytes bytes ends) ≡ text_count (length bytes) ends
+text_bytes-length bytes true = length-append bytes (0 ∷ [])
+text_bytes-length bytes false = refl
+
 -- how many bytes a code has
 code_bytes-length : (width : Width) (code : Code) → length (code_bytes width code) ≡ width_bytes width
 code_bytes-length Narrow code = length-low_first 2 code.first
@@ -83,7 +88,7 @@ code_bytes-length Wide code =
     let second = length-low_first 2 (unwrap_or code.second 0) in
     omega (arith, both, first, second)
 
-coded_bytes-length : (line : ℕ) (label : Option ℕ) (width : Width) (coded : Result Code Uncoded) (bytes : List ℕ) → Ok bytes ≡ coded_bytes line label width coded
+coded_bytes-length : (line : ℕ) (label : Option Value) (width : Width) (coded : Result Code Uncoded) (bytes : List ℕ) → Ok bytes ≡ coded_bytes line label width coded
     → length bytes ≡ width_bytes width
 coded_bytes-length line label width (Ok code) bytes is =
     let same : bytes ≡ code_bytes width code = cc in
@@ -94,11 +99,11 @@ pub InstructionWrites-length : (line : ℕ) (places : Places) (place : ℕ) (wid
     → InstructionWrites line places place width mnemonic operands (Ok bytes) → length bytes ≡ width_bytes width
 unfolding InstructionWrites
 InstructionWrites-length line places place width mnemonic operands bytes (coded, (is, same)) =
-    coded_bytes-length line (label_place places operands) width coded bytes same
+    coded_bytes-length line (label_value places operands) width coded bytes same
 
 -- what an instruction writes, from the code that it has or why it has none
-pub coded_writes : (line : ℕ) (places : Places) (place : ℕ) (width : Width) (mnemonic : List ℕ) (operands : List TokenValue) (label : Option ℕ)
-    (coded : Result Code Uncoded) (answer : Result (List ℕ) Refusal) → label_place places operands ≡ label → Coded mnemonic operands place (as_address label) coded
+pub coded_writes : (line : ℕ) (places : Places) (place : ℕ) (width : Width) (mnemonic : List ℕ) (operands : List TokenValue) (label : Option Value)
+    (coded : Result Code Uncoded) (answer : Result (List ℕ) Refusal) → label_value places operands ≡ label → Coded mnemonic operands place (as_address label) coded
     → answer ≡ coded_bytes line label width coded → InstructionWrites line places place width mnemonic operands answer
 unfolding InstructionWrites
 coded_writes line places place width mnemonic operands label coded answer at is same = rw at (coded, (is, same))

@@ -1,8 +1,8 @@
 -- What a statement gives is what is told of it.
-use Rattle.std.proofs.Common.{◌≡◌, ℕ, ◌&&◌, Bool, true, false, List, [], ◌∷◌, Option, Some, None, Result, Ok, Err, is_none, option_map, length, inl, inr, refl, sym, ap, ◌∙◌, subst, ℤ}
+use Rattle.std.proofs.Common.{◌≡◌, ℕ, ◌&&◌, Bool, true, false, List, [], ◌∷◌, Option, Some, None, Result, Ok, Err, is_none, option_map, inl, inr, refl, sym, ap, ◌∙◌, subst, ℤ}
 use Rattle.std.specs.Prelude.{unwrap_or, if◌then◌else◌}
 use Rattle.tz_syntax.specs.Tokens.{TokenValue}
-use Rattle.tz_encode.specs.Encoded.{At, EncodedIn, FirstCode, code_of}
+use Rattle.tz_encode.specs.Encoded.{EncodedIn, FirstCode, code_of}
 use Rattle.tz_encode.specs.Told.{first_code, code_with}
 use Rattle.tz_encode.proofs.Told.{IsTold, means_some, told_of}
 use Rattle.tz_bits.specs.Values.{values_of}
@@ -15,9 +15,9 @@ use Rattle.tz_asm.specs.Coded.{Coded, CodedBy, Gives, GivesBy, IsCodeOf, Passes,
 use Rattle.tz_asm.specs.Mnemonics.{texts_of}
 use Rattle.tz_asm.specs.Pieces.{Progress, Site}
 use Rattle.tz_asm.specs.Rows.{row_read}
-use Rattle.tz_asm.specs.CodeTold.{answer_by, answer_of, first_answer, code_told}
+use Rattle.tz_asm.specs.CodeTold.{answer_of, first_answer, code_told}
 use Rattle.tz_asm.specs.declared.code.uncoded.Uncoded.{Uncoded}
-use Rattle.tz_asm.specs.declared.code.uncoded.Uncoded.TheVariants.{NoLabel, Range}
+use Rattle.tz_asm.specs.declared.code.uncoded.Uncoded.TheVariants.{NoLabel}
 use Rattle.tz_asm.proofs.Once.{values_once}
 
 -- a code that is told of some values is one of an instruction that has them

@@ -8,6 +8,8 @@ pub mod WidthLemmas
 pub mod CodeTold
 pub mod Telling
 pub mod Readings
+pub mod TextTurns
+pub mod TextBytes
 pub mod Labels
 pub mod FirstTurns
 pub mod SecondTurns

@@ -9,7 +9,7 @@ use Rattle.tz_asm.specs.Refusals.{OrgBackwards, TooLarge}
 use Rattle.tz_asm.specs.declared.layout.Layout.{Layout}
 use Rattle.tz_model.specs.Board.{most_bytes}
 use Rattle.tz_model.specs.Image.{IsImage, SegmentValue, are_addressed, are_clear, bytes_in, clear_of_all, end_of, is_clear_of}
-use Rattle.tz_asm.specs.Statements.{StatementValue, Nothing, Org, Align, Data, Instruction}
+use Rattle.tz_asm.specs.Statements.{StatementValue, Nothing, Org, Align, Data, Equ, Space, Text, Instruction}
 
 or_left : (x y : Bool) → x ≡ true → (x || y) ≡ true
 or_left x y h = rw h refl
@@ -195,6 +195,9 @@ advance-grown line (Org number) l next g (b ∷ bytes) is size fits = absurd (om
 advance-grown line Nothing l next g bytes is size fits = put-grown line l next g bytes (rw size is) fits
 advance-grown line (Align multiple) l next g bytes is size fits = put-grown line l next g bytes (rw size is) fits
 advance-grown line (Data bits value) l next g bytes is size fits = put-grown line l next g bytes (rw size is) fits
+advance-grown line (Equ name value) l next g bytes is size fits = put-grown line l next g bytes (rw size is) fits
+advance-grown line (Space count) l next g bytes is size fits = put-grown line l next g bytes (rw size is) fits
+advance-grown line (Text text ends) l next g bytes is size fits = put-grown line l next g bytes (rw size is) fits
 advance-grown line (Instruction width mnemonic operands) l next g bytes is size fits = put-grown line l next g bytes (rw size is) fits
 
 pub Fits-start : (l : Layout) (g : GrowingValue) → l ≡ start → g ≡ nothing → Fits l g

@@ -1,26 +1,28 @@
 -- The segments that a source gives are those of an image, and hold bytes.
 use Rattle.std.proofs.Common.{◌≡◌, ◌∙◌, ℕ, zero, suc, ◌+◌, ◌/◌, ◌%◌, ◌<◌, ◌≤◌, ◌==◌, ◌||◌, Bool, true, false, nat_le, nat_lt, List, [], ◌∷◌, ◌++◌, length, Option, Some, None, unwrap_or, Result, Ok, Err, refl, sym, ap, subst, arith}
-use Rattle.std.specs.Prelude.{if◌then◌else◌, replicate, slice_index}
+use Rattle.std.specs.Prelude.{if◌then◌else◌, replicate}
 use Rattle.std.proofs.lemmas.Bool.{and_from, and_parts, le-leb, ltb-false, ltb-true, ne_eqb}
 use Rattle.std.proofs.lemmas.List.{length-append, length-replicate}
 use Rattle.tz_asm.specs.FirstPass.{first_pass}
 use Rattle.tz_asm.specs.Growing.{Fits, GrowingValue, finished, grown, nothing, with_segment}
 use Rattle.tz_asm.specs.Layouts.{advance, behind, byte_count, go_to, org_place, padding, put, size_bytes, start, too_many_segments, width_bytes}
-use Rattle.tz_asm.specs.Places.{Places}
+use Rattle.tz_asm.specs.Places.{Places, value_named}
 use Rattle.tz_asm.specs.Reading.{said}
 use Rattle.tz_asm.specs.Refusals.{◌>>=◌, OrgBackwards, Refusal, TooLarge}
 use Rattle.tz_asm.specs.Told.{assembled, second_from, second_turn, written_by}
 use Rattle.tz_asm.specs.Values.{data_bytes, in_size, low_first, number_bytes, value_bytes, value_of}
-use Rattle.tz_asm.specs.Written.{as_address, code_bytes, coded_bytes, label_place}
+use Rattle.tz_asm.specs.Written.{as_address, code_bytes, coded_bytes, equ_bytes, label_value, text_bytes}
+use Rattle.tz_asm.specs.Operands.{ExpressionValue}
 use Rattle.tz_asm.specs.declared.layout.Layout.{Layout}
 use Rattle.tz_asm.specs.declared.values.Value.{Value}
-use Rattle.tz_asm.proofs.Bytes.{data_bytes-length, length-low_first}
+use Rattle.tz_asm.proofs.Bytes.{data_bytes-length, length-low_first, text_bytes-length}
+use Rattle.tz_asm.proofs.TextBytes.{AreBytes, HoldsBytes, no_bytes, one_more, said_holds}
 use Rattle.tz_asm.proofs.Segments.{Fits-finished, Fits-start, advance-grown}
 use Rattle.tz_syntax.specs.Lines.{lines_of}
 use Rattle.tz_elf.proofs.Written.{HoldBytes}
 use Rattle.tz_model.specs.Board.{most_bytes}
 use Rattle.tz_model.specs.Image.{SegmentValue, are_addressed, bytes_in, end_of}
-use Rattle.tz_asm.specs.Statements.{StatementValue, Nothing, Org, Align, Data, Instruction}
+use Rattle.tz_asm.specs.Statements.{StatementValue, Nothing, Org, Align, Data, Equ, Space, Text, Instruction}
 use Rattle.tz_asm.specs.CodeTold.{code_told}
 use Rattle.tz_asm.specs.declared.code.uncoded.Uncoded.{Uncoded}
 use Rattle.tz_table.specs.declared.units.Code.{Code}
@@ -29,16 +31,6 @@ use Rattle.tz_table.specs.declared.units.Width.{Width}
 use Rattle.tz_table.specs.declared.units.Width.TheVariants.{Narrow, Wide}
 
 -- ---- bytes
-
-abbrev AreBytes : List ℕ → Type 0
-AreBytes bytes = (k : ℕ) → slice_index bytes k < 256
-
-no_bytes : AreBytes []
-no_bytes k = omega arith
-
-one_more : (b : ℕ) (bytes : List ℕ) → b < 256 → AreBytes bytes → AreBytes (b ∷ bytes)
-one_more b bytes l h zero = l
-one_more b bytes l h (suc k) = h k
 
 both : (xs ys : List ℕ) → AreBytes xs → AreBytes ys → AreBytes (xs ++ ys)
 both [] ys h i = i
@@ -84,21 +76,37 @@ code_count Wide code =
 abbrev HasWidth : Width → List ℕ → Type 0
 HasWidth w bytes = AreBytes bytes × (length bytes ≡ width_bytes w)
 
-coded_puts : (line : ℕ) (label : Option ℕ) (w : Width) (r : Result Code Uncoded) (bytes : List ℕ) → coded_bytes line label w r ≡ Ok bytes → HasWidth w bytes
+coded_puts : (line : ℕ) (label : Option Value) (w : Width) (r : Result Code Uncoded) (bytes : List ℕ) → coded_bytes line label w r ≡ Ok bytes → HasWidth w bytes
 coded_puts line label w (Err cause) bytes h = cc
 coded_puts line label w (Ok code) bytes h = subst (HasWidth w) (given (code_bytes w code) bytes h) (code_puts w code, code_count w code)
 
-written_puts : (line : ℕ) (places : Places) (place : ℕ) (statement : StatementValue) (bytes : List ℕ) → written_by line places place statement ≡ Ok bytes → Puts place statement bytes
+equ_puts : (line place : ℕ) (name : List ℕ) (e : ExpressionValue) (o : Option Value) (bytes : List ℕ) → equ_bytes line o ≡ Ok bytes → Puts place (Equ name e) bytes
+unfolding byte_count
+equ_puts line place name e None bytes h = cc
+equ_puts line place name e (Some v) bytes h = let same = given [] bytes h in record { bytes_are = subst AreBytes same no_bytes; count = ap length (sym same) }
+
+text_puts : (text : List ℕ) (ends : Bool) → AreBytes text → AreBytes (text_bytes text ends)
+text_puts text true h = both text (0 ∷ []) h (one_more 0 [] (omega arith) no_bytes)
+text_puts text false h = h
+
+written_puts : (line : ℕ) (places : Places) (place : ℕ) (statement : StatementValue) (bytes : List ℕ) → HoldsBytes statement → written_by line places place statement ≡ Ok bytes → Puts place statement bytes
 unfolding written_by byte_count data_bytes
-written_puts line places place Nothing bytes h = let same = given [] bytes h in record { bytes_are = subst AreBytes same no_bytes; count = ap length (sym same) }
-written_puts line places place (Org number) bytes h = let same = given [] bytes h in record { bytes_are = subst AreBytes same no_bytes; count = ap length (sym same) }
-written_puts line places place (Align multiple) bytes h =
+written_puts line places place Nothing bytes holds h = let same = given [] bytes h in record { bytes_are = subst AreBytes same no_bytes; count = ap length (sym same) }
+written_puts line places place (Org number) bytes holds h = let same = given [] bytes h in record { bytes_are = subst AreBytes same no_bytes; count = ap length (sym same) }
+written_puts line places place (Align multiple) bytes holds h =
     let same = given (replicate (padding multiple place) 0) bytes h in
     record { bytes_are = subst AreBytes same (zeros (padding multiple place)); count = ap length (sym same) ∙ length-replicate (padding multiple place) 0 }
-written_puts line places place (Data size e) bytes h =
+written_puts line places place (Data size e) bytes holds h =
     record { bytes_are = value_puts line size (value_of places e) bytes h; count = data_bytes-length line places size e bytes h }
-written_puts line places place (Instruction w mnemonic operands) bytes h =
-    let puts = coded_puts line (label_place places operands) w (code_told mnemonic operands place (as_address (label_place places operands))) bytes h in
+written_puts line places place (Equ name e) bytes holds h = equ_puts line place name e (value_named places name) bytes h
+written_puts line places place (Space count) bytes holds h =
+    let same = given (replicate count 0) bytes h in
+    record { bytes_are = subst AreBytes same (zeros count); count = ap length (sym same) ∙ length-replicate count 0 }
+written_puts line places place (Text text ends) bytes holds h =
+    let same = given (text_bytes text ends) bytes h in
+    record { bytes_are = subst AreBytes same (text_puts text ends holds); count = ap length (sym same) ∙ text_bytes-length text ends }
+written_puts line places place (Instruction w mnemonic operands) bytes holds h =
+    let puts = coded_puts line (label_value places operands) w (code_told mnemonic operands place (as_address (label_value places operands))) bytes h in
     record { bytes_are = puts.0; count = puts.1 }
 
 -- ---- segments that grow
@@ -223,6 +231,9 @@ advance_more line (Org number) l next g (b ∷ bytes) is puts fits m = let none 
 advance_more line Nothing l next g bytes is puts fits m = put_more line l next g bytes (rw puts.count is) puts.bytes_are fits m
 advance_more line (Align multiple) l next g bytes is puts fits m = put_more line l next g bytes (rw puts.count is) puts.bytes_are fits m
 advance_more line (Data size e) l next g bytes is puts fits m = put_more line l next g bytes (rw puts.count is) puts.bytes_are fits m
+advance_more line (Equ name e) l next g bytes is puts fits m = put_more line l next g bytes (rw puts.count is) puts.bytes_are fits m
+advance_more line (Space count) l next g bytes is puts fits m = put_more line l next g bytes (rw puts.count is) puts.bytes_are fits m
+advance_more line (Text text ends) l next g bytes is puts fits m = put_more line l next g bytes (rw puts.count is) puts.bytes_are fits m
 advance_more line (Instruction w mnemonic operands) l next g bytes is puts fits m = put_more line l next g bytes (rw puts.count is) puts.bytes_are fits m
 
 -- ---- the second pass
@@ -241,7 +252,7 @@ turn_sound line places l g text s h sound =
     let one = bound (said line text) _ s h in
     let two = bound (advance line one.0.statement l) _ s one.1.1 in
     let three = bound (written_by line places l.place one.0.statement) _ s two.1.1 in
-    let puts = written_puts line places l.place one.0.statement three.0 three.1.0 in
+    let puts = written_puts line places l.place one.0.statement three.0 (said_holds line text one.0 one.1.0) three.1.0 in
     let same : (two.0, grown l.inside l.place three.0 g) ≡ s = let last = three.1.1 in cc in
     subst Sound same (advance-grown line one.0.statement l two.0 g three.0 two.1.0 puts.count sound.0, advance_more line one.0.statement l two.0 g three.0 two.1.0 puts sound.0 sound.1)
 

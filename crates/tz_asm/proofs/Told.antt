@@ -9,11 +9,11 @@ use Rattle.tz_asm.specs.Reading.{said}
 use Rattle.tz_asm.specs.Refusals.{◌>>=◌, After, Refusal}
 use Rattle.tz_asm.specs.SecondPass.{SecondFrom, SecondPass, SecondTurn}
 use Rattle.tz_asm.specs.Told.{assembled, second_from, second_turn, written_by}
-use Rattle.tz_asm.specs.Written.{Writes, InstructionWrites, as_address, coded_bytes, label_place}
+use Rattle.tz_asm.specs.Written.{Writes, InstructionWrites, as_address, coded_bytes, label_value}
 use Rattle.tz_asm.specs.declared.layout.Layout.{Layout}
 use Rattle.tz_syntax.specs.Lines.{lines_of}
 use Rattle.tz_model.specs.Image.{SegmentValue}
-use Rattle.tz_asm.specs.Statements.{StatementValue, Nothing, Org, Align, Data, Instruction}
+use Rattle.tz_asm.specs.Statements.{StatementValue, Nothing, Org, Align, Data, Equ, Space, Text, Instruction}
 use Rattle.tz_asm.proofs.CodeTold as codes
 
 -- what follows an answer is told where each answer that may follow is
@@ -29,8 +29,11 @@ written_told line places place Nothing answer h = sym h
 written_told line places place (Org number) answer h = sym h
 written_told line places place (Align multiple) answer h = sym h
 written_told line places place (Data size expression) answer h = sym h
+written_told line places place (Equ name value) answer h = sym h
+written_told line places place (Space count) answer h = sym h
+written_told line places place (Text bytes ends) answer h = sym h
 written_told line places place (Instruction width mnemonic operands) answer h =
-    ap (coded_bytes line (label_place places operands) width) (codes.is_told mnemonic operands place (as_address (label_place places operands)) h.0 h.1.0) ∙ sym h.1.1
+    ap (coded_bytes line (label_value places operands) width) (codes.is_told mnemonic operands place (as_address (label_value places operands)) h.0 h.1.0) ∙ sym h.1.1
 
 turn_told : (line : ℕ) (places : Places) (layout : Layout) (g : GrowingValue) (text : List ℕ) (answer : Result (Layout × GrowingValue) Refusal) → SecondTurn line places layout g text answer
     → second_turn line places layout g text ≡ answer

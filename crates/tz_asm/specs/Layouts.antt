@@ -1,9 +1,9 @@
 -- Where the bytes of a source go, line by line.
-use Rattle.std.specs.Prelude.{ℕ, ◌+◌, ◌-◌, ◌%◌, ◌^◌, ◌==◌, ◌≤◌, nat_lt, true, false, not, ◌&&◌, ◌||◌, if◌then◌else◌, Option, Some, None, Result, Ok, Err}
+use Rattle.std.specs.Prelude.{ℕ, ◌+◌, ◌-◌, ◌%◌, ◌^◌, ◌==◌, ◌≤◌, nat_lt, Bool, true, false, not, ◌&&◌, ◌||◌, if◌then◌else◌, length, Option, Some, None, Result, Ok, Err}
 use Rattle.tz_asm.specs.Refusals.{Refusal, OrgBackwards, TooLarge}
 use Rattle.tz_asm.specs.declared.layout.Layout.{Layout}
 use Rattle.tz_model.specs.Board.{most_bytes}
-use Rattle.tz_asm.specs.Statements.{StatementValue, Nothing, Org, Align, Data, Instruction}
+use Rattle.tz_asm.specs.Statements.{StatementValue, Nothing, Org, Align, Data, Equ, Space, Text, Instruction}
 use Rattle.tz_asm.specs.declared.source.number.Signed.{Signed}
 use Rattle.tz_table.specs.declared.units.Size.{Size}
 use Rattle.tz_table.specs.declared.units.Size.TheVariants.{Byte, Half, Word}
@@ -40,12 +40,19 @@ abbrev pub width_bytes : Width → ℕ
 width_bytes Narrow = 2
 width_bytes Wide = 4
 
+-- how many bytes a text has, and the zero byte that it may end with
+abbrev pub text_count : ℕ → Bool → ℕ
+text_count bytes ends = if ends then bytes + 1 else bytes
+
 -- how many bytes a statement puts at a place
 unfoldable pub byte_count : ℕ → StatementValue → ℕ
 byte_count place Nothing = 0
 byte_count place (Org number) = 0
 byte_count place (Align multiple) = padding multiple place
 byte_count place (Data size value) = size_bytes size
+byte_count place (Equ name value) = 0
+byte_count place (Space count) = count
+byte_count place (Text bytes ends) = text_count (length bytes) ends
 byte_count place (Instruction width mnemonic operands) = width_bytes width
 
 -- the place that an `.org` names: none where its number is negative

@@ -10,6 +10,7 @@ pub mod Coded
 pub mod CodeTold
 pub mod Labels
 pub mod Operands
+pub mod Texts
 pub mod Statements
 pub mod SourceLines
 pub mod Views

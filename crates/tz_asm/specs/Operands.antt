@@ -41,6 +41,11 @@ abbrev pub alignment : Option Signed → Option ℕ
 alignment None = None
 alignment (Some number) = if not number.negative && is_power_of_two number.size then Some number.size else None
 
+-- a number that has no `-`
+abbrev pub unsigned : Option Signed → Option ℕ
+unsigned None = None
+unsigned (Some number) = if number.negative then None else Some number.size
+
 -- a label and what is added to it
 unfoldable pub labelled_value : List ℕ → List TokenValue → Option ExpressionValue
 labelled_value name more = if is_label name then option_map (Label name) (offset_of more) else None

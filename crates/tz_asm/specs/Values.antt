@@ -1,7 +1,7 @@
--- The values of `.byte`, `.half` and `.word`.
-use Rattle.std.specs.Prelude.{ℕ, zero, suc, ◌+◌, ◌-◌, ◌/◌, ◌%◌, nat_le, nat_lt, true, false, if◌then◌else◌, List, [], ◌∷◌, Option, Some, None, option_map, Result, Ok, Err}
+-- The values of labels, and of `.byte`, `.half` and `.word`.
+use Rattle.std.specs.Prelude.{ℕ, zero, suc, ◌+◌, ◌-◌, ◌/◌, ◌%◌, ◌^◌, nat_le, nat_lt, not, if◌then◌else◌, List, [], ◌∷◌, Option, Some, None, option_and_then, Result, Ok, Err}
 use Rattle.tz_asm.specs.Layouts.{size_bytes}
-use Rattle.tz_asm.specs.Places.{Places}
+use Rattle.tz_asm.specs.Places.{Places, value_named}
 use Rattle.tz_asm.specs.Refusals.{Refusal, NoLabel, Range}
 use Rattle.tz_asm.specs.declared.values.Value.{Value}
 use Rattle.tz_asm.specs.Operands.{ExpressionValue, Constant, Label}
@@ -9,19 +9,29 @@ use Rattle.tz_asm.specs.declared.source.number.Signed.{Signed}
 use Rattle.tz_table.specs.declared.units.Size.{Size}
 use Rattle.tz_table.specs.declared.units.Size.TheVariants.{Byte, Half, Word}
 
--- a place, and what is added to it: a sum isn't taken modulo anything, and a difference may be negative
-unfoldable pub moved : Signed → ℕ → Value
-moved offset place =
-    if offset.negative then
-    (if nat_le offset.size place
-    then record { negative = false; size = place - offset.size }
-    else record { negative = true; size = offset.size - place })
-    else record { negative = false; size = place + offset.size }
+-- the same sign and a greater size; a size has 64 bits, and no source has lines enough for more
+abbrev pub raised : ℕ → Value → Option Value
+raised size value =
+    if nat_lt (value.size + size) (2 ^ 64) then Some (record { negative = value.negative; size = value.size + size }) else None
 
--- the value of an expression, where its label has a place
+-- a smaller size, or the other sign
+abbrev pub lowered : ℕ → Value → Value
+lowered size value =
+    if nat_le size value.size
+    then record { negative = value.negative; size = value.size - size }
+    else record { negative = not value.negative; size = size - value.size }
+
+-- a value, and what is added to it: a sum isn't taken modulo anything, and a difference may be negative
+unfoldable pub moved : Signed → Value → Option Value
+moved offset value =
+    if offset.negative then (if value.negative then raised offset.size value else Some (lowered offset.size value))
+    else if value.negative then Some (lowered offset.size value)
+    else raised offset.size value
+
+-- the value of an expression, where its label has one
 unfoldable pub value_of : Places → ExpressionValue → Option Value
 value_of places (Constant number) = Some (record { negative = number.negative; size = number.size })
-value_of places (Label name offset) = option_map (moved offset) (places name)
+value_of places (Label name offset) = option_and_then (moved offset) (value_named places name)
 
 -- how many numbers the bytes of a size can be
 abbrev pub modulus : Size → ℕ

@@ -19,10 +19,10 @@ pub enum AsmError {
     /// The values have no code, or don't fit their bytes.
     #[error("A4 {0}")]
     Range(u32),
-    /// A label stands in no line.
+    /// A label stands in no line, or one in an `.equ` in none before it.
     #[error("A5 {0}")]
     NoLabel(u32),
-    /// An earlier line has the label too.
+    /// The label was defined before.
     #[error("A6 {0}")]
     TwoLabels(u32),
     /// `.org` goes back.

@@ -1,8 +1,8 @@
 //! Where the bytes of a source go, line by line.
 
-ghost use Rattle.std.specs.Prelude.{◌≡◌, ◌+◌, ◌<◌, ◌≤◌, ◌^◌, IfErr, IfOk, OnOk, Ok};
+ghost use Rattle.std.specs.Prelude.{◌≡◌, ◌+◌, ◌<◌, ◌≤◌, ◌^◌, IfErr, IfOk, OnOk, Ok, length};
 ghost use Rattle.tz_asm.specs.Errors.{IsRefusal};
-ghost use Rattle.tz_asm.specs.Layouts.{IsLayout, advance, byte_count, go_to, org_place, padding, put, size_bytes, start, width_bytes};
+ghost use Rattle.tz_asm.specs.Layouts.{IsLayout, advance, byte_count, go_to, org_place, padding, put, size_bytes, start, text_count, width_bytes};
 ghost use Rattle.tz_asm.specs.Views.{statement_view};
 
 use crate::error::AsmError;
@@ -52,7 +52,7 @@ impl Layout {
     #[tactic(auto, unfolding(crate::specs::Layouts::put))]
     fn put(self, line: u32, count: u64) -> Result<Layout, AsmError>
         requires within { IsLayout self }
-        requires small { count < 2 ^ 32 }
+        requires small { count ≤ 2 ^ 63 }
         ensures ok { IfOk result (λ l. put line count self ≡ Ok l) }
         ensures within { IfOk result (λ l. IsLayout l) }
         ensures fits { OnOk result (self.place + count ≤ 2 ^ 32) }
@@ -128,6 +128,9 @@ impl Layout {
             Statement::Org(number) => self.go_to(line, org_place(number)),
             Statement::Align(multiple) => self.put(line, padding(multiple, self.place)),
             Statement::Data(size, _) => self.put(line, size_bytes(size)),
+            Statement::Equ(_, _) => self.put(line, 0),
+            Statement::Space(count) => self.put(line, u64::from(count)),
+            Statement::Text(bytes, ends) => self.put(line, text_count(bytes, ends)),
             Statement::Instruction(width, _, _) => self.put(line, width_bytes(width)),
         }
     }
@@ -167,6 +170,15 @@ pub fn size_bytes(size: Size) -> u64
         Size::Half => 2,
         Size::Word => 4,
     }
+}
+
+/// How many bytes a text has, with the zero byte that it may end with.
+fn text_count(bytes: &[u8], ends: bool) -> u64
+    ensures value { text_count (length bytes.now) ends ≡ result }
+    ensures small { result ≤ 2 ^ 63 }
+{
+    let count = bytes.len() as u64;
+    if ends { count + 1 } else { count }
 }
 
 /// How many bytes a code of a width has.

@@ -1,6 +1,6 @@
 //! The assembler: source in, an image out.
 //!
-//! It goes over the source twice. The first pass tells the place of each label, and the second puts the
+//! It goes over the source twice. The first pass tells the value of each label, and the second puts the
 //! bytes. Both keep track of the place by the same function, so they can't disagree. What a line says is read
 //! by the module `source`, and what a statement's code is comes from the module `code`. What a source gives,
 //! and which refusal comes first, is said by this crate's definitions.

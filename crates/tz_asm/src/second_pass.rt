@@ -24,6 +24,7 @@ fn second_turn<'s>(
     line: u32,
     text: &'s [u8],
     tokens: &mut Vec<Token<'s>>,
+    text_bytes: &mut Vec<u8>,
     places: &Places<'s>,
     layout: Layout,
     bytes: &mut Vec<u8>,
@@ -36,10 +37,11 @@ fn second_turn<'s>(
     ensures fits { IfOk result (λ next. Fits next (growing_view growing.new)) }
     ensures err { IfErr result (λ e. Tells e (λ r. SecondTurn line (places_in places.now) layout (growing_view growing.old) text.now (Err r))) }
 {
-    if let Err(error) = tokens_in(line, text, tokens) {
-        return Err(error);
-    }
-    let said = match said_by(line, tokens.as_slice()) {
+    let found = match tokens_in(line, text, tokens, text_bytes) {
+        Ok(found) => found,
+        Err(error) => return Err(error),
+    };
+    let said = match said_by(line, tokens.as_slice(), found, text_bytes.as_slice()) {
         Ok(said) => said,
         Err(error) => return Err(error),
     };
@@ -69,6 +71,7 @@ pub fn second_pass<'s>(
     ensures err { IfErr result (λ e. Tells e (λ r. SecondPass source.now (places_in places.now) (Err r))) }
 {
     let mut tokens = Vec::new(alloc);
+    let mut text_bytes = Vec::new(alloc);
     let mut bytes = Vec::new(alloc);
     let mut growing = Growing::nothing(alloc);
     let mut layout = Layout::start();
@@ -81,6 +84,7 @@ pub fn second_pass<'s>(
             line as u32,
             text,
             &mut tokens,
+            &mut text_bytes,
             places,
             layout,
             &mut bytes,

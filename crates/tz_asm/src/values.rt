@@ -1,13 +1,13 @@
-//! The values of `.byte`, `.half` and `.word`.
+//! The values of labels, and of `.byte`, `.half` and `.word`.
 
 ghost use Rattle.std.specs.Prelude.{◌≡◌, ◌+◌, ◌<◌, ◌≤◌, ◌^◌, ◌++◌, IfSome, OnOk};
 ghost use Rattle.tz_asm.specs.Layouts.{size_bytes};
 ghost use Rattle.tz_asm.specs.Places.{places_in};
-ghost use Rattle.tz_asm.specs.Values.{in_size, low_first, modulus, moved, value_of};
+ghost use Rattle.tz_asm.specs.Values.{in_size, low_first, lowered, modulus, moved, raised, value_of};
 ghost use Rattle.tz_asm.specs.Views.{expression_view};
 
 use crate::layout::size_bytes;
-use crate::places::{Places, place_of};
+use crate::places::{Places, value_named};
 use crate::source::{Expression, Signed};
 use byteorder::{ByteOrder, LittleEndian};
 use std::alloc::AllocError;
@@ -17,35 +17,59 @@ use tz_table::Size;
 #[derive(Clone, Copy)]
 pub struct Value {
     pub negative: bool,
-    pub size: u128,
+    pub size: u64,
 }
 
-/// A place, and what is added to it.
-#[tactic(auto, unfolding(crate::specs::Values::moved))]
-fn moved(offset: Signed, place: u64) -> Value
-    ensures { moved offset place ≡ result }
+/// A value of the same sign and a greater size, if it has 64 bits.
+fn raised(size: u32, value: Value) -> Option<Value>
+    ensures { raised size value ≡ result }
 {
-    let place = u128::from(place);
-    let size = u128::from(offset.size);
-    if !offset.negative {
+    match value.size.checked_add(u64::from(size)) {
+        Some(size) => Some(Value {
+            negative: value.negative,
+            size,
+        }),
+        None => None,
+    }
+}
+
+/// A value of a smaller size, or of the other sign.
+fn lowered(size: u32, value: Value) -> Value
+    ensures { lowered size value ≡ result }
+{
+    let size = u64::from(size);
+    if size <= value.size {
         Value {
-            negative: false,
-            size: place + size,
-        }
-    } else if size <= place {
-        Value {
-            negative: false,
-            size: place - size,
+            negative: value.negative,
+            size: value.size - size,
         }
     } else {
         Value {
-            negative: true,
-            size: size - place,
+            negative: !value.negative,
+            size: size - value.size,
         }
     }
 }
 
-/// The value of an expression, or none where its label has no place.
+/// A value, and what is added to it.
+#[tactic(auto, unfolding(crate::specs::Values::moved))]
+fn moved(offset: Signed, value: Value) -> Option<Value>
+    ensures { moved offset value ≡ result }
+{
+    if offset.negative {
+        if value.negative {
+            raised(offset.size, value)
+        } else {
+            Some(lowered(offset.size, value))
+        }
+    } else if value.negative {
+        Some(lowered(offset.size, value))
+    } else {
+        raised(offset.size, value)
+    }
+}
+
+/// The value of an expression, or none where its label has none.
 #[tactic(auto, unfolding(crate::specs::Values::value_of))]
 pub fn value_of<'s>(places: &Places<'s>, expression: &Expression<'s>) -> Option<Value>
     ensures { value_of (places_in places.now) (expression_view expression.now) ≡ result }
@@ -53,17 +77,17 @@ pub fn value_of<'s>(places: &Places<'s>, expression: &Expression<'s>) -> Option<
     match *expression {
         Expression::Number(number) => Some(Value {
             negative: number.negative,
-            size: u128::from(number.size),
+            size: u64::from(number.size),
         }),
-        Expression::Label(name, offset) => match place_of(places, name) {
-            Some(place) => Some(moved(offset, place)),
+        Expression::Label(name, offset) => match value_named(places, name) {
+            Some(value) => moved(offset, value),
             None => None,
         },
     }
 }
 
 /// How many numbers the bytes of a size can be.
-fn modulus(size: Size) -> u128
+fn modulus(size: Size) -> u64
     ensures value { modulus size ≡ result }
     ensures some { 0 < result }
     ensures small { result ≤ 2 ^ 32 }
@@ -83,12 +107,12 @@ pub fn in_size(size: Size, value: Value) -> Option<u64>
     let modulus = modulus(size);
     if value.negative {
         if value.size <= modulus / 2 {
-            Some(((modulus - value.size) % modulus) as u64)
+            Some((modulus - value.size) % modulus)
         } else {
             None
         }
     } else if value.size < modulus {
-        Some(value.size as u64)
+        Some(value.size)
     } else {
         None
     }

@@ -5,16 +5,16 @@ ghost use Rattle.tz_asm.specs.Errors.{IsRefusal, Tells};
 ghost use Rattle.tz_asm.specs.Layouts.{byte_count, padding};
 ghost use Rattle.tz_asm.specs.Places.{places_in};
 ghost use Rattle.tz_asm.specs.Values.{data_bytes};
-ghost use Rattle.tz_asm.specs.Written.{InstructionWrites, Writes, as_address, code_bytes, label_place, last_word, uncoded, word_of};
+ghost use Rattle.tz_asm.specs.Written.{InstructionWrites, Writes, as_address, code_bytes, equ_bytes, label_value, last_word, text_bytes, uncoded, word_of};
 ghost use Rattle.tz_asm.specs.Views.{expression_view, statement_view, views};
 ghost use Rattle.tz_syntax.specs.Views.{token_view};
 
 use crate::code::{Uncoded, code_of};
 use crate::error::AsmError;
 use crate::layout::padding;
-use crate::places::{Places, place_of};
+use crate::places::{Places, value_named};
 use crate::source::{Expression, Statement};
-use crate::values::{in_size, push_low_first, value_of};
+use crate::values::{Value, in_size, push_low_first, value_of};
 use std::alloc::AllocError;
 use tz_syntax::Token;
 use tz_table::{Code, Size, Width};
@@ -57,13 +57,13 @@ fn last<'s>(tokens: &[Token<'s>]) -> Option<Token<'s>>
     }
 }
 
-/// The place of the label that the last operand may be.
-fn label_place<'s>(places: &Places<'s>, operands: &[Token<'s>]) -> Option<u64>
-    ensures { label_place (places_in places.now) (views operands.now) ≡ result }
+/// The value of the label that the last operand may be.
+fn label_value<'s>(places: &Places<'s>, operands: &[Token<'s>]) -> Option<Value>
+    ensures { label_value (places_in places.now) (views operands.now) ≡ result }
 {
     match last(operands) {
         None => None,
-        Some(Token::Word(word)) => place_of(places, word),
+        Some(Token::Word(word)) => value_named(places, word),
         Some(Token::Number(_)) => None,
         Some(Token::Mark(_)) => None,
     }
@@ -80,8 +80,8 @@ fn push_code(bytes: &mut Vec<u8>, width: Width, code: Code) -> Result<(), AllocE
     }
 }
 
-/// Why an instruction has no code, where the label among its operands has a place or none.
-fn error_of(line: u32, label: Option<u64>, cause: Uncoded) -> AsmError
+/// Why an instruction has no code, where the label among its operands has a value or none.
+fn error_of(line: u32, label: Option<Value>, cause: Uncoded) -> AsmError
     ensures { Tells result (λ r. uncoded line label cause ≡ r) }
 {
     match cause {
@@ -93,20 +93,44 @@ fn error_of(line: u32, label: Option<u64>, cause: Uncoded) -> AsmError
     }
 }
 
-/// A place, where it is an address.
-fn as_address(place: Option<u64>) -> Option<u32>
-    ensures { as_address place ≡ result }
+/// A value, where it is an address.
+fn as_address(value: Option<Value>) -> Option<u32>
+    ensures { as_address value ≡ result }
 {
-    match place {
-        Some(place) => {
-            if place < 0x1_0000_0000 {
-                Some(place as u32)
+    match value {
+        Some(value) => {
+            if value.negative && value.size != 0 {
+                None
+            } else if value.size < 0x1_0000_0000 {
+                Some(value.size as u32)
             } else {
                 None
             }
         }
         None => None,
     }
+}
+
+/// Writes what an `.equ` gives, where its label got a value or none.
+fn write_equ(line: u32, value: Option<Value>) -> Result<(), AsmError>
+    ensures ok { OnOk result (equ_bytes line value ≡ Ok []) }
+    ensures err { IfErr result (λ e. IsRefusal e (equ_bytes line value)) }
+{
+    match value {
+        Some(_) => Ok(()),
+        None => Err(AsmError::NoLabel(line)),
+    }
+}
+
+/// Appends a text, and the zero byte that it may end with.
+fn push_text(text: &[u8], ends: bool, bytes: &mut Vec<u8>) -> Result<(), AllocError>
+    ensures { OnOk result (bytes.new.items ≡ bytes.old.items ++ text_bytes text.now ends) }
+{
+    bytes.extend_from_slice(text)?;
+    if ends {
+        bytes.push(0)?;
+    }
+    Ok(())
 }
 
 /// Writes the code of an instruction at a place, as what is appended to nothing.
@@ -125,7 +149,7 @@ fn write_instruction<'s>(
     ensures err { IfErr result (λ e. Tells e (λ r. InstructionWrites line (places_in places.now) place width
         mnemonic.now (views operands.now) (Err r))) }
 {
-    let label = label_place(places, operands);
+    let label = label_value(places, operands);
     match code_of(mnemonic, operands, place, as_address(label)) {
         Ok(code) => match push_code(bytes, width, code) {
             Ok(()) => Ok(()),
@@ -161,6 +185,15 @@ pub fn write_statement<'s>(
             Err(_) => Err(AsmError::Memory),
         },
         Statement::Data(size, expression) => write_data(places, line, size, &expression, bytes),
+        Statement::Equ(name, _) => write_equ(line, value_named(places, name)),
+        Statement::Space(count) => match bytes.resize(count as usize, 0) {
+            Ok(()) => Ok(()),
+            Err(_) => Err(AsmError::Memory),
+        },
+        Statement::Text(text, ends) => match push_text(text, ends, bytes) {
+            Ok(()) => Ok(()),
+            Err(_) => Err(AsmError::Memory),
+        },
         Statement::Instruction(width, mnemonic, operands) => write_instruction(
             places,
             line,

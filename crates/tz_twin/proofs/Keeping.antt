@@ -1,5 +1,5 @@
 -- Entries and returns of Non-secure code, of one run: where they don't look at Secure state, they keep the Secure side.
-use Rattle.std.proofs.Common.{◌≡◌, ℕ, Bool, true, false, ◌||◌, cond, List, refl, sym, ap, ◌∙◌, subst}
+use Rattle.std.proofs.Common.{◌≡◌, ℕ, Bool, true, false, ◌||◌, List, refl, sym, ap, ◌∙◌, subst}
 use Rattle.std.specs.FinMap.{get}
 use Rattle.tz_table.specs.declared.units.Side.{Side}
 use Rattle.tz_table.specs.declared.units.Side.TheVariants.{NonSecure}
@@ -17,12 +17,12 @@ use Rattle.tz_frames.specs.declared.entering.Entered.{Entered}
 use Rattle.tz_frames.specs.declared.entering.Entered.TheVariants as entered
 use Rattle.tz_frames.specs.declared.leaving.Left.{Left}
 use Rattle.tz_frames.specs.declared.leaving.Left.TheVariants as left
-use Rattle.tz_frames.specs.Status.{Raised, faulted}
+use Rattle.tz_frames.specs.Status.{faulted}
 use Rattle.tz_frames.specs.Enter.{enters}
 use Rattle.tz_frames.specs.Leave.{leaves}
 use Rattle.tz_sem.specs.declared.ending.Course.{Course}
 use Rattle.tz_sem.specs.Ended.{Passed}
-use Rattle.tz_sem.specs.Taking.{state_of, locks, framed_in, taken_by, preempted, goes_on_at, passed_by, after_raise, faults, left_by, returns}
+use Rattle.tz_sem.specs.Taking.{state_of, framed_in, taken_by, preempted, passed_by, left_by, returns}
 use Rattle.tz_sem.specs.Exchange.{comes_back}
 use Rattle.tz_twin.specs.Integrity.{KeepsBytes}
 use Rattle.tz_twin.proofs.Bytes.{keeps_then}
@@ -30,11 +30,11 @@ use Rattle.tz_twin.proofs.Slots.{then}
 use Rattle.tz_twin.proofs.Faults.{is_own}
 use Rattle.tz_twin.proofs.Both.{Kept}
 use Rattle.tz_twin.proofs.Held.{enters_held, leaves_held}
-use Rattle.tz_twin.proofs.Spared.{KeptBy, faulted_kept, faulted_side}
+use Rattle.tz_twin.proofs.Spared.{KeptBy, faulted_kept}
 use Rattle.tz_twin.proofs.EntrySpares.{entered_touched, enters_kept}
 use Rattle.tz_twin.proofs.ReturnSpares.{left_touched, leaves_kept}
-use Rattle.tz_twin.proofs.Arriving.{Comes, comes_preempted, comes_faults, comes_returns, comes_comes_back}
-use Rattle.tz_twin.proofs.Halting.{Halts, halts_preempted, halts_faults, halts_returns, halts_comes_back}
+use Rattle.tz_twin.proofs.Arriving.{Comes, comes_preempted, comes_returns, comes_comes_back}
+use Rattle.tz_twin.proofs.Halting.{Halts, halts_preempted, halts_returns, halts_comes_back}
 
 -- the map of what is kept is the one before
 same_map : (s0 s : State) → Kept s0 s → map_of s ≡ map_of s0

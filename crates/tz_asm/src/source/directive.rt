@@ -2,8 +2,8 @@
 
 ghost use Rattle.std.specs.Prelude.{◌≡◌, option_map};
 ghost use Rattle.std.specs.Str.{bytes_eq};
-ghost use Rattle.tz_asm.specs.Operands.{alignment, expression_of, labelled_value};
-ghost use Rattle.tz_asm.specs.Statements.{directed, directive_of};
+ghost use Rattle.tz_asm.specs.Operands.{alignment, expression_of, labelled_value, unsigned};
+ghost use Rattle.tz_asm.specs.Statements.{directed, directive_of, equated, with_text};
 ghost use Rattle.tz_asm.specs.Views.{expression_view, statement_view, views};
 
 use crate::code::is_label;
@@ -21,6 +21,12 @@ pub enum Directive {
     Align,
     /// `.byte`, `.half` or `.word`.
     Data(Size),
+    /// `.equ`.
+    Equ,
+    /// `.space`.
+    Space,
+    /// `.ascii`, or `.asciz`, which puts a zero byte behind the text.
+    Text(bool),
 }
 
 /// Whether a word is a name.
@@ -45,6 +51,14 @@ pub fn directive_of(word: &[u8]) -> Option<Directive>
         Some(Directive::Data(Size::Half))
     } else if is_name(word, b".word") {
         Some(Directive::Data(Size::Word))
+    } else if is_name(word, b".equ") {
+        Some(Directive::Equ)
+    } else if is_name(word, b".space") {
+        Some(Directive::Space)
+    } else if is_name(word, b".ascii") {
+        Some(Directive::Text(false))
+    } else if is_name(word, b".asciz") {
+        Some(Directive::Text(true))
     } else {
         None
     }
@@ -94,6 +108,40 @@ fn expression_of<'s>(tokens: &[Token<'s>]) -> Option<Expression<'s>>
     }
 }
 
+/// A number without a sign.
+fn unsigned(number: Option<Signed>) -> Option<u32>
+    ensures { unsigned number ≡ result }
+{
+    match number {
+        Some(number) => if number.negative {
+            None
+        } else {
+            Some(number.size)
+        },
+        None => None,
+    }
+}
+
+/// The label and the value of an `.equ`.
+#[tactic(auto, unfolding(crate::specs::Statements::equated))]
+fn equated<'t, 's>(operands: &[Token<'s>]) -> Option<Statement<'t, 's>>
+    ensures { equated (views operands.now) ≡ option_map statement_view result }
+{
+    match operands {
+        [Token::Word(name), Token::Mark(mark), value @ ..] => {
+            if is_label(name) && *mark == b',' {
+                match expression_of(value) {
+                    Some(value) => Some(Statement::Equ(*name, value)),
+                    None => None,
+                }
+            } else {
+                None
+            }
+        }
+        _ => None,
+    }
+}
+
 /// What a directive says with these operands, or nothing where they aren't its operands.
 #[tactic(auto, unfolding(crate::specs::Statements::directed))]
 pub fn directed<'t, 's>(directive: Directive, operands: &[Token<'s>]) -> Option<Statement<'t, 's>>
@@ -112,5 +160,29 @@ pub fn directed<'t, 's>(directive: Directive, operands: &[Token<'s>]) -> Option<
             Some(value) => Some(Statement::Data(size, value)),
             None => None,
         },
+        Directive::Equ => equated(operands),
+        Directive::Space => match unsigned(number_of(operands)) {
+            Some(count) => Some(Statement::Space(count)),
+            None => None,
+        },
+        Directive::Text(_) => None,
+    }
+}
+
+/// What a directive says with these operands and a text behind them, or nothing where it doesn't take them.
+pub fn with_text<'t, 's>(
+    directive: Directive,
+    operands: &[Token<'s>],
+    text: Option<&'t [u8]>,
+) -> Option<Statement<'t, 's>>
+    ensures { with_text directive (views operands.now) (option_map (λ bytes. bytes.now) text.entry)
+        ≡ option_map statement_view result }
+{
+    match (directive, operands) {
+        (Directive::Text(ends), []) => match text {
+            Some(bytes) => Some(Statement::Text(bytes, ends)),
+            None => None,
+        },
+        _ => None,
     }
 }

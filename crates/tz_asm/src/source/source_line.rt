@@ -2,11 +2,11 @@
 
 ghost use Rattle.std.specs.Prelude.{◌≡◌, Err, IfErr, IfOk, Ok};
 ghost use Rattle.tz_asm.specs.SourceLines.{labelled, line_of};
-ghost use Rattle.tz_asm.specs.Statements.{statement_of};
-ghost use Rattle.tz_asm.specs.Views.{line_view, views};
+ghost use Rattle.tz_asm.specs.Statements.{statement_with};
+ghost use Rattle.tz_asm.specs.Views.{ending_view, line_view, views};
 
 use crate::source::label::label_at;
-use crate::source::statement::{LineError, Statement, statement_of};
+use crate::source::statement::{Ending, LineError, Statement, statement_with};
 use tz_syntax::{Token, register_of};
 
 /// What a line says.
@@ -23,11 +23,14 @@ pub struct SourceLine<'t, 's> {
 fn labelled<'t, 's>(
     name: &'s [u8],
     tokens: &'t [Token<'s>],
+    ending: Ending<'t>,
 ) -> Result<SourceLine<'t, 's>, LineError>
-    ensures ok { IfOk result (λ l. labelled name.now (statement_of (views tokens.now)) ≡ Ok (line_view l)) }
-    ensures err { IfErr result (λ e. labelled name.now (statement_of (views tokens.now)) ≡ Err e) }
+    ensures ok { IfOk result (λ l. labelled name.now (statement_with (views tokens.now) (ending_view ending.entry))
+        ≡ Ok (line_view l)) }
+    ensures err { IfErr result (λ e. labelled name.now (statement_with (views tokens.now) (ending_view ending.entry))
+        ≡ Err e) }
 {
-    match statement_of(tokens) {
+    match statement_with(tokens, ending) {
         Err(error) => Err(error),
         Ok(statement) => {
             if register_of(name).is_some() {
@@ -42,15 +45,19 @@ fn labelled<'t, 's>(
     }
 }
 
-/// What a line of these tokens says, or the first cause to refuse it: `Mnemonic`, and then `Operands`.
+/// What a line of these tokens and this ending says, or the first cause to refuse it: `Mnemonic`, and then
+/// `Operands`.
 #[tactic(auto, unfolding(crate::specs::SourceLines::line_of))]
-pub fn read_line<'t, 's>(tokens: &'t [Token<'s>]) -> Result<SourceLine<'t, 's>, LineError>
-    ensures ok { IfOk result (λ l. line_of (views tokens.now) ≡ Ok (line_view l)) }
-    ensures err { IfErr result (λ e. line_of (views tokens.now) ≡ Err e) }
+pub fn read_line<'t, 's>(
+    tokens: &'t [Token<'s>],
+    ending: Ending<'t>,
+) -> Result<SourceLine<'t, 's>, LineError>
+    ensures ok { IfOk result (λ l. line_of (views tokens.now) (ending_view ending.entry) ≡ Ok (line_view l)) }
+    ensures err { IfErr result (λ e. line_of (views tokens.now) (ending_view ending.entry) ≡ Err e) }
 {
     match label_at(tokens) {
-        Some((name, rest)) => labelled(name, rest),
-        None => match statement_of(tokens) {
+        Some((name, rest)) => labelled(name, rest, ending),
+        None => match statement_with(tokens, ending) {
             Err(error) => Err(error),
             Ok(statement) => Ok(SourceLine {
                 label: None,

@@ -1,11 +1,13 @@
 //! Statements.
 
-ghost use Rattle.std.specs.Prelude.{◌≡◌, Err, IfErr, IfOk, Ok};
-ghost use Rattle.tz_asm.specs.Statements.{instructed, statement_of, worded};
-ghost use Rattle.tz_asm.specs.Views.{statement_view, views};
+ghost use Rattle.std.specs.Prelude.{◌≡◌, Err, IfErr, IfOk, Ok, if◌then◌else◌, is_some, option_map};
+ghost use Rattle.tz_asm.specs.Mnemonics.{width_of_word};
+ghost use Rattle.tz_asm.specs.Statements.{directive_of, instructed, statement_of, statement_with, texted, texted_by, worded};
+ghost use Rattle.tz_asm.specs.Views.{ending_view, statement_view, views};
+ghost use Rattle.tz_asm.specs.declared.source.statement.LineError.TheVariants.{Mnemonic, Operands};
 
 use crate::code::{has_shape, width_of};
-use crate::source::directive::{directed, directive_of};
+use crate::source::directive::{directed, directive_of, with_text};
 use crate::source::number::Signed;
 use tz_syntax::Token;
 use tz_table::{Size, Width};
@@ -42,8 +44,25 @@ pub enum Statement<'t, 's> {
     Align(u32),
     /// `.byte`, `.half` or `.word`: so many bytes, and their value.
     Data(Size, Expression<'s>),
+    /// `.equ`: the label that it defines, and its value.
+    Equ(&'s [u8], Expression<'s>),
+    /// `.space`: so many zero bytes.
+    Space(u32),
+    /// `.ascii` or `.asciz`: the bytes of a text, and whether a zero byte stands behind them.
+    Text(&'t [u8], bool),
     /// An instruction of this width: its mnemonic, and its operands, which have the shape of a text.
     Instruction(Width, &'s [u8], &'t [Token<'s>]),
+}
+
+/// What stands behind the tokens of a line.
+#[derive(Clone, Copy)]
+pub enum Ending<'t> {
+    /// Nothing.
+    Tokens,
+    /// A text of these bytes.
+    Text(&'t [u8]),
+    /// A text, and more tokens.
+    More,
 }
 
 /// The instruction with a mnemonic and operands.
@@ -82,7 +101,7 @@ fn worded<'t, 's>(word: &'s [u8], operands: &'t [Token<'s>]) -> Result<Statement
 
 /// The statement that tokens are: none, a directive or an instruction.
 #[tactic(auto, unfolding(crate::specs::Statements::statement_of))]
-pub fn statement_of<'t, 's>(tokens: &'t [Token<'s>]) -> Result<Statement<'t, 's>, LineError>
+fn statement_of<'t, 's>(tokens: &'t [Token<'s>]) -> Result<Statement<'t, 's>, LineError>
     ensures ok { IfOk result (λ s. statement_of (views tokens.now) ≡ Ok (statement_view s)) }
     ensures err { IfErr result (λ e. statement_of (views tokens.now) ≡ Err e) }
 {
@@ -90,5 +109,69 @@ pub fn statement_of<'t, 's>(tokens: &'t [Token<'s>]) -> Result<Statement<'t, 's>
         [] => Ok(Statement::Nothing),
         [Token::Word(word), operands @ ..] => worded(word, operands),
         _ => Err(LineError::Mnemonic),
+    }
+}
+
+/// Why a word that begins a statement can't have a text behind it.
+fn no_text(word: &[u8]) -> LineError
+    ensures { (if is_some (width_of_word word.now) then Operands else Mnemonic) ≡ result }
+{
+    if width_of(word).is_some() {
+        LineError::Operands
+    } else {
+        LineError::Mnemonic
+    }
+}
+
+/// The statement of a word with a text among its operands, which is one where nothing stands behind it.
+fn texted_by<'t, 's>(
+    word: &[u8],
+    operands: &[Token<'s>],
+    text: Option<&'t [u8]>,
+) -> Result<Statement<'t, 's>, LineError>
+    ensures ok { IfOk result (λ s. texted_by (directive_of word.now) word.now (views operands.now)
+        (option_map (λ bytes. bytes.now) text.entry) ≡ Ok (statement_view s)) }
+    ensures err { IfErr result (λ e. texted_by (directive_of word.now) word.now (views operands.now)
+        (option_map (λ bytes. bytes.now) text.entry) ≡ Err e) }
+{
+    match directive_of(word) {
+        Some(directive) => match with_text(directive, operands, text) {
+            Some(statement) => Ok(statement),
+            None => Err(LineError::Operands),
+        },
+        None => Err(no_text(word)),
+    }
+}
+
+/// The statement that tokens and a text are.
+#[tactic(auto, unfolding(crate::specs::Statements::texted))]
+fn texted<'t, 's>(
+    tokens: &[Token<'s>],
+    text: Option<&'t [u8]>,
+) -> Result<Statement<'t, 's>, LineError>
+    ensures ok { IfOk result (λ s. texted (views tokens.now) (option_map (λ bytes. bytes.now) text.entry)
+        ≡ Ok (statement_view s)) }
+    ensures err { IfErr result (λ e. texted (views tokens.now) (option_map (λ bytes. bytes.now) text.entry) ≡ Err e) }
+{
+    match tokens {
+        [Token::Word(word), operands @ ..] => texted_by(word, operands, text),
+        _ => Err(LineError::Mnemonic),
+    }
+}
+
+/// The statement that tokens are, with what the line ends with.
+pub fn statement_with<'t, 's>(
+    tokens: &'t [Token<'s>],
+    ending: Ending<'t>,
+) -> Result<Statement<'t, 's>, LineError>
+    ensures ok { IfOk result (λ s. statement_with (views tokens.now) (ending_view ending.entry)
+        ≡ Ok (statement_view s)) }
+    ensures err { IfErr result (λ e. statement_with (views tokens.now) (ending_view ending.entry)
+        ≡ Err e) }
+{
+    match ending {
+        Ending::Tokens => statement_of(tokens),
+        Ending::Text(bytes) => texted(tokens, Some(bytes)),
+        Ending::More => texted(tokens, None),
     }
 }

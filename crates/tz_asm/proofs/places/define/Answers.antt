@@ -9,8 +9,8 @@ use Rattle.tz_asm.specs.Places.{defined}
 pub returns-in-Ok-None-clause-ok : goal.returns-in-Ok-None-clause-ok
 returns-in-Ok-None-clause-ok c =
     rw c.in-Some.is
-    (defined-new c.args.line c.in-Some.name.now c.args.place (places_in c.args.places.now) (places_in c.insert.new.self) (sym c.in-Ok-None.field-0-is ∙ c.in-Ok-None.ensures.old)
-    (places_in-put c.args.places.now c.insert.new.self c.in-Some.name c.args.place c.in-Ok-None.ensures.updates))
+    (defined-new c.args.line c.in-Some.name.now c.args.value (places_in c.args.places.now) (places_in c.insert.new.self) (sym c.in-Ok-None.field-0-is ∙ c.in-Ok-None.ensures.old)
+    (places_in-put c.args.places.now c.insert.new.self c.in-Some.name c.args.value c.in-Ok-None.ensures.updates))
 
 -- What the tactics try, by name: a body that is refused is then told without a search for what to offer.
 pub returns-in_default-clause-ok : goal.returns-in_default-clause-ok
