@@ -7,21 +7,24 @@ use Rattle.tz_model.specs.declared.outside.SinkError.TheVariants.{Failed}
 use Rattle.tz_model.specs.Outside.{Held, Rose, Gains, Put}
 use Rattle.tz_model.specs.Image.{ImageValue, SegmentValue}
 use Rattle.tz_cli.specs.Run.{RunWords}
+use Rattle.tz_cli.specs.Pair.{PairWords}
+use Rattle.tz_cli.specs.PairLine.{pair_status}
+use Rattle.tz_iso.specs.declared.answer.What.{What}
 use Rattle.tz_cli.specs.Asm.{AsmWords}
 use Rattle.tz_cli.specs.Dis.{DisWords}
-use Rattle.tz_cli.specs.Commands.{Command, Run, Asm, Dis, command_of, longest, names_of}
+use Rattle.tz_cli.specs.Commands.{Command, Run, Pair, Asm, Dis, command_of, longest, names_of}
 use Rattle.tz_cli.proofs.FileNames.{names_of-longest}
 use Rattle.tz_cli.specs.declared.stops.LoadError.{LoadError}
 use Rattle.tz_cli.specs.declared.stops.LoadError.TheVariants.{Unread, Long, Board, Image, Script, Source, Memory}
 use Rattle.tz_cli.specs.declared.stops.File.{File}
 use Rattle.tz_cli.specs.declared.stops.File.TheVariants as files
-use Rattle.tz_cli.specs.Told.{Stop, BadWords, TooManySteps, TooLong, BadBoard, BadImage, BadScript, BadSource, Told, Unknown, Stops, Gives, told_then, Start, Job, Task, run_task, asm_task, dis_task, told, IsDone, start_told, job_told, source_told, listed_told, step_limit}
+use Rattle.tz_cli.specs.Told.{Stop, BadWords, TooManySteps, TooLong, BadBoard, BadImage, BadScript, BadSource, Told, Unknown, Stops, Gives, told_then, Start, Job, Task, run_task, PairStart, PairJob, pair_task, pair_told, pair_start_told, asm_task, dis_task, told, IsDone, start_told, job_told, source_told, listed_told, step_limit}
 use Rattle.tz_cli.specs.Told as stops
 use Rattle.tz_cli.specs.Reads.{Form, AsImage, Reading, reads_of, IsOneOf}
 use Rattle.tz_cli.specs.Lines.{stop_line, status_of}
 use Rattle.tz_cli.specs.Answer.{Allows, AllowsStop, Shelved, IsSettled, IsCaused, IsLine, Call, told_of, GainsFront, Exceeds, IsTold, Answer, Done, Broken, Stopped, Wanting, Silent}
-use Rattle.tz_cli.specs.Faults.{AllowsRefusal, IsFault, IsReached, IsListed, IsSource, Names, run_files, asm_files, dis_files, list_of, form_of, name_in, image_refusal, source_refusal, stop_of, stop_with, line_with, status_with}
-use Rattle.tz_cli.proofs.Reached.{is_read, is_listed, is_assembled}
+use Rattle.tz_cli.specs.Faults.{AllowsRefusal, IsFault, IsReached, IsPaired, IsListed, IsSource, Names, run_files, pair_files, asm_files, dis_files, list_of, form_of, name_in, image_refusal, source_refusal, stop_of, stop_with, line_with, status_with}
+use Rattle.tz_cli.proofs.Reached.{is_read, is_paired, is_listed, is_assembled}
 use Rattle.tz_board.specs.BoardErrors.{refusal_of}
 use Rattle.tz_board.specs.ScriptErrors.{script_refusal_of}
 
@@ -111,14 +114,13 @@ run_of_start held r start l h =
     (then_gives (λ (s : Start). record { words = r; start = s }) (start_told held r) start h))
 
 -- past the limit of steps nothing is read
-steps_settled : (s : Shelved) (r : RunWords) → step_limit < r.steps → IsSettled (Some (Run r)) s TooManySteps
+pub steps_settled : (s : Shelved) (r : RunWords) → step_limit < r.steps → IsSettled (Some (Run r)) s TooManySteps
 steps_settled s r l =
     (then_stop (job_told s.held r) _ TooManySteps (many_cond (λ (t : Told Job). AllowsStop t TooManySteps) (nat_lt step_limit r.steps) (Stops TooManySteps) _ (past step_limit r.steps l) refl), tt)
 
-pub answer_steps : (c : Call) (result : ℕ) (r : RunWords) → c.command ≡ Some (Run r) → step_limit < r.steps → Gains c.out_old c.out_new [] → 64 ≤ c.room
+pub answer_steps : (c : Call) (result : ℕ) → IsSettled c.command c.shelf TooManySteps → Gains c.out_old c.out_new [] → 64 ≤ c.room
     → IsRefused c result (codes "limit steps\n") 6 → Answer c result
-answer_steps c result r e l quiet short h =
-    answer_stop c result TooManySteps (subst (λ (o : Option Command). IsSettled o c.shelf TooManySteps) (sym e) (steps_settled c.shelf r l)) quiet (omega arith) h
+answer_steps c result settled quiet short h = answer_stop c result TooManySteps settled quiet (omega arith) h
 
 -- ---- a fault of a command's files
 
@@ -211,12 +213,12 @@ answer_cut c task room error allowed put rose same =
     (subst (λ (x : Option (List ℕ)). Gains c.err_old x []) (sym same) (gains_nothing c.err_old))
 
 -- a text that is put whole is told, and one that isn't is cut
-pub told_put : (old new : Option (List ℕ)) (space room : Option ℕ) (text : List ℕ) (before now : ℕ) → Put old new space room text (Ok tt) → IsTold 0 text 0 old new space before now
-told_put old new space room text before now put = inl (refl, subst (λ (x : List ℕ). Gains old new x) put.whole put.written)
+pub told_put : (old new : Option (List ℕ)) (space room : Option ℕ) (text : List ℕ) (status before now : ℕ) → Put old new space room text (Ok tt) → IsTold status text status old new space before now
+told_put old new space room text status before now put = inl (refl, subst (λ (x : List ℕ). Gains old new x) put.whole put.written)
 
-pub told_cut : (old new : Option (List ℕ)) (space room : Option ℕ) (text : List ℕ) (before now : ℕ) (error : SinkError)
-    → Put old new space room text (Err error) → Rose before now → IsTold 4 text 0 old new space before now
-told_cut old new space room text before now error put rose =
+pub told_cut : (old new : Option (List ℕ)) (space room : Option ℕ) (text : List ℕ) (status before now : ℕ) (error : SinkError)
+    → Put old new space room text (Err error) → Rose before now → IsTold 4 text status old new space before now
+told_cut old new space room text status before now error put rose =
     inr (refl, rose, unfit space (length text) error put.fits, record { gained = put.gained; rest = put.front.0; front = put.front.1; gains = put.written })
 
 -- a task whose text is told is answered by its status
@@ -238,6 +240,39 @@ run_loads c r e l = record {
       (is_read c.shelf.held r file reached);
   stops = λ stop h. run_of_stop c.shelf.held r stop l h;
 }
+
+-- ---- the pair
+
+pair_of_stop : (held : List ℕ → Held) (p : PairWords) (stop : Stop) → p.steps ≤ step_limit → AllowsStop (pair_start_told held p) stop → AllowsStop (told held (Some (Pair p))) stop
+pair_of_stop held p stop l h =
+    then_stop (pair_told held p) _ stop
+    (within_cond (λ (t : Told PairJob). AllowsStop t stop) (nat_lt step_limit p.steps) _ _ (fits step_limit p.steps l) (then_stop (pair_start_told held p) _ stop h))
+
+pub pair_of_start : (held : List ℕ → Held) (p : PairWords) (start : PairStart) → p.steps ≤ step_limit → Allows (pair_start_told held p) start
+    → Allows (told held (Some (Pair p))) (pair_task (record { words = p; start = start }))
+pair_of_start held p start l h =
+    then_gives pair_task (pair_told held p) (record { words = p; start = start })
+    (within_cond (λ (t : Told PairJob). Allows t (record { words = p; start = start })) (nat_lt step_limit p.steps) _ _ (fits step_limit p.steps l)
+    (then_gives (λ (s : PairStart). record { words = p; start = s }) (pair_start_told held p) start h))
+
+pub pair_steps_settled : (s : Shelved) (p : PairWords) → step_limit < p.steps → IsSettled (Some (Pair p)) s TooManySteps
+pair_steps_settled s p l =
+    (then_stop (pair_told s.held p) _ TooManySteps (many_cond (λ (t : Told PairJob). AllowsStop t TooManySteps) (nat_lt step_limit p.steps) (Stops TooManySteps) _ (past step_limit p.steps l) refl), tt)
+
+-- how the files of a pair settle it, within the limit of steps
+pub pair_loads : (c : Call) (p : PairWords) → c.command ≡ Some (Pair p) → p.steps ≤ step_limit → Loads c (pair_files p) (IsPaired c.shelf.held p) (pair_start_told c.shelf.held p)
+pair_loads c p e l = record {
+  command = Pair p;
+  is = e;
+  read = λ file reached. within_cond (λ (readings : List Reading). IsOneOf readings (record { name = name_in (pair_files p) file; form = form_of file })) (nat_lt step_limit p.steps) [] _ (fits step_limit p.steps l)
+      (is_paired c.shelf.held p file reached);
+  stops = λ stop h. pair_of_stop c.shelf.held p stop l h;
+}
+
+-- its statuses
+pub pair_done : (found : Option (ℕ × What)) → (pair_status found ≡ 0) ⊎ (pair_status found ≡ 1)
+pair_done None = inl refl
+pair_done (Some found) = inr refl
 
 -- ---- the assembly
 

@@ -3,12 +3,12 @@ use Rattle.std.proofs.Common.{refl, arith}
 use Rattle.tz_cli.specs.Run.{run_in}
 use Rattle.tz_cli.specs.Told.{run_task}
 use Rattle.tz_cli.specs.Faults.{IsReached, run_files, start_in}
-use Rattle.tz_cli.proofs.Exits.{gains_nothing, answer_memory, answer_steps, answer_told, answer_task, run_loads, run_of_start}
+use Rattle.tz_cli.proofs.Exits.{gains_nothing, answer_memory, answer_steps, steps_settled, answer_told, answer_task, run_loads, run_of_start}
 use Rattle.tz_cli.proofs.run.run_files.Goals as goal
 
 pub returns-then-words-gt-STEP_LIMIT : goal.returns-then-words-gt-STEP_LIMIT
 returns-then-words-gt-STEP_LIMIT g c =
-    answer_steps _ _ (run_in c.args.words.now) refl c.if-words-gt-STEP_LIMIT.true (gains_nothing _) (omega arith) c.refuse.ensures
+    answer_steps _ _ (steps_settled _ (run_in c.args.words.now) c.if-words-gt-STEP_LIMIT.true) (gains_nothing _) (omega arith) c.refuse.ensures
 
 pub returns-in-Err : goal.returns-in-Err
 returns-in-Err g c =
