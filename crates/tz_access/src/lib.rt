@@ -9,6 +9,7 @@
 
 mod bus;
 mod data;
+mod difference;
 mod fetch;
 mod monitor;
 mod place;

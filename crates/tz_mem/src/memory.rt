@@ -1,10 +1,13 @@
 //! Memory, by addresses.
 
-ghost use Rattle.std.specs.Prelude.{◌≡◌, true, false, IfOk, IfErr, OnOk, OnErr, MatchResult, map};
+ghost use Rattle.std.specs.Prelude.{◌≡◌, ◌+◌, ◌<◌, ◌≤◌, true, false, IfOk, IfErr, OnOk, OnErr, MatchResult, length, map};
 ghost use Rattle.tz_table.specs.declared.units.Size.TheVariants.{Half};
 ghost use Rattle.tz_mem.specs.Blocks.{entries_of, region_of};
+ghost use Rattle.tz_mem.specs.Difference.{some_from, region_at, IsFilled};
 ghost use Rattle.tz_mem.specs.Values.{MemoryValue, with_bytes, IsRefusal, IsCode};
 ghost use Rattle.tz_regs.specs.Access.{is_mapped, is_writable};
+ghost use Rattle.tz_model.specs.Board.{are_apart};
+ghost use Rattle.tz_regs.specs.Difference.{byte_differs};
 ghost use Rattle.tz_regs.specs.Memory as bytes;
 ghost use Rattle.tz_regs.specs.Memory.{every, value_at, with_byte, with_value};
 ghost use Rattle.tz_regs.specs.Zeros.{zero_entries, zero_memory};
@@ -139,5 +142,26 @@ impl Memory {
         ensures { self.new ≡ with_bytes self.old (bytes.with_bytes self.old.bytes segment.now.base segment.now.bytes) }
     {
         put_all(&mut self.blocks, segment.base, &segment.bytes);
+    }
+
+    /// There is a byte at exactly the addresses of the regions.
+    pub fn know_filled(&self)
+        ensures { IsFilled self.now }
+    {
+        let _blocks = &self.blocks;
+    }
+
+    /// Whether two memories of the same regions, which share no bytes, differ in some of so many bytes from an
+    /// offset in a region on. The region is told by its number, and holds them all.
+    pub fn differs_in(&self, other: &Memory, index: usize, offset: usize, count: usize) -> bool
+        requires same { self.now.regions ≡ other.now.regions }
+        requires apart { are_apart self.now.regions ≡ true }
+        requires there { index < length self.now.regions }
+        requires fit { offset + count ≤ (region_at self.now.regions index).size }
+        ensures { result ≡ some_from (byte_differs self.now.bytes other.now.bytes) ((region_at self.now.regions index).base + offset) count }
+    {
+        let mine = &self.blocks[index].bytes[offset..offset + count];
+        let others = &other.blocks[index].bytes[offset..offset + count];
+        mine != others
     }
 }

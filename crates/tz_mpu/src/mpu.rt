@@ -1,6 +1,7 @@
 //! One MPU.
 
 ghost use Rattle.std.specs.Prelude.{◌≡◌, ◌≤◌, ◌<◌, ◌&&◌, None, Some, MatchOption, MatchResult, length, replicate, slice_set};
+ghost use Rattle.tz_regs.specs.Difference.{mpu_differs};
 ghost use Rattle.tz_regs.specs.Protection.{permission, permission_by, mpu_region, is_mpu_on, has_privileged_default, default_permits};
 ghost use Rattle.tz_regs.specs.Regions.{no_bounds, holding};
 ghost use Rattle.tz_regs.specs.UnitRegisters.{bounds_at, selected, mpu_register, mpu_value, mpu_read, with_mpu_value, mpu_written, rlar_bits, reset_mpu};
@@ -260,5 +261,17 @@ impl Mpu {
         if let Some(register) = register_at(addr) {
             self.set(register, value);
         }
+    }
+
+    /// Whether the registers of two MPUs differ.
+    #[tactic(auto, unfolding(tz_regs::specs::Difference::mpu_differs))]
+    pub fn differs(&self, other: &Mpu) -> bool
+        ensures { result ≡ mpu_differs self.now.mpu other.now.mpu }
+    {
+        !(self.ctrl == other.ctrl
+            && self.rnr == other.rnr
+            && self.mair0 == other.mair0
+            && self.mair1 == other.mair1
+            && self.regions.as_slice() == other.regions.as_slice())
     }
 }

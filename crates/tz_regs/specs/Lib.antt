@@ -30,3 +30,4 @@ pub mod Views
 pub mod Access
 pub mod Fetch
 pub mod Target
+pub mod Difference

@@ -3,7 +3,7 @@
 use tz_model::Side;
 
 /// What is kept of a slot.
-#[derive(Clone, Copy)]
+#[derive(Clone, Copy, PartialEq, Eq)]
 pub struct SlotState {
     pub pending: bool,
     pub active: bool,

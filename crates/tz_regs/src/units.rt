@@ -3,7 +3,7 @@
 use tz_model::Side;
 
 /// RBAR and RLAR of a region of the SAU or of an MPU.
-#[derive(Clone, Copy, Default)]
+#[derive(Clone, Copy, Default, PartialEq, Eq)]
 pub struct Bounds {
     pub rbar: u32,
     pub rlar: u32,

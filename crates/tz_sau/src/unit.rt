@@ -1,5 +1,8 @@
 //! The SAU and the board's regions beside it.
 
+ghost use Rattle.std.specs.Prelude.{◌≡◌};
+ghost use Rattle.tz_regs.specs.Difference.{sau_differs};
+
 use arrayvec::ArrayVec;
 use std::marker::Model;
 use tz_model::Region;
@@ -27,4 +30,16 @@ impl Model for Sau {
     } };
 
     ghost invariant = { λ s. s.region_count ≤ 32 };
+}
+
+impl Sau {
+    /// Whether the registers of two SAUs differ.
+    #[tactic(auto, unfolding(tz_regs::specs::Difference::sau_differs))]
+    pub fn differs(&self, other: &Sau) -> bool
+        ensures { result ≡ sau_differs self.now.sau other.now.sau }
+    {
+        !(self.ctrl == other.ctrl
+            && self.rnr == other.rnr
+            && self.bounds.as_slice() == other.bounds.as_slice())
+    }
 }

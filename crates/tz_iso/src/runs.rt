@@ -1,0 +1,123 @@
+//! The pair of machines and its step.
+
+ghost use Rattle.std.specs.Prelude.{◌≡◌, ◌<◌, ◌↔◌, ℕ, None, IfOk};
+
+use crate::answer::{PairStep, What};
+use crate::crossed::what_by;
+use std::alloc::{AllocError, Global};
+use std::marker::Model;
+use tz_core::Machine;
+use tz_model::{Board, Image, Report, ScriptEvent};
+
+/// Two machines of one board and one Non-secure image, beside each other. As long as nothing differed at a
+/// crossing out of Secure state, Non-secure code sees the same in both.
+#[derive(Drop)]
+pub struct Pair {
+    first: Machine,
+    second: Machine,
+    steps: u32,
+    found: Option<(u32, What)>,
+    /// What the last step of each told, which the next one overwrites.
+    told: Report,
+    other: Report,
+}
+
+impl Model for Pair {
+    ghost use Rattle.std.specs.Prelude.{◌≡◌, None};
+    ghost use Rattle.std.specs.FinMap as map;
+    ghost use Rattle.std.specs.Ordering.{nat_cmp};
+    ghost use Rattle.std.specs.Coded.{codes, coded_ℕ};
+    ghost use Rattle.tz_iso.specs.Runs.{PairValue, IsLinked};
+
+    ghost Value = { PairValue };
+
+    ghost coded = { Prim.hlevel (codes, map.code {R = nat_cmp} coded_ℕ coded_ℕ) };
+
+    ghost view = { λ p. record { first = p.first; second = p.second; steps = p.steps; found = p.found } };
+
+    ghost invariant = { λ p. p.found ≡ None → IsLinked p.first p.second };
+}
+
+impl Pair {
+    ghost use Rattle.tz_model.specs.declared.report.View.TheVariants.{Ns};
+    ghost use Rattle.tz_sem.specs.Step.{step};
+    ghost use Rattle.tz_text.specs.Line.{line};
+    ghost use Rattle.tz_twin.specs.Seen.{crossing};
+    ghost use Rattle.tz_iso.specs.Runs.{IsLinked, started_pair, advanced, pair_after, answer_of};
+
+    /// Two machines that start with one board and one Non-secure image, each with a Secure image of its own. Fails
+    /// for want of memory alone.
+    pub fn new(
+        alloc: Global,
+        board: &Board,
+        first: &Image,
+        second: &Image,
+        nonsecure: &Image,
+    ) -> Result<Pair, AllocError>
+        ensures { IfOk result (λ p. p ≡ started_pair board.now first.now second.now nonsecure.now) }
+    {
+        let one = Machine::new(alloc, board, first, nonsecure)?;
+        let two = Machine::new(alloc, board, second, nonsecure)?;
+        Ok(Pair {
+            first: one,
+            second: two,
+            steps: 0,
+            found: None,
+            told: Report::new(),
+            other: Report::new(),
+        })
+    }
+
+    /// The machine of the first Secure image.
+    pub fn first(&self) -> &Machine
+        ensures { result.now ≡ self.now.first }
+    {
+        &self.first
+    }
+
+    /// The machine of the second Secure image.
+    pub fn second(&self) -> &Machine
+        ensures { result.now ≡ self.now.second }
+    {
+        &self.second
+    }
+
+    /// Makes a step of both, of a pair in which nothing differed yet.
+    fn advance(&mut self, due: &[ScriptEvent]) -> PairStep
+        requires none { self.old.found ≡ None }
+        requires few { self.old.steps < 4294967295 }
+        ensures steps { self.new ≡ advanced self.old due.now }
+        ensures answer { result ≡ answer_of self.new.found }
+    {
+        self.first.step_into(due, &mut self.told);
+        self.second.step_into(due, &mut self.other);
+        let number = self.steps;
+        self.steps += 1;
+        match what_by(&self.told.way, &self.other.way, &self.first, &self.second) {
+            None => PairStep::Kept,
+            Some(what) => {
+                self.found = Some((number, what));
+                PairStep::Differ { step: number, what }
+            }
+        }
+    }
+
+    /// Makes one step of both, at which these events are due, and tells whether they cross out of Secure state
+    /// alike. Once something differed, each call answers the same and changes nothing.
+    ///
+    /// `Kept` comes exactly where neither crosses out, or both do in the same way, with the same registers handed
+    /// over and the same public state after it. The line of the step is then the same in both for Non-secure code.
+    pub fn step(&mut self, due: &[ScriptEvent]) -> PairStep
+        requires { self.old.steps < 4294967295 }
+        ensures steps { self.new ≡ pair_after self.old due.now }
+        ensures answer { result ≡ answer_of self.new.found }
+        ensures exact { self.old.found ≡ None → (result ≡ PairStep.Kept ↔ crossing (step self.old.first due.now) ≡ crossing (step self.old.second due.now)) }
+        ensures lines { result ≡ PairStep.Kept → (k : ℕ) → line Ns k (step self.old.first due.now).report ≡ line Ns k (step self.old.second due.now).report }
+        ensures linked { result ≡ PairStep.Kept → IsLinked self.new.first self.new.second }
+    {
+        match self.found {
+            None => self.advance(due),
+            Some((step, what)) => PairStep::Differ { step, what },
+        }
+    }
+}
