@@ -10,7 +10,7 @@ use Rattle.tz_run.specs.Events.{events_of}
 use Rattle.tz_iso.specs.declared.answer.What.{What}
 use Rattle.tz_iso.specs.What.{what_of}
 use Rattle.tz_iso.specs.Runs.{IsLinked, what_after}
-use Rattle.tz_iso.proofs.Laws.{agree_of_none, none_of_alike, first_of_some}
+use Rattle.tz_iso.proofs.Runs.{agree_of, first_of}
 use Rattle.tz_cli.specs.Pair.{PairWords}
 use Rattle.tz_cli.specs.PairLine.{FirstApart, agree_line, differ_line, pair_line, pair_status}
 use Rattle.tz_cli.specs.Commands.{Command, Pair}
@@ -34,7 +34,7 @@ linked_starts start = boot_seen start.board start.first start.nonsecure ∙ sym 
 agreed_by : (job : PairJob) (found : Option (ℕ × What)) (old new : Option (List ℕ)) → difference_of job ≡ found → 0 ≡ pair_status found → Gains old new (pair_line job.words.steps found)
     → Agree (events_of job.start.script) 0 (first_state job.start) (second_state job.start) job.words.steps × Gains old new (agree_line job.words.steps)
 agreed_by job None old new is status gains =
-    (agree_of_none (events_of job.start.script) 0 job.words.steps (first_state job.start) (second_state job.start) (linked_starts job.start) is, gains)
+    (agree_of (events_of job.start.script) 0 job.words.steps (first_state job.start) (second_state job.start) (linked_starts job.start) is, gains)
 agreed_by job (Some found) old new is status gains = absurd (cc status)
 
 -- at status 0 the runs agree
@@ -65,7 +65,7 @@ apart_by : (job : PairJob) (found : Option (ℕ × What)) (old new : Option (Lis
 apart_by job None old new is status gains = absurd (cc status)
 apart_by job (Some found) old new is status gains =
     let events = events_of job.start.script in
-    let first = first_of_some events job.words.steps found.0 found.1 (first_state job.start) (second_state job.start) (linked_starts job.start) is in
+    let first = first_of events job.words.steps found.0 found.1 (first_state job.start) (second_state job.start) (linked_starts job.start) is in
     (found.0, found.1, record {
       below = first.0;
       before = first.1;
