@@ -65,13 +65,17 @@ apart_by : (job : PairJob) (found : Option (ℕ × What)) (old new : Option (Lis
 apart_by job None old new is status gains = absurd (cc status)
 apart_by job (Some found) old new is status gains =
     let events = events_of job.start.script in
-    let first = first_of events job.words.steps found.0 found.1 (first_state job.start) (second_state job.start) (linked_starts job.start) is in
-    (found.0, found.1, record {
-      below = first.0;
-      before = first.1;
-      apart = apart_at events (first_state job.start) (second_state job.start) found.0 found.1 first.2;
-      what = first.2;
-    }, gains)
+    let first = first_of events job.words.steps found.0 found.1 (first_state job.start) (second_state job.start) (linked_starts job.start) is in (
+      found.0,
+      found.1,
+      record {
+        below = first.0;
+        before = first.1;
+        apart = apart_at events (first_state job.start) (second_state job.start) found.0 found.1 first.2;
+        what = first.2;
+      },
+      gains,
+    )
 
 -- at status 1 they don't
 pub disagreement_told : (c : Call) (result : ℕ) → Answer c result → result ≡ 1 → (p : PairWords) → c.command ≡ Some (Pair p) → (job : PairJob) → pair_told c.shelf.held p ≡ Gives job

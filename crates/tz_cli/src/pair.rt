@@ -30,7 +30,13 @@ fn pair_started<O: Sink>(
         IfOk result (λ status. IsTold status task.text task.status (O.written out.old) (O.written out.new) (O.space out.old) (O.faults out.old) (O.faults out.new)) }
     ensures quiet { IfErr result (λ _. Gains (O.written out.old) (O.written out.new) []) }
 {
-    let pair = Pair::new(alloc, &files.board, &files.first, &files.second, &files.nonsecure);
+    let pair = Pair::new(
+        alloc,
+        &files.board,
+        &files.first,
+        &files.second,
+        &files.nonsecure,
+    );
     let mut pair = match pair {
         Ok(pair) => pair,
         Err(error) => return Err(error),
