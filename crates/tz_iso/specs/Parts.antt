@@ -76,7 +76,7 @@ is_same_bus_faults a b = a.bfsr == b.bfsr && (a.bfar == b.bfar && a.hfsr == b.hf
 -- those of BusFault and HardFault are public where BFHFNMINS is 1; where it differs the exceptions do
 abbrev pub is_same_open_faults : Bool → Bool → BusStatus → BusStatus → Bool
 is_same_open_faults true true a b = is_same_bus_faults a b
-is_same_open_faults open other a b = true
+is_same_open_faults public other a b = true
 
 abbrev pub is_same_faults : State → State → Bool
 is_same_faults s t =

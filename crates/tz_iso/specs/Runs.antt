@@ -68,7 +68,6 @@ difference events k s t (suc n) =
     found_at k (what_of (step s (events k)) (step t (events k)))
     (difference events (k + 1) (step s (events k)).state (step t (events k)).state n)
 
--- what differs at step k + j of two runs that are here at step k
-abbrev pub what_after : Events → ℕ → State → State → ℕ → Option What
-what_after events k s t j =
-    what_of (step (state_after events k s j) (events (k + j))) (step (state_after events k t j) (events (k + j)))
+-- what differs at a step of two runs that start here
+abbrev pub what_at : Events → State → State → ℕ → Option What
+what_at events s t k = what_of (step (state_after events 0 s k) (events k)) (step (state_after events 0 t k) (events k))

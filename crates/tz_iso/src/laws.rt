@@ -8,7 +8,7 @@ ghost use Rattle.tz_sem.specs.Step.{step};
 ghost use Rattle.tz_twin.specs.Seen.{crossing, Agree};
 ghost use Rattle.tz_iso.specs.declared.answer.What.{What};
 ghost use Rattle.tz_iso.specs.What.{what_of};
-ghost use Rattle.tz_iso.specs.Runs.{IsLinked, difference, what_after};
+ghost use Rattle.tz_iso.specs.Runs.{IsLinked, difference, what_at};
 
 /// Of steps from linked states nothing differs exactly where the crossings out of Secure state are the same.
 pub fn crossings_told()
@@ -22,5 +22,5 @@ pub fn difference_told()
     ensures agree { (events : Events) (k n : ℕ) (s t : State) → IsLinked s t → difference events k s t n ≡ None → Agree events k s t n }
     ensures none { (events : Events) (k n : ℕ) (s t : State) → IsLinked s t → Agree events k s t n → difference events k s t n ≡ None }
     ensures first { (events : Events) (n j : ℕ) (what : What) (s t : State) → IsLinked s t → difference events 0 s t n ≡ Some (j, what) →
-        (j < n) × Agree events 0 s t j × (what_after events 0 s t j ≡ Some what) }
+        (j < n) × Agree events 0 s t j × (what_at events s t j ≡ Some what) }
 {}

@@ -7,6 +7,7 @@
 
 mod block;
 mod code;
+mod difference;
 mod error;
 mod memory;
 mod numbers;

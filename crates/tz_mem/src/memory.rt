@@ -14,6 +14,7 @@ ghost use Rattle.tz_regs.specs.Zeros.{zero_entries, zero_memory};
 
 use crate::block::Block;
 use crate::code::code_at;
+use crate::difference::differ_in;
 use crate::error::{NotMapped, Refused};
 use crate::numbers::{number_at, put_all, put_byte, write_number};
 use std::alloc::{AllocError, Global};
@@ -160,8 +161,6 @@ impl Memory {
         requires fit { offset + count ≤ (region_at self.now.regions index).size }
         ensures { result ≡ some_from (byte_differs self.now.bytes other.now.bytes) ((region_at self.now.regions index).base + offset) count }
     {
-        let mine = &self.blocks[index].bytes[offset..offset + count];
-        let others = &other.blocks[index].bytes[offset..offset + count];
-        mine != others
+        differ_in(&self.blocks, &other.blocks, index, offset, count)
     }
 }

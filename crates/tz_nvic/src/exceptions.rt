@@ -1,7 +1,6 @@
 //! The table of slots: what is pending, active and enabled, priorities and targets.
 
 ghost use Rattle.std.specs.Prelude.{◌≡◌, ◌≤◌, ◌<◌, ◌+◌, true, IfOk, IsTrue};
-ghost use Rattle.tz_regs.specs.Difference.{exceptions_differ};
 ghost use Rattle.tz_regs.specs.Slots.{at, exists, is_external, is_place, side_at, slot_at, index_of, is_enabled, with_slot, reset_exceptions};
 ghost use Rattle.tz_regs.specs.SlotChanges.{pended, unpended, activated, deactivated, prioritized, switched, targeted};
 
@@ -319,18 +318,5 @@ impl Exceptions {
             number: number_at(index),
             side: self.side_at(index),
         }
-    }
-
-    /// Whether the exceptions of two cores differ in anything but their timers.
-    #[tactic(auto, unfolding(tz_regs::specs::Difference::exceptions_differ))]
-    pub fn differs(&self, other: &Exceptions) -> bool
-        ensures { result ≡ exceptions_differ self.now other.now }
-    {
-        !(self.slots.as_slice() == other.slots.as_slice()
-            && self.interrupts == other.interrupts
-            && self.prigroup_s == other.prigroup_s
-            && self.prigroup_ns == other.prigroup_ns
-            && self.pris == other.pris
-            && self.bfhfnmins == other.bfhfnmins)
     }
 }

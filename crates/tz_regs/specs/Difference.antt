@@ -42,13 +42,17 @@ is_same_slot s t =
     is_same_flag s.pending t.pending && (is_same_flag s.active t.active && (is_same_flag s.enabled t.enabled
     && (s.priority == t.priority && is_same_side s.target t.target)))
 
--- the exceptions of two cores differ in a slot, in how many interrupts there are, or in PRIGROUP of a side, PRIS or
--- BFHFNMINS; timers don't count
+-- PRIGROUP of both sides, PRIS and BFHFNMINS
+abbrev pub is_same_choice : ExceptionsValue → ExceptionsValue → Bool
+is_same_choice e f =
+    e.prigroup_s == f.prigroup_s && (e.prigroup_ns == f.prigroup_ns
+    && (is_same_flag e.pris f.pris && is_same_flag e.bfhfnmins f.bfhfnmins))
+
+-- the exceptions of two cores differ in a slot, in how many interrupts there are, or in what is chosen of them;
+-- timers don't count
 unfoldable pub exceptions_differ : ExceptionsValue → ExceptionsValue → Bool
 exceptions_differ e f =
-    not (pointwise is_same_slot e.slots f.slots && (e.interrupts == f.interrupts
-    && (e.prigroup_s == f.prigroup_s && (e.prigroup_ns == f.prigroup_ns
-    && (is_same_flag e.pris f.pris && is_same_flag e.bfhfnmins f.bfhfnmins)))))
+    not (pointwise is_same_slot e.slots f.slots && (e.interrupts == f.interrupts && is_same_choice e f))
 
 -- ---- memory
 
