@@ -1,16 +1,15 @@
 -- What the answers of `pair` say of its two runs.
-use Rattle.std.proofs.Common.{◌≡◌, ◌≢◌, ℕ, ◌<◌, List, Option, Some, None, refl, sym, ap, ◌∙◌, subst, zero-add, arith}
+use Rattle.std.proofs.Common.{◌≡◌, ◌≢◌, ℕ, ◌<◌, List, Option, Some, None, refl, sym, ap, ◌∙◌, arith}
 use Rattle.tz_model.specs.Outside.{Held, Gains}
 use Rattle.tz_regs.specs.State.{State}
 use Rattle.tz_sem.specs.Step.{step}
 use Rattle.tz_sem.specs.Run.{Events, state_after}
 use Rattle.tz_twin.specs.Seen.{crossing, Agree}
-use Rattle.tz_twin.proofs.TwoRuns.{boot_seen}
 use Rattle.tz_run.specs.Events.{events_of}
 use Rattle.tz_iso.specs.declared.answer.What.{What}
-use Rattle.tz_iso.specs.What.{what_of}
-use Rattle.tz_iso.specs.Runs.{IsLinked, what_after}
-use Rattle.tz_iso.proofs.Runs.{agree_of, first_of}
+use Rattle.tz_iso.specs.Runs.{IsLinked, what_at}
+use Rattle.tz_iso.proofs.Agreement.{linked_boots, agree_of, first_of}
+use Rattle.tz_iso.proofs.Told.{none_crossing}
 use Rattle.tz_cli.specs.Pair.{PairWords}
 use Rattle.tz_cli.specs.PairLine.{FirstApart, agree_line, differ_line, pair_line, pair_status}
 use Rattle.tz_cli.specs.Commands.{Command, Pair}
@@ -29,12 +28,12 @@ pair_written c result a below p e job h = task_written c result a below (pair_ta
 
 -- nothing of either start is seen but the board
 linked_starts : (start : PairStart) → IsLinked (first_state start) (second_state start)
-linked_starts start = boot_seen start.board start.first start.nonsecure ∙ sym (boot_seen start.board start.second start.nonsecure)
+linked_starts start = linked_boots start.board start.first start.second start.nonsecure
 
 agreed_by : (job : PairJob) (found : Option (ℕ × What)) (old new : Option (List ℕ)) → difference_of job ≡ found → 0 ≡ pair_status found → Gains old new (pair_line job.words.steps found)
     → Agree (events_of job.start.script) 0 (first_state job.start) (second_state job.start) job.words.steps × Gains old new (agree_line job.words.steps)
 agreed_by job None old new is status gains =
-    (agree_of (events_of job.start.script) 0 job.words.steps (first_state job.start) (second_state job.start) (linked_starts job.start) is, gains)
+    (agree_of (events_of job.start.script) job.words.steps 0 (first_state job.start) (second_state job.start) (linked_starts job.start) is, gains)
 agreed_by job (Some found) old new is status gains = absurd (cc status)
 
 -- at status 0 the runs agree
@@ -48,13 +47,10 @@ not_both : {A : Type 0} (o : Option A) (x : A) → o ≡ None → o ≡ Some x �
 not_both o x e h = cc
 
 -- where something differs at a step, it crosses out otherwise
-apart_at : (events : Events) (s t : State) (k : ℕ) (what : What) → what_after events 0 s t k ≡ Some what
+apart_at : (events : Events) (s t : State) (k : ℕ) (what : What) → what_at events s t k ≡ Some what
     → crossing (step (state_after events 0 s k) (events k)) ≢ crossing (step (state_after events 0 t k) (events k))
 apart_at events s t k what h alike =
-    let at : what_of (step (state_after events 0 s k) (events k)) (step (state_after events 0 t k) (events k)) ≡ Some what =
-    subst (λ (i : ℕ). what_of (step (state_after events 0 s k) (events i)) (step (state_after events 0 t k) (events i)) ≡ Some what) (zero-add k) h in
-    not_both (what_of (step (state_after events 0 s k) (events k)) (step (state_after events 0 t k) (events k))) what
-    (none_of_alike (state_after events 0 s k) (state_after events 0 t k) (events k) alike) at
+    not_both (what_at events s t k) what (none_crossing (state_after events 0 s k) (state_after events 0 t k) (events k) alike) h
 
 -- what is told of the first step at which the runs don't agree
 abbrev FirstTold : PairJob → Option (List ℕ) → Option (List ℕ) → Type 0

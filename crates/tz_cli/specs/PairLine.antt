@@ -7,7 +7,7 @@ use Rattle.tz_regs.specs.State.{State}
 use Rattle.tz_sem.specs.Step.{step}
 use Rattle.tz_sem.specs.Run.{Events, state_after}
 use Rattle.tz_twin.specs.Seen.{crossing, Agree}
-use Rattle.tz_iso.specs.Runs.{what_after}
+use Rattle.tz_iso.specs.Runs.{what_at}
 use Rattle.tz_iso.specs.declared.answer.What.{What}
 use Rattle.tz_iso.specs.declared.answer.What.TheVariants.{Alone, Way, R, Lr, Apsr, Pc, Bytes, Sp, Limit, Control, Mask, Sau, Mpu, Vtor, Ccr, Fault, Exceptions, Systick, Sleep}
 
@@ -64,7 +64,7 @@ pub record FirstApart (events : Events) (s t : State) (n step_number : ℕ) (wha
   pub below : step_number < n
   pub before : Agree events 0 s t step_number
   pub apart : crossing (step (state_after events 0 s step_number) (events step_number)) ≢ crossing (step (state_after events 0 t step_number) (events step_number))
-  pub what : what_after events 0 s t step_number ≡ Some what
+  pub what : what_at events s t step_number ≡ Some what
 
 -- whether the runs agree
 abbrev pub is_agreed : Option (ℕ × What) → Bool

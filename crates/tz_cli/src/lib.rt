@@ -11,12 +11,12 @@
 #![tactic(auto)]
 
 mod asm;
+mod comparison;
 mod dis;
 mod files;
 mod lines;
 mod output;
 mod pair;
-mod pair_run;
 mod process;
 mod program;
 mod run;
@@ -24,8 +24,8 @@ mod shelf;
 mod stops;
 mod words;
 
+pub use comparison::pair_run;
 pub use output::OutSink;
-pub use pair_run::pair_run;
 pub use process::run_process;
 pub use program::top;
 pub use shelf::{FileShelf, read_to_limit};

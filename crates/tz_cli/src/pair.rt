@@ -11,7 +11,7 @@ ghost use Rattle.tz_cli.specs.Faults.{pair_start_in};
 
 use crate::files::{PairFiles, load_pair, names_of_pair};
 use crate::lines::{refuse, refuse_fault};
-use crate::pair_run::pair_run;
+use crate::comparison::pair_run;
 use crate::run::STEP_LIMIT;
 use crate::words::PairWords;
 use std::alloc::{AllocError, Global};
