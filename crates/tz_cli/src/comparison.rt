@@ -3,7 +3,7 @@
 //! The steps end at the first one at which the runs disagree. The line goes out as one put. It takes no
 //! memory, and knows nothing of where bytes go.
 
-ghost use Rattle.std.specs.Prelude.{◌≡◌, ◌<◌, ◌≤◌, ◌+◌, ◌++◌, IfOk, Err, None, option_map};
+ghost use Rattle.std.specs.Prelude.{◌≡◌, ◌<◌, ◌≤◌, ◌+◌, ◌++◌, IfOk, Err, None, length};
 ghost use Rattle.arrayvec.specs.ArrayString.{array_string_len};
 ghost use Rattle.tz_model.specs.Outside.{HasCause, Put};
 ghost use Rattle.tz_iso.specs.Runs.{difference};
@@ -24,7 +24,8 @@ type Line = ArrayString<64>;
 
 /// The word of a kind of crossing.
 fn kind_word(kind: CrossKind) -> &'static str
-    ensures { result.now ≡ kind_word kind }
+    ensures word { result.now ≡ kind_word kind }
+    ensures short { length result.now ≤ 9 }
 {
     match kind {
         CrossKind::Return => "return",

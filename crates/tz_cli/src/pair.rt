@@ -9,9 +9,9 @@ ghost use Rattle.tz_cli.specs.Told.{difference_of, pair_task};
 ghost use Rattle.tz_cli.specs.Answer.{Answer, IsTold};
 ghost use Rattle.tz_cli.specs.Faults.{pair_start_in};
 
+use crate::comparison::pair_run;
 use crate::files::{PairFiles, load_pair, names_of_pair};
 use crate::lines::{refuse, refuse_fault};
-use crate::comparison::pair_run;
 use crate::run::STEP_LIMIT;
 use crate::words::PairWords;
 use std::alloc::{AllocError, Global};
