@@ -16,11 +16,6 @@ pub record SoFar (events : Events) (p0 p : PairValue) (k n : ℕ) : Type 0 where
   pub made : p.steps ≡ k
   pub rest : difference events k p.first p.second (n - k) ≡ difference events 0 p0.first p0.second n
 
-pub so_far_start : (events : Events) (p : PairValue) (n : ℕ) → p.found ≡ None → p.steps ≡ 0 → SoFar events p p 0 n
-so_far_start events p n none made =
-    let e : n - 0 ≡ n = omega arith in
-    record { none = none; made = made; rest = ap (difference events 0 p.first p.second) e }
-
 difference_more : (events : Events) (k n : ℕ) (s t : State) → k < n →
     difference events k s t (n - k)
     ≡ found_at k (what_of (step s (events k)) (step t (events k))) (difference events (k + 1) (step s (events k)).state (step t (events k)).state (n - (k + 1)))
@@ -32,14 +27,14 @@ difference_more events k n s t l =
 advanced_both : (events : Events) (k : ℕ) (p p' : PairValue) → p.found ≡ None → p' ≡ pair_after p (events k) → p' ≡ advanced p (events k)
 advanced_both events k p p' none made = made ∙ ap (λ found. advanced_by found p (events k)) none
 
--- what a step finds, beside what it answers
-nothing_found : (found : Option (ℕ × What)) → Kept ≡ answer_of found → found ≡ None
-nothing_found None e = refl
-nothing_found (Some found) e = absurd (cc e)
+-- what was found, by what is answered
+abbrev found_by : PairStep → Option (ℕ × What)
+found_by Kept = None
+found_by (Differ number what) = Some (number, what)
 
-something_found : (found : Option (ℕ × What)) (number : ℕ) (what : What) → Differ number what ≡ answer_of found → found ≡ Some (number, what)
-something_found None number what e = absurd (cc e)
-something_found (Some found) number what e = cc e
+found_by_answer : (found : Option (ℕ × What)) → found ≡ found_by (answer_of found)
+found_by_answer None = refl
+found_by_answer (Some found) = refl
 
 none_mapped : {A B : Type 0} (f : A → B) (o : Option A) → option_map f o ≡ None → o ≡ None
 none_mapped f None e = refl
@@ -48,9 +43,9 @@ none_mapped f (Some x) e = absurd (cc e)
 pub so_far_step : (events : Events) (p0 p p' : PairValue) (k n : ℕ) → k < n → p' ≡ pair_after p (events k) → Kept ≡ answer_of p'.found → SoFar events p0 p k n → SoFar events p0 p' (k + 1) n
 so_far_step events p0 p p' k n l made kept h =
     let is : p' ≡ advanced p (events k) = advanced_both events k p p' h.none made in
-    let none : p'.found ≡ None = nothing_found p'.found kept in
+    let none : p'.found ≡ None = found_by_answer p'.found ∙ ap found_by (sym kept) in
     let same : what_of (step p.first (events k)) (step p.second (events k)) ≡ None =
-    none_mapped (λ (what : What). (p.steps, what)) (what_of (step p.first (events k)) (step p.second (events k))) (sym (ap (λ (x : PairValue). x.found) is) ∙ none) in
+    none_mapped {A = What} {B = ℕ × What} (λ what. (p.steps, what)) (what_of (step p.first (events k)) (step p.second (events k))) (sym (ap (λ (x : PairValue). x.found) is) ∙ none) in
     record {
       none = none;
       made = ap (λ (x : PairValue). x.steps) is ∙ ap (λ (i : ℕ). i + 1) h.made;
@@ -59,7 +54,7 @@ so_far_step events p0 p p' k n l made kept h =
           ∙ sym (difference_more events k n p.first p.second l) ∙ h.rest;
     }
 
-found_now : (k number : ℕ) (what : What) (o : Option What) (later : Option (ℕ × What)) → option_map (λ (w : What). (k, w)) o ≡ Some (number, what) → Some (number, what) ≡ found_at k o later
+found_now : (k number : ℕ) (what : What) (o : Option What) (later : Option (ℕ × What)) → option_map {T = What} {U = ℕ × What} (λ w. (k, w)) o ≡ Some (number, what) → Some (number, what) ≡ found_at k o later
 found_now k number what None later e = absurd (cc e)
 found_now k number what (Some w) later e = sym e
 
@@ -67,13 +62,8 @@ pub so_far_found : (events : Events) (p0 p p' : PairValue) (k n number : ℕ) (w
     → Some (number, what) ≡ difference events 0 p0.first p0.second n
 so_far_found events p0 p p' k n number what l made differ h =
     let is : p' ≡ advanced p (events k) = advanced_both events k p p' h.none made in
-    let found : option_map (λ (w : What). (p.steps, w)) (what_of (step p.first (events k)) (step p.second (events k))) ≡ Some (number, what) =
-    sym (ap (λ (x : PairValue). x.found) is) ∙ something_found p'.found number what differ in
+    let found : option_map {T = What} {U = ℕ × What} (λ w. (p.steps, w)) (what_of (step p.first (events k)) (step p.second (events k))) ≡ Some (number, what) =
+    sym (ap (λ (x : PairValue). x.found) is) ∙ (found_by_answer p'.found ∙ ap found_by (sym differ)) in
     found_now k number what (what_of (step p.first (events k)) (step p.second (events k))) _
-    (subst (λ (i : ℕ). option_map (λ (w : What). (i, w)) (what_of (step p.first (events k)) (step p.second (events k))) ≡ Some (number, what)) h.made found)
+    (subst (λ (i : ℕ). option_map {T = What} {U = ℕ × What} (λ w. (i, w)) (what_of (step p.first (events k)) (step p.second (events k))) ≡ Some (number, what)) h.made found)
     ∙ sym (difference_more events k n p.first p.second l) ∙ h.rest
-
-pub so_far_end : (events : Events) (p0 p : PairValue) (k n : ℕ) → n ≤ k → SoFar events p0 p k n → None ≡ difference events 0 p0.first p0.second n
-so_far_end events p0 p k n l h =
-    let m : n - k ≡ 0 = omega arith in
-    sym (ap (difference events k p.first p.second) m) ∙ h.rest

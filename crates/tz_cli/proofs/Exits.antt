@@ -116,13 +116,18 @@ run_of_start held r start l h =
     (then_gives (λ (s : Start). record { words = r; start = s }) (start_told held r) start h))
 
 -- past the limit of steps nothing is read
-pub steps_settled : (s : Shelved) (r : RunWords) → step_limit < r.steps → IsSettled (Some (Run r)) s TooManySteps
+steps_settled : (s : Shelved) (r : RunWords) → step_limit < r.steps → IsSettled (Some (Run r)) s TooManySteps
 steps_settled s r l =
     (then_stop (job_told s.held r) _ TooManySteps (many_cond (λ (t : Told Job). AllowsStop t TooManySteps) (nat_lt step_limit r.steps) (Stops TooManySteps) _ (past step_limit r.steps l) refl), tt)
 
-pub answer_steps : (c : Call) (result : ℕ) → IsSettled c.command c.shelf TooManySteps → Gains c.out_old c.out_new [] → 64 ≤ c.room
+answer_settled : (c : Call) (result : ℕ) (command : Command) → c.command ≡ Some command → IsSettled (Some command) c.shelf TooManySteps → Gains c.out_old c.out_new [] → 64 ≤ c.room
     → IsRefused c result (codes "limit steps\n") 6 → Answer c result
-answer_steps c result settled quiet short h = answer_stop c result TooManySteps settled quiet (omega arith) h
+answer_settled c result command e settled quiet short h =
+    answer_stop c result TooManySteps (subst (λ (o : Option Command). IsSettled o c.shelf TooManySteps) (sym e) settled) quiet (omega arith) h
+
+pub answer_steps : (c : Call) (result : ℕ) (r : RunWords) → c.command ≡ Some (Run r) → step_limit < r.steps → Gains c.out_old c.out_new [] → 64 ≤ c.room
+    → IsRefused c result (codes "limit steps\n") 6 → Answer c result
+answer_steps c result r e l quiet short h = answer_settled c result (Run r) e (steps_settled c.shelf r l) quiet short h
 
 -- ---- a fault of a command's files
 
@@ -257,9 +262,13 @@ pair_of_start held p start l h =
     (within_cond (λ (t : Told PairJob). Allows t (record { words = p; start = start })) (nat_lt step_limit p.steps) _ _ (fits step_limit p.steps l)
     (then_gives (λ (s : PairStart). record { words = p; start = s }) (pair_start_told held p) start h))
 
-pub pair_steps_settled : (s : Shelved) (p : PairWords) → step_limit < p.steps → IsSettled (Some (Pair p)) s TooManySteps
+pair_steps_settled : (s : Shelved) (p : PairWords) → step_limit < p.steps → IsSettled (Some (Pair p)) s TooManySteps
 pair_steps_settled s p l =
     (then_stop (pair_told s.held p) _ TooManySteps (many_cond (λ (t : Told PairJob). AllowsStop t TooManySteps) (nat_lt step_limit p.steps) (Stops TooManySteps) _ (past step_limit p.steps l) refl), tt)
+
+pub answer_pair_steps : (c : Call) (result : ℕ) (p : PairWords) → c.command ≡ Some (Pair p) → step_limit < p.steps → Gains c.out_old c.out_new [] → 64 ≤ c.room
+    → IsRefused c result (codes "limit steps\n") 6 → Answer c result
+answer_pair_steps c result p e l quiet short h = answer_settled c result (Pair p) e (pair_steps_settled c.shelf p l) quiet short h
 
 -- how the files of a pair settle it, within the limit of steps
 pub pair_loads : (c : Call) (p : PairWords) → c.command ≡ Some (Pair p) → p.steps ≤ step_limit → Loads c (pair_files p) (IsPaired c.shelf.held p) (pair_start_told c.shelf.held p)

@@ -68,7 +68,7 @@ apart_by job (Some found) old new is status gains =
         below = first.0;
         before = first.1;
         apart = apart_at events (first_state job.start) (second_state job.start) found.0 found.1 first.2;
-        what = first.2;
+        differs = first.2;
       },
       gains,
     )

@@ -64,7 +64,7 @@ pub record FirstApart (events : Events) (s t : State) (n step_number : ℕ) (wha
   pub below : step_number < n
   pub before : Agree events 0 s t step_number
   pub apart : crossing (step (state_after events 0 s step_number) (events step_number)) ≢ crossing (step (state_after events 0 t step_number) (events step_number))
-  pub what : what_at events s t step_number ≡ Some what
+  pub differs : what_at events s t step_number ≡ Some what
 
 -- whether the runs agree
 abbrev pub is_agreed : Option (ℕ × What) → Bool

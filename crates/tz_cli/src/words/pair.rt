@@ -1,9 +1,9 @@
 //! The words of `pair`: five names of files and a number of steps.
 
-ghost use Rattle.std.specs.Prelude.{◌≡◌, [], IfOk, map, string_bytes, option_map};
+ghost use Rattle.std.specs.Prelude.{◌≡◌, [], IfOk, map, string_bytes, option_map, unwrap_or};
 ghost use Rattle.tz_cli.specs.Commands.{Pair, command_in};
 ghost use Rattle.tz_cli.specs.Found.{parts_in};
-ghost use Rattle.tz_cli.specs.Pair.{pair_behind, pair_parts};
+ghost use Rattle.tz_cli.specs.Pair.{pair_behind, pair_parts, pair_with};
 
 use crate::words::Command;
 use crate::words::counts::count_in;
@@ -31,6 +31,26 @@ pub struct PairWords<'a> {
     pub steps: u32,
 }
 
+/// What six words tell; `None` where there are others.
+fn pair_of<'a>(words: Option<&[&'a str]>) -> Option<Command<'a>>
+    ensures { option_map command_in result ≡ option_map Pair (pair_with [] (unwrap_or (option_map (λ s. map (λ v. v.now) s.now) words.entry) [])) }
+{
+    let Some(&[board, first, second, nonsecure, script, steps]) = words else {
+        return None;
+    };
+    match count_in(steps) {
+        Some(steps) => Some(Command::Pair(PairWords {
+            board,
+            first,
+            second,
+            nonsecure,
+            script,
+            steps,
+        })),
+        None => None,
+    }
+}
+
 /// The words of `pair` in what clap found.
 fn pair_found<'a>(found: &ArgMatches<'a>) -> Option<Command<'a>>
     ensures { option_map command_in result ≡ option_map Pair (pair_parts (parts_in found.now)) }
@@ -40,20 +60,7 @@ fn pair_found<'a>(found: &ArgMatches<'a>) -> Option<Command<'a>>
     {
         return None;
     }
-    let Some(&[board, first, second, nonsecure, script, steps]) = found.get_strs("words") else {
-        return None;
-    };
-    let Some(steps) = count_in(steps) else {
-        return None;
-    };
-    Some(Command::Pair(PairWords {
-        board,
-        first,
-        second,
-        nonsecure,
-        script,
-        steps,
-    }))
+    pair_of(found.get_strs("words"))
 }
 
 /// `BOARD SECURE1 SECURE2 NONSECURE SCRIPT STEPS`, as they stand behind `pair`; `None` where they are

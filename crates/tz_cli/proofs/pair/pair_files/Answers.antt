@@ -3,12 +3,12 @@ use Rattle.std.proofs.Common.{refl, arith}
 use Rattle.tz_cli.specs.Pair.{pair_in}
 use Rattle.tz_cli.specs.Told.{PairJob, pair_task, difference_of}
 use Rattle.tz_cli.specs.Faults.{IsPaired, pair_files, pair_start_in}
-use Rattle.tz_cli.proofs.Exits.{gains_nothing, answer_memory, answer_steps, pair_steps_settled, answer_told, answer_task, pair_loads, pair_of_start, pair_done}
+use Rattle.tz_cli.proofs.Exits.{gains_nothing, answer_memory, answer_pair_steps, answer_told, answer_task, pair_loads, pair_of_start, pair_done}
 use Rattle.tz_cli.proofs.pair.pair_files.Goals as goal
 
 pub returns-then-words-gt-STEP_LIMIT : goal.returns-then-words-gt-STEP_LIMIT
 returns-then-words-gt-STEP_LIMIT g c =
-    answer_steps _ _ (pair_steps_settled _ (pair_in c.args.words.now) c.if-words-gt-STEP_LIMIT.true) (gains_nothing _) (omega arith) c.refuse.ensures
+    answer_pair_steps _ _ (pair_in c.args.words.now) refl c.if-words-gt-STEP_LIMIT.true (gains_nothing _) (omega arith) c.refuse.ensures
 
 pub returns-in-Err : goal.returns-in-Err
 returns-in-Err g c =

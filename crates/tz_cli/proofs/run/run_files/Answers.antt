@@ -3,17 +3,17 @@ use Rattle.std.proofs.Common.{refl, arith}
 use Rattle.tz_cli.specs.Run.{run_in}
 use Rattle.tz_cli.specs.Told.{run_task}
 use Rattle.tz_cli.specs.Faults.{IsReached, run_files, start_in}
-use Rattle.tz_cli.proofs.Exits.{gains_nothing, answer_memory, answer_steps, steps_settled, answer_told, answer_task, run_loads, run_of_start}
+use Rattle.tz_cli.proofs.Exits.{gains_nothing, answer_memory, answer_steps, answer_told, answer_task, run_loads, run_of_start}
 use Rattle.tz_cli.proofs.run.run_files.Goals as goal
 
 pub returns-then-words-gt-STEP_LIMIT : goal.returns-then-words-gt-STEP_LIMIT
 returns-then-words-gt-STEP_LIMIT g c =
-    answer_steps _ _ (steps_settled _ (run_in c.args.words.now) c.if-words-gt-STEP_LIMIT.true) (gains_nothing _) (omega arith) c.refuse.ensures
+    answer_steps _ _ (run_in c.args.words.now) refl c.if-words-gt-STEP_LIMIT.true (gains_nothing _) (omega arith) c.refuse.ensures
 
 pub returns-in-Err : goal.returns-in-Err
 returns-in-Err g c =
     answer_told _ (run_files (run_in c.args.words.now)) (IsReached _ (run_in c.args.words.now)) _ (run_loads _ (run_in c.args.words.now) refl c.if-words-gt-STEP_LIMIT.false) _ c.in-Err.fault _
-    c.names_of_run.ensures refl c.in-Err.ensures.err (gains_nothing _) c.refuse_fault.ensures
+    c.names_of_run.ensures (omega arith) c.in-Err.ensures.err (gains_nothing _) c.refuse_fault.ensures
 
 pub returns-in-Ok-run_started : goal.returns-in-Ok-run_started
 returns-in-Ok-run_started g c =
