@@ -10,7 +10,7 @@ use Rattle.tz_twin.specs.Trace.{text_from}
 use Rattle.tz_run.specs.Events.{events_of}
 use Rattle.tz_twin.proofs.TwoRuns.{isolated}
 use Rattle.tz_cli.specs.Run.{RunWords}
-use Rattle.tz_cli.specs.Commands.{Command, Run, Asm, Dis, command_of}
+use Rattle.tz_cli.specs.Commands.{Command, Run, Pair, Asm, Dis, command_of}
 use Rattle.tz_cli.specs.Told.{Stop, BadWords, TooManySteps, Unread, TooLong, BadBoard, BadImage, BadScript, BadSource, Told, Unknown, Stops, Gives, told_then, Job, Task, run_task, told, IsDone, job_told, trace_of, state_of}
 use Rattle.tz_cli.specs.Reads.{reads_of, TellsOf}
 use Rattle.tz_cli.specs.Lines.{stop_line, status_of}
@@ -23,6 +23,8 @@ use Rattle.tz_cli.proofs.Reached.{absent_task, never_gives}
 done_below : (o : Option Command) (n : ℕ) → IsDone o n → n < 2
 done_below None n h = absurd h
 done_below (Some (Run r)) n h = omega arith
+done_below (Some (Pair p)) n (inl h) = omega arith
+done_below (Some (Pair p)) n (inr h) = omega arith
 done_below (Some (Asm a)) n h = omega arith
 done_below (Some (Dis d)) n h = omega arith
 

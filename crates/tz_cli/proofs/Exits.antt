@@ -7,21 +7,26 @@ use Rattle.tz_model.specs.declared.outside.SinkError.TheVariants.{Failed}
 use Rattle.tz_model.specs.Outside.{Held, Rose, Gains, Put}
 use Rattle.tz_model.specs.Image.{ImageValue, SegmentValue}
 use Rattle.tz_cli.specs.Run.{RunWords}
+use Rattle.tz_cli.specs.Pair.{PairWords}
+use Rattle.tz_sem.specs.Run.{Events}
+use Rattle.tz_iso.specs.declared.answer.What.{What}
+use Rattle.tz_iso.specs.Runs.{PairValue, difference}
+use Rattle.tz_cli.specs.PairLine.{agree_line, differ_line, is_agreed, pair_line, pair_status}
 use Rattle.tz_cli.specs.Asm.{AsmWords}
 use Rattle.tz_cli.specs.Dis.{DisWords}
-use Rattle.tz_cli.specs.Commands.{Command, Run, Asm, Dis, command_of, longest, names_of}
+use Rattle.tz_cli.specs.Commands.{Command, Run, Pair, Asm, Dis, command_of, longest, names_of}
 use Rattle.tz_cli.proofs.FileNames.{names_of-longest}
 use Rattle.tz_cli.specs.declared.stops.LoadError.{LoadError}
 use Rattle.tz_cli.specs.declared.stops.LoadError.TheVariants.{Unread, Long, Board, Image, Script, Source, Memory}
 use Rattle.tz_cli.specs.declared.stops.File.{File}
 use Rattle.tz_cli.specs.declared.stops.File.TheVariants as files
-use Rattle.tz_cli.specs.Told.{Stop, BadWords, TooManySteps, TooLong, BadBoard, BadImage, BadScript, BadSource, Told, Unknown, Stops, Gives, told_then, Start, Job, Task, run_task, asm_task, dis_task, told, IsDone, start_told, job_told, source_told, listed_told, step_limit}
+use Rattle.tz_cli.specs.Told.{Stop, BadWords, TooManySteps, TooLong, BadBoard, BadImage, BadScript, BadSource, Told, Unknown, Stops, Gives, told_then, Start, Job, Task, run_task, PairStart, PairJob, pair_task, pair_told, pair_start_told, asm_task, dis_task, told, IsDone, start_told, job_told, source_told, listed_told, step_limit}
 use Rattle.tz_cli.specs.Told as stops
 use Rattle.tz_cli.specs.Reads.{Form, AsImage, Reading, reads_of, IsOneOf}
 use Rattle.tz_cli.specs.Lines.{stop_line, status_of}
 use Rattle.tz_cli.specs.Answer.{Allows, AllowsStop, Shelved, IsSettled, IsCaused, IsLine, Call, told_of, GainsFront, Exceeds, IsTold, Answer, Done, Broken, Stopped, Wanting, Silent}
-use Rattle.tz_cli.specs.Faults.{AllowsRefusal, IsFault, IsReached, IsListed, IsSource, Names, run_files, asm_files, dis_files, list_of, form_of, name_in, image_refusal, source_refusal, stop_of, stop_with, line_with, status_with}
-use Rattle.tz_cli.proofs.Reached.{is_read, is_listed, is_assembled}
+use Rattle.tz_cli.specs.Faults.{AllowsRefusal, IsFault, IsReached, IsPaired, IsListed, IsSource, Names, run_files, pair_files, asm_files, dis_files, list_of, form_of, name_in, image_refusal, source_refusal, stop_of, stop_with, line_with, status_with}
+use Rattle.tz_cli.proofs.Reached.{is_read, is_paired, is_listed, is_assembled}
 use Rattle.tz_board.specs.BoardErrors.{refusal_of}
 use Rattle.tz_board.specs.ScriptErrors.{script_refusal_of}
 
@@ -115,10 +120,14 @@ steps_settled : (s : Shelved) (r : RunWords) → step_limit < r.steps → IsSett
 steps_settled s r l =
     (then_stop (job_told s.held r) _ TooManySteps (many_cond (λ (t : Told Job). AllowsStop t TooManySteps) (nat_lt step_limit r.steps) (Stops TooManySteps) _ (past step_limit r.steps l) refl), tt)
 
+answer_settled : (c : Call) (result : ℕ) (command : Command) → c.command ≡ Some command → IsSettled (Some command) c.shelf TooManySteps → Gains c.out_old c.out_new [] → 64 ≤ c.room
+    → IsRefused c result (codes "limit steps\n") 6 → Answer c result
+answer_settled c result command e settled quiet short h =
+    answer_stop c result TooManySteps (subst (λ (o : Option Command). IsSettled o c.shelf TooManySteps) (sym e) settled) quiet (omega arith) h
+
 pub answer_steps : (c : Call) (result : ℕ) (r : RunWords) → c.command ≡ Some (Run r) → step_limit < r.steps → Gains c.out_old c.out_new [] → 64 ≤ c.room
     → IsRefused c result (codes "limit steps\n") 6 → Answer c result
-answer_steps c result r e l quiet short h =
-    answer_stop c result TooManySteps (subst (λ (o : Option Command). IsSettled o c.shelf TooManySteps) (sym e) (steps_settled c.shelf r l)) quiet (omega arith) h
+answer_steps c result r e l quiet short h = answer_settled c result (Run r) e (steps_settled c.shelf r l) quiet short h
 
 -- ---- a fault of a command's files
 
@@ -211,12 +220,12 @@ answer_cut c task room error allowed put rose same =
     (subst (λ (x : Option (List ℕ)). Gains c.err_old x []) (sym same) (gains_nothing c.err_old))
 
 -- a text that is put whole is told, and one that isn't is cut
-pub told_put : (old new : Option (List ℕ)) (space room : Option ℕ) (text : List ℕ) (before now : ℕ) → Put old new space room text (Ok tt) → IsTold 0 text 0 old new space before now
-told_put old new space room text before now put = inl (refl, subst (λ (x : List ℕ). Gains old new x) put.whole put.written)
+pub told_put : (old new : Option (List ℕ)) (space room : Option ℕ) (text : List ℕ) (status before now : ℕ) → Put old new space room text (Ok tt) → IsTold status text status old new space before now
+told_put old new space room text status before now put = inl (refl, subst (λ (x : List ℕ). Gains old new x) put.whole put.written)
 
-pub told_cut : (old new : Option (List ℕ)) (space room : Option ℕ) (text : List ℕ) (before now : ℕ) (error : SinkError)
-    → Put old new space room text (Err error) → Rose before now → IsTold 4 text 0 old new space before now
-told_cut old new space room text before now error put rose =
+pub told_cut : (old new : Option (List ℕ)) (space room : Option ℕ) (text : List ℕ) (status before now : ℕ) (error : SinkError)
+    → Put old new space room text (Err error) → Rose before now → IsTold 4 text status old new space before now
+told_cut old new space room text status before now error put rose =
     inr (refl, rose, unfit space (length text) error put.fits, record { gained = put.gained; rest = put.front.0; front = put.front.1; gains = put.written })
 
 -- a task whose text is told is answered by its status
@@ -238,6 +247,70 @@ run_loads c r e l = record {
       (is_read c.shelf.held r file reached);
   stops = λ stop h. run_of_stop c.shelf.held r stop l h;
 }
+
+-- ---- the pair
+
+pair_of_stop : (held : List ℕ → Held) (p : PairWords) (stop : Stop) → p.steps ≤ step_limit → AllowsStop (pair_start_told held p) stop → AllowsStop (told held (Some (Pair p))) stop
+pair_of_stop held p stop l h =
+    then_stop (pair_told held p) _ stop
+    (within_cond (λ (t : Told PairJob). AllowsStop t stop) (nat_lt step_limit p.steps) _ _ (fits step_limit p.steps l) (then_stop (pair_start_told held p) _ stop h))
+
+pub pair_of_start : (held : List ℕ → Held) (p : PairWords) (start : PairStart) → p.steps ≤ step_limit → Allows (pair_start_told held p) start
+    → Allows (told held (Some (Pair p))) (pair_task (record { words = p; start = start }))
+pair_of_start held p start l h =
+    then_gives pair_task (pair_told held p) (record { words = p; start = start })
+    (within_cond (λ (t : Told PairJob). Allows t (record { words = p; start = start })) (nat_lt step_limit p.steps) _ _ (fits step_limit p.steps l)
+    (then_gives (λ (s : PairStart). record { words = p; start = s }) (pair_start_told held p) start h))
+
+pair_steps_settled : (s : Shelved) (p : PairWords) → step_limit < p.steps → IsSettled (Some (Pair p)) s TooManySteps
+pair_steps_settled s p l =
+    (then_stop (pair_told s.held p) _ TooManySteps (many_cond (λ (t : Told PairJob). AllowsStop t TooManySteps) (nat_lt step_limit p.steps) (Stops TooManySteps) _ (past step_limit p.steps l) refl), tt)
+
+pub answer_pair_steps : (c : Call) (result : ℕ) (p : PairWords) → c.command ≡ Some (Pair p) → step_limit < p.steps → Gains c.out_old c.out_new [] → 64 ≤ c.room
+    → IsRefused c result (codes "limit steps\n") 6 → Answer c result
+answer_pair_steps c result p e l quiet short h = answer_settled c result (Pair p) e (pair_steps_settled c.shelf p l) quiet short h
+
+-- how the files of a pair settle it, within the limit of steps
+pub pair_loads : (c : Call) (p : PairWords) → c.command ≡ Some (Pair p) → p.steps ≤ step_limit → Loads c (pair_files p) (IsPaired c.shelf.held p) (pair_start_told c.shelf.held p)
+pair_loads c p e l = record {
+  command = Pair p;
+  is = e;
+  read = λ file reached. within_cond (λ (readings : List Reading). IsOneOf readings (record { name = name_in (pair_files p) file; form = form_of file })) (nat_lt step_limit p.steps) [] _ (fits step_limit p.steps l)
+      (is_paired c.shelf.held p file reached);
+  stops = λ stop h. pair_of_stop c.shelf.held p stop l h;
+}
+
+-- a line that is put whole is told with its status
+line_told : (old new : Option (List ℕ)) (space room : Option ℕ) (steps : ℕ) (found : Option (ℕ × What)) (agreed : Bool) (before now : ℕ) → agreed ≡ is_agreed found
+    → Put old new space room (pair_line steps found) (Ok tt) → IsTold (cond agreed 0 1) (pair_line steps found) (pair_status found) old new space before now
+line_told old new space room steps None true before now is put = told_put old new space room (agree_line steps) 0 before now put
+line_told old new space room steps None false before now is put = absurd (cc is)
+line_told old new space room steps (Some found) true before now is put = absurd (cc is)
+line_told old new space room steps (Some found) false before now is put = told_put old new space room (differ_line found.0 found.1) 1 before now put
+
+-- what the runs of a pair differ in first
+abbrev found_in : Events → PairValue → ℕ → Option (ℕ × What)
+found_in events p steps = difference events 0 p.first p.second steps
+
+-- the same of a pair as it starts
+pub pair_told_put : (old new : Option (List ℕ)) (space room : Option ℕ) (events : Events) (steps : ℕ) (p q : PairValue) (agreed : Bool) (before now : ℕ) → p ≡ q
+    → agreed ≡ is_agreed (difference events 0 p.first p.second steps) → Put old new space room (pair_line steps (difference events 0 p.first p.second steps)) (Ok tt)
+    → IsTold (cond agreed 0 1) (pair_line steps (difference events 0 q.first q.second steps)) (pair_status (difference events 0 q.first q.second steps)) old new space before now
+pair_told_put old new space room events steps p q agreed before now same is put =
+    line_told old new space room steps (found_in events q steps) agreed before now (subst (λ (x : PairValue). agreed ≡ is_agreed (found_in events x steps)) same is)
+    (subst (λ (x : PairValue). Put old new space room (pair_line steps (found_in events x steps)) (Ok tt)) same put)
+
+pub pair_told_cut : (old new : Option (List ℕ)) (space room : Option ℕ) (events : Events) (steps : ℕ) (p q : PairValue) (before now : ℕ) (error : SinkError) → p ≡ q
+    → Put old new space room (pair_line steps (difference events 0 p.first p.second steps)) (Err error) → Rose before now
+    → IsTold 4 (pair_line steps (difference events 0 q.first q.second steps)) (pair_status (difference events 0 q.first q.second steps)) old new space before now
+pair_told_cut old new space room events steps p q before now error same put rose =
+    told_cut old new space room (pair_line steps (found_in events q steps)) (pair_status (found_in events q steps)) before now error
+    (subst (λ (x : PairValue). Put old new space room (pair_line steps (found_in events x steps)) (Err error)) same put) rose
+
+-- its statuses
+pub pair_done : (found : Option (ℕ × What)) → (pair_status found ≡ 0) ⊎ (pair_status found ≡ 1)
+pair_done None = inl refl
+pair_done (Some found) = inr refl
 
 -- ---- the assembly
 

@@ -41,5 +41,6 @@ name_within n file part is = rw is (by_file file)
     by_file files.Board = omega arith
     by_file files.First = omega arith
     by_file files.Second = omega arith
+    by_file files.Third = omega arith
     by_file files.Script = omega arith
     by_file files.Source = omega arith

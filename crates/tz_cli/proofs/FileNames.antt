@@ -7,10 +7,11 @@ use Rattle.tz_cli.specs.Parts.{Text, Look, EndsOptions, Named, NamedWith, Refuse
 use Rattle.tz_cli.specs.Counts.{count_of}
 use Rattle.tz_table.specs.declared.units.Side.{Side}
 use Rattle.tz_cli.specs.Run.{RunWords, run_behind, run_names, run_parts, run_with, view_of}
+use Rattle.tz_cli.specs.Pair.{PairWords, pair_behind, pair_names, pair_parts, pair_with}
 use Rattle.tz_cli.specs.Asm.{AsmWords, asm_behind, asm_names, asm_parts, asm_with, form_of}
 use Rattle.tz_cli.specs.declared.words.asm.Form.{Form}
 use Rattle.tz_cli.specs.Dis.{DisWords, dis_behind, dis_names, dis_parts, dis_with, side_named}
-use Rattle.tz_cli.specs.Commands.{Command, Run, Asm, Dis, command_behind, command_of, longest, names_of}
+use Rattle.tz_cli.specs.Commands.{Command, Run, Pair, Asm, Dis, command_behind, command_of, longest, names_of}
 
 -- no positional word is longer than a bound
 abbrev pub Within : ℕ → Option Parts → Type 0
@@ -64,6 +65,28 @@ names_behind : (words : List Text) (o : Option Parts) (r : RunWords) → Within 
 names_behind words None r h e = absurd (cc)
 names_behind words (Some p) r h e = let l = names_in (view_of p.values) p.positionals r e in omega arith
 
+-- so are those of a pair
+pair_names_in : (values words : List Text) (p : PairWords) → pair_with values words ≡ Some p → longest (pair_names p) ≤ longest words
+pair_names_in (v ∷ values) words p e = absurd (cc)
+pair_names_in [] [] p e = absurd (cc)
+pair_names_in [] (a ∷ []) p e = absurd (cc)
+pair_names_in [] (a ∷ b ∷ []) p e = absurd (cc)
+pair_names_in [] (a ∷ b ∷ c ∷ []) p e = absurd (cc)
+pair_names_in [] (a ∷ b ∷ c ∷ d ∷ []) p e = absurd (cc)
+pair_names_in [] (a ∷ b ∷ c ∷ d ∷ f ∷ []) p e = absurd (cc)
+pair_names_in [] (a ∷ b ∷ c ∷ d ∷ f ∷ w ∷ x ∷ more) p e = absurd (cc)
+pair_names_in [] (a ∷ b ∷ c ∷ d ∷ f ∷ w ∷ []) p e = go (count_of w) e where
+  go : (o : Option ℕ) → option_map {T = ℕ} {U = PairWords} (λ n. record { board = a; first = b; second = c; nonsecure = d; script = f; steps = n }) o ≡ Some p
+      → longest (pair_names p) ≤ longest (a ∷ b ∷ c ∷ d ∷ f ∷ w ∷ [])
+  go None h = absurd (cc)
+  go (Some n) h =
+      let same : ◌≡◌ {A = PairWords} (record { board = a; first = b; second = c; nonsecure = d; script = f; steps = n }) p = cc in
+      subst (λ (x : PairWords). longest (pair_names x) ≤ longest (a ∷ b ∷ c ∷ d ∷ f ∷ w ∷ [])) same (omega arith)
+
+pair_names_behind : (words : List Text) (o : Option Parts) (p : PairWords) → Within (longest words) o → option_and_then pair_parts o ≡ Some p → longest (pair_names p) ≤ longest words
+pair_names_behind words None p h e = absurd (cc)
+pair_names_behind words (Some parts) p h e = let l = pair_names_in parts.values parts.positionals p e in omega arith
+
 -- so is that of an assembly
 asm_names_in : (form : Option Form) (words : List Text) (a : AsmWords) → asm_with form words ≡ Some a → longest (asm_names a) ≤ longest words
 asm_names_in None words a e = absurd (cc)
@@ -114,11 +137,18 @@ names_command name words command e = is_run (bytes_eq name (codes "run")) e wher
   is_asm true h = names_made Asm words (asm_behind words) command (λ a. asm_names_behind words (parts_of (codes "form") AnyWord words) a (within_parts (codes "form") AnyWord words)) h
   is_asm false h = is_dis (bytes_eq name (codes "dis")) h
 
-  is_run : (is : Bool) → cond is (option_map Run (run_behind words))
+  is_pair : (is : Bool) → cond is (option_map Pair (pair_behind words))
       (cond (bytes_eq name (codes "asm")) (option_map Asm (asm_behind words)) (cond (bytes_eq name (codes "dis")) (option_map Dis (dis_behind words)) None)) ≡ Some command
       → longest (names_of command) ≤ longest words
+  is_pair true h = names_made Pair words (pair_behind words) command (λ p. pair_names_behind words (parts_of [] AnyWord words) p (within_parts [] AnyWord words)) h
+  is_pair false h = is_asm (bytes_eq name (codes "asm")) h
+
+  is_run : (is : Bool) → cond is (option_map Run (run_behind words))
+      (cond (bytes_eq name (codes "pair")) (option_map Pair (pair_behind words))
+      (cond (bytes_eq name (codes "asm")) (option_map Asm (asm_behind words)) (cond (bytes_eq name (codes "dis")) (option_map Dis (dis_behind words)) None))) ≡ Some command
+      → longest (names_of command) ≤ longest words
   is_run true h = names_made Run words (run_behind words) command (λ r. names_behind words (parts_of (codes "view") AnyWord words) r (within_parts (codes "view") AnyWord words)) h
-  is_run false h = is_asm (bytes_eq name (codes "asm")) h
+  is_run false h = is_pair (bytes_eq name (codes "pair")) h
 
 -- a command's names are among the words
 pub names_of-longest : (words : List Text) (command : Command) → command_of words ≡ Some command → longest (names_of command) ≤ longest words

@@ -6,10 +6,12 @@ pub mod WordValues
 pub mod WordAnswers
 pub mod Numbers
 pub mod Choices
-pub mod Sides
+pub mod NoOption
 pub mod FaultLines
 pub mod FileNames
+pub mod Differences
 pub mod Clauses
+pub mod PairClauses
 pub mod Exits
 pub mod Reached
 pub mod Stages

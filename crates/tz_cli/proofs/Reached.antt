@@ -1,20 +1,22 @@
--- The files of a run that are read.
+-- The files of a command that are read.
 use Rattle.std.proofs.Common.{◌≡◌, ◌⊎◌, inl, inr, ℕ, ◌&&◌, not, Bool, true, false, cond, List, [], Option, Some, None, refl, ap, ◌∙◌}
 use Rattle.std.specs.Prelude.{nat_lt}
 use Rattle.std.proofs.lemmas.Bool.{and_parts}
 use Rattle.tz_table.specs.declared.units.Side.{Side}
 use Rattle.tz_table.specs.declared.units.Side.TheVariants as sides
 use Rattle.tz_model.specs.Board.{BoardValue}
+use Rattle.tz_model.specs.Image.{ImageValue}
 use Rattle.tz_model.specs.Outside.{Held, Absent}
 use Rattle.tz_cli.specs.Run.{RunWords}
+use Rattle.tz_cli.specs.Pair.{PairWords}
 use Rattle.tz_cli.specs.Asm.{AsmWords}
 use Rattle.tz_cli.specs.Dis.{DisWords}
-use Rattle.tz_cli.specs.Commands.{Command, Run, Asm, Dis}
+use Rattle.tz_cli.specs.Commands.{Command, Run, Pair, Asm, Dis}
 use Rattle.tz_cli.specs.declared.stops.File.{File}
-use Rattle.tz_cli.specs.declared.stops.File.TheVariants.{Board, First, Second, Script, Source}
-use Rattle.tz_cli.specs.Told.{Stop, TooManySteps, Unread, Told, Unknown, Stops, Gives, told_then, Job, told, is_demo, is_none_script, board_told, board_file, image_told, script_told, script_file, secure_told, nonsecure_told, start_told, job_told, source_told, listed_told, step_limit}
-use Rattle.tz_cli.specs.Reads.{Form, AsBoard, AsImage, AsScript, AsSource, Reading, goes_on, read_where, run_reads, dis_reads, reads_of, IsOneOf}
-use Rattle.tz_cli.specs.Faults.{IsReached, IsListed, IsSource, run_files, asm_files, dis_files, form_of, name_in}
+use Rattle.tz_cli.specs.declared.stops.File.TheVariants.{Board, First, Second, Third, Script, Source}
+use Rattle.tz_cli.specs.Told.{Stop, TooManySteps, Unread, Told, Unknown, Stops, Gives, told_then, Job, told, is_demo, is_none_script, board_told, board_file, image_told, script_told, script_file, secure_told, nonsecure_told, start_told, PairJob, first_told, second_told, third_told, pair_start_told, pair_told, job_told, source_told, listed_told, step_limit}
+use Rattle.tz_cli.specs.Reads.{Form, AsBoard, AsImage, AsScript, AsSource, Reading, goes_on, read_where, run_reads, pair_reads, dis_reads, reads_of, IsOneOf}
+use Rattle.tz_cli.specs.Faults.{IsReached, IsPaired, IsListed, IsSource, run_files, pair_files, asm_files, dis_files, form_of, name_in}
 
 here : (b : Bool) (name : List ℕ) (form : Form) (readings : List Reading) → b ≡ true → IsOneOf (read_where b name form readings) (record { name = name; form = form })
 here false name form readings e = absurd (cc)
@@ -44,6 +46,7 @@ is_read held r First h =
     later (not (is_demo r.board)) r.board AsBoard _ _ (here (goes_on (board_told held r.board)) r.secure AsImage _ h)
 is_read held r Second h =
     later (not (is_demo r.board)) r.board AsBoard _ _ (later (goes_on (board_told held r.board)) r.secure AsImage _ _ (here (goes_on (secure_told held r)) r.nonsecure AsImage _ h))
+is_read held r Third h = absurd h
 is_read held r Script h =
     later (not (is_demo r.board)) r.board AsBoard _ _ (later (goes_on (board_told held r.board)) r.secure AsImage _ _
     (later (goes_on (secure_told held r)) r.nonsecure AsImage _ _
@@ -151,6 +154,7 @@ absent_start held r Second e reached =
     never_nonsecure held r (never_after (secure_told held r) _ (λ p.
     never_then (image_told held p.board sides.NonSecure r.nonsecure) _
     (never_stops (image_told held p.board sides.NonSecure r.nonsecure) (Unread r.nonsecure) (absent_image held p.board sides.NonSecure r.nonsecure e))))
+absent_start held r Third e reached = absurd reached
 absent_start held r Script e reached =
     never_after (nonsecure_told held r) _ (λ p.
     never_then (script_told held p.board.interrupts r.script) _
@@ -167,12 +171,76 @@ absent_run held r name form false e h =
     let absent : held (name_in (run_files r) reached.file) ≡ Absent = ap held reached.named ∙ e in
     never_then (start_told held r) _ (absent_start held r reached.file absent reached.reached)
 
+-- ---- the files of a pair
+
+-- what is reached is read
+pub is_paired : (held : List ℕ → Held) (p : PairWords) (file : File) → IsPaired held p file → IsOneOf (pair_reads held p) (record { name = name_in (pair_files p) file; form = form_of file })
+is_paired held p Board h = here (not (is_demo p.board)) p.board AsBoard _ (not_false (is_demo p.board) h)
+is_paired held p First h =
+    later (not (is_demo p.board)) p.board AsBoard _ _ (here (goes_on (board_told held p.board)) p.first AsImage _ h)
+is_paired held p Second h =
+    later (not (is_demo p.board)) p.board AsBoard _ _ (later (goes_on (board_told held p.board)) p.first AsImage _ _ (here (goes_on (first_told held p)) p.second AsImage _ h))
+is_paired held p Third h =
+    later (not (is_demo p.board)) p.board AsBoard _ _ (later (goes_on (board_told held p.board)) p.first AsImage _ _
+    (later (goes_on (first_told held p)) p.second AsImage _ _ (here (goes_on (second_told held p)) p.nonsecure AsImage _ h)))
+is_paired held p Script h =
+    later (not (is_demo p.board)) p.board AsBoard _ _ (later (goes_on (board_told held p.board)) p.first AsImage _ _
+    (later (goes_on (first_told held p)) p.second AsImage _ _ (later (goes_on (second_told held p)) p.nonsecure AsImage _ _
+    (here (not (is_none_script p.script) && goes_on (third_told held p)) p.script AsScript []
+    (both (not (is_none_script p.script)) (goes_on (third_told held p)) (not_false (is_none_script p.script) h.0) h.1)))))
+is_paired held p Source h = absurd h
+
+-- a file is the first of these, where that is read, or one of the others
+by_place : (b : Bool) (name : List ℕ) (form : Form) (readings : List Reading) (reading : Reading) (Q : Type 0)
+    → (b ≡ true → name ≡ reading.name → Q) → (IsOneOf readings reading → Q) → IsOneOf (read_where b name form readings) reading → Q
+by_place false name form readings reading Q first other h = other h
+by_place true name form readings reading Q first other (inl e) = first refl (ap (λ (x : Reading). x.name) e)
+by_place true name form readings reading Q first other (inr h) = other h
+
+never_third : (held : List ℕ → Held) (p : PairWords) → NeverGives (third_told held p) → NeverGives (pair_start_told held p)
+never_third held p h = never_then (third_told held p) _ h
+
+never_second : (held : List ℕ → Held) (p : PairWords) → NeverGives (second_told held p) → NeverGives (pair_start_told held p)
+never_second held p h = never_third held p (never_then (second_told held p) _ h)
+
+never_first : (held : List ℕ → Held) (p : PairWords) → NeverGives (first_told held p) → NeverGives (pair_start_told held p)
+never_first held p h = never_second held p (never_then (first_told held p) _ h)
+
+never_image : {C : Type 0} (held : List ℕ → Held) (b : BoardValue) (side : Side) (name : List ℕ) (next : ImageValue → Told C) → held name ≡ Absent
+    → NeverGives (told_then (image_told held b side name) next)
+never_image held b side name next e = never_then (image_told held b side name) next (never_stops (image_told held b side name) (Unread name) (absent_image held b side name e))
+
+-- an absent file that is read settles no start
+absent_paired : (held : List ℕ → Held) (p : PairWords) (reading : Reading) → held reading.name ≡ Absent → IsOneOf (pair_reads held p) reading → NeverGives (pair_start_told held p)
+absent_paired held p reading e =
+    by_place (not (is_demo p.board)) p.board AsBoard _ reading _
+    (λ is named. never_first held p (never_then (board_told held p.board) _
+    (never_stops (board_told held p.board) (Unread p.board) (absent_board held p.board (ap held named ∙ e) (false_not (is_demo p.board) is)))))
+    (by_place (goes_on (board_told held p.board)) p.first AsImage _ reading _
+    (λ is named. never_first held p (never_after (board_told held p.board) _ (λ b. never_image held b sides.Secure p.first _ (ap held named ∙ e))))
+    (by_place (goes_on (first_told held p)) p.second AsImage _ reading _
+    (λ is named. never_second held p (never_after (first_told held p) _ (λ s. never_image held s.board sides.Secure p.second _ (ap held named ∙ e))))
+    (by_place (goes_on (second_told held p)) p.nonsecure AsImage _ reading _
+    (λ is named. never_third held p (never_after (second_told held p) _ (λ s. never_image held s.board sides.NonSecure p.nonsecure _ (ap held named ∙ e))))
+    (by_place (not (is_none_script p.script) && goes_on (third_told held p)) p.script AsScript [] reading _
+    (λ is named. never_after (third_told held p) _ (λ s. never_then (script_told held s.board.interrupts p.script) _
+    (never_stops (script_told held s.board.interrupts p.script) (Unread p.script)
+    (absent_script held s.board.interrupts p.script (ap held named ∙ e) (false_not (is_none_script p.script) (and_parts (not (is_none_script p.script)) (goes_on (third_told held p)) is).0)))))
+    (λ h. absurd h)))))
+
+-- within the limit of steps, and past it
+absent_pair : (held : List ℕ → Held) (p : PairWords) (reading : Reading) (many : Bool) → held reading.name ≡ Absent → IsOneOf (cond many [] (pair_reads held p)) reading
+    → NeverGives {A = PairJob} (cond many (Stops TooManySteps) (told_then (pair_start_told held p) (λ start. Gives (record { words = p; start = start }))))
+absent_pair held p reading true e h = absurd h
+absent_pair held p reading false e h = never_then (pair_start_told held p) _ (absent_paired held p reading e h)
+
 -- ---- the file of an assembly
 
 pub is_assembled : (held : List ℕ → Held) (a : AsmWords) (file : File) → IsSource file → IsOneOf (reads_of held (Some (Asm a))) (record { name = name_in (asm_files a) file; form = form_of file })
 is_assembled held a Board h = absurd h
 is_assembled held a First h = absurd h
 is_assembled held a Second h = absurd h
+is_assembled held a Third h = absurd h
 is_assembled held a Script h = absurd h
 is_assembled held a Source h = inl refl
 
@@ -192,6 +260,7 @@ pub is_listed : (held : List ℕ → Held) (d : DisWords) (file : File) → IsLi
 is_listed held d Board h = here (not (is_demo d.board)) d.board AsBoard _ (not_false (is_demo d.board) h)
 is_listed held d First h = later (not (is_demo d.board)) d.board AsBoard _ _ (here (goes_on (board_told held d.board)) d.image AsImage [] h)
 is_listed held d Second h = absurd h
+is_listed held d Third h = absurd h
 is_listed held d Script h = absurd h
 is_listed held d Source h = absurd h
 
@@ -213,6 +282,8 @@ pub absent_task : (held : List ℕ → Held) (o : Option Command) (name : List �
     → NeverGives (told held o)
 absent_task held None name form e h = absurd h
 absent_task held (Some (Run r)) name form e h = never_then (job_told held r) _ (absent_run held r name form (nat_lt step_limit r.steps) e h)
+absent_task held (Some (Pair p)) name form e h =
+    never_then (pair_told held p) _ (absent_pair held p (record { name = name; form = form }) (nat_lt step_limit p.steps) e h)
 absent_task held (Some (Asm a)) name form e h =
     never_then (source_told held a.source) _ (absent_assembled held a (record { name = name; form = form }) e h)
 absent_task held (Some (Dis d)) name form e h =

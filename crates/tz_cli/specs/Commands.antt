@@ -3,6 +3,7 @@ use Rattle.std.specs.Prelude.{ℕ, List, [], ◌∷◌, length, max, Option, Non
 use Rattle.std.specs.Str.{bytes_eq}
 use Rattle.tz_cli.specs.Parts.{Text}
 use Rattle.tz_cli.specs.Run.{RunWords, run_behind, run_in, run_names}
+use Rattle.tz_cli.specs.Pair.{PairWords, pair_behind, pair_in, pair_names}
 use Rattle.tz_cli.specs.Asm.{AsmWords, asm_behind, asm_in, asm_names}
 use Rattle.tz_cli.specs.Dis.{DisWords, dis_behind, dis_in, dis_names}
 use Rattle.tz_cli.specs.declared.words.Command.{Command as ReadCommand}
@@ -11,12 +12,14 @@ use Rattle.tz_cli.specs.declared.words.Command.TheVariants as read
 -- a command with what its words say
 pub data Command : Type 0 where
   Run : RunWords → Command
+  Pair : PairWords → Command
   Asm : AsmWords → Command
   Dis : DisWords → Command
 
 -- what the program read, as such a command
 abbrev pub command_in : ReadCommand → Command
 command_in (read.Run words) = Run (run_in words)
+command_in (read.Pair words) = Pair (pair_in words)
 command_in (read.Asm words) = Asm (asm_in words)
 command_in (read.Dis words) = Dis (dis_in words)
 
@@ -24,6 +27,7 @@ command_in (read.Dis words) = Dis (dis_in words)
 abbrev pub command_behind : Text → List Text → Option Command
 command_behind command words =
     if bytes_eq command (codes "run") then option_map Run (run_behind words)
+    else if bytes_eq command (codes "pair") then option_map Pair (pair_behind words)
     else if bytes_eq command (codes "asm") then option_map Asm (asm_behind words)
     else if bytes_eq command (codes "dis") then option_map Dis (dis_behind words)
     else None
@@ -36,6 +40,7 @@ command_of _ = None
 -- the names of files, in the order of the words
 abbrev pub names_of : Command → List Text
 names_of (Run r) = run_names r
+names_of (Pair p) = pair_names p
 names_of (Asm a) = asm_names a
 names_of (Dis d) = dis_names d
 

@@ -14,8 +14,10 @@ use Rattle.tz_cli.specs.declared.stops.File.TheVariants as files
 use Rattle.tz_cli.specs.declared.stops.LoadError.{LoadError}
 use Rattle.tz_cli.specs.declared.stops.LoadError.TheVariants.{Unread, Long, Board, Image, Script, Source, Memory}
 use Rattle.tz_cli.specs.declared.files.Files.{Files}
+use Rattle.tz_cli.specs.declared.files.PairFiles.{PairFiles}
 use Rattle.tz_cli.specs.declared.stops.FileNames.{FileNames}
 use Rattle.tz_cli.specs.Run.{RunWords}
+use Rattle.tz_cli.specs.Pair.{PairWords}
 use Rattle.tz_cli.specs.Asm.{AsmWords}
 use Rattle.tz_cli.specs.Dis.{DisWords}
 use Rattle.tz_asm.specs.Refusals.{Refusal as AsmRefusal}
@@ -24,7 +26,7 @@ use Rattle.tz_asm.specs.declared.error.AsmError.{AsmError}
 use Rattle.tz_asm.specs.declared.error.AsmError.TheVariants as asm_errors
 use Rattle.tz_cli.specs.Lines.{stop_line, status_of}
 use Rattle.tz_cli.specs.Told as stops
-use Rattle.tz_cli.specs.Told.{Stop, Told, Start, TooLong, BadBoard, BadImage, BadScript, BadSource, is_demo, is_none_script, board_told, secure_told, nonsecure_told}
+use Rattle.tz_cli.specs.Told.{Stop, Told, Start, PairStart, TooLong, BadBoard, BadImage, BadScript, BadSource, is_demo, is_none_script, board_told, secure_told, nonsecure_told, first_told, second_told, third_told}
 use Rattle.tz_cli.specs.Reads.{Form, AsBoard, AsImage, AsScript, AsSource, goes_on}
 use Rattle.tz_cli.specs.Answer.{Shelved, AllowsStop}
 
@@ -69,31 +71,36 @@ pub record Names : Type 0 where
   pub board : List ℕ
   pub first : List ℕ
   pub second : List ℕ
+  pub third : List ℕ
   pub script : List ℕ
   pub source : List ℕ
 
 -- what the program has, as such names
 abbrev pub names_read : FileNames → Names
-names_read n = record { board = n.board.now; first = n.first.now; second = n.second.now; script = n.script.now; source = n.source.now }
+names_read n = record { board = n.board.now; first = n.first.now; second = n.second.now; third = n.third.now; script = n.script.now; source = n.source.now }
 
 abbrev pub run_files : RunWords → Names
-run_files r = record { board = r.board; first = r.secure; second = r.nonsecure; script = r.script; source = [] }
+run_files r = record { board = r.board; first = r.secure; second = r.nonsecure; third = []; script = r.script; source = [] }
+
+abbrev pub pair_files : PairWords → Names
+pair_files p = record { board = p.board; first = p.first; second = p.second; third = p.nonsecure; script = p.script; source = [] }
 
 abbrev pub dis_files : DisWords → Names
-dis_files d = record { board = d.board; first = d.image; second = []; script = []; source = [] }
+dis_files d = record { board = d.board; first = d.image; second = []; third = []; script = []; source = [] }
 
 abbrev pub asm_files : AsmWords → Names
-asm_files a = record { board = []; first = []; second = []; script = []; source = a.source }
+asm_files a = record { board = []; first = []; second = []; third = []; script = []; source = a.source }
 
 -- the same as a list
 abbrev pub list_of : Names → List (List ℕ)
-list_of n = n.board ∷ n.first ∷ n.second ∷ n.script ∷ n.source ∷ []
+list_of n = n.board ∷ n.first ∷ n.second ∷ n.third ∷ n.script ∷ n.source ∷ []
 
 -- the name of a file, and what it is read as
 abbrev pub name_in : Names → File → List ℕ
 name_in n files.Board = n.board
 name_in n files.First = n.first
 name_in n files.Second = n.second
+name_in n files.Third = n.third
 name_in n files.Script = n.script
 name_in n files.Source = n.source
 
@@ -101,6 +108,7 @@ abbrev pub form_of : File → Form
 form_of files.Board = AsBoard
 form_of files.First = AsImage
 form_of files.Second = AsImage
+form_of files.Third = AsImage
 form_of files.Script = AsScript
 form_of files.Source = AsSource
 
@@ -109,14 +117,25 @@ abbrev pub IsReached : (List ℕ → Held) → RunWords → File → Type 0
 IsReached held r files.Board = is_demo r.board ≡ false
 IsReached held r files.First = goes_on (board_told held r.board) ≡ true
 IsReached held r files.Second = goes_on (secure_told held r) ≡ true
+IsReached held r files.Third = ⊥
 IsReached held r files.Script = (is_none_script r.script ≡ false) × (goes_on (nonsecure_told held r) ≡ true)
 IsReached held r files.Source = ⊥
+
+-- the same of a file of a pair
+abbrev pub IsPaired : (List ℕ → Held) → PairWords → File → Type 0
+IsPaired held p files.Board = is_demo p.board ≡ false
+IsPaired held p files.First = goes_on (board_told held p.board) ≡ true
+IsPaired held p files.Second = goes_on (first_told held p) ≡ true
+IsPaired held p files.Third = goes_on (second_told held p) ≡ true
+IsPaired held p files.Script = (is_none_script p.script ≡ false) × (goes_on (third_told held p) ≡ true)
+IsPaired held p files.Source = ⊥
 
 -- the same of a file of a disassembly
 abbrev pub IsListed : (List ℕ → Held) → DisWords → File → Type 0
 IsListed held d files.Board = is_demo d.board ≡ false
 IsListed held d files.First = goes_on (board_told held d.board) ≡ true
 IsListed held d files.Second = ⊥
+IsListed held d files.Third = ⊥
 IsListed held d files.Script = ⊥
 IsListed held d files.Source = ⊥
 
@@ -125,6 +144,7 @@ abbrev pub IsSource : File → Type 0
 IsSource files.Board = ⊥
 IsSource files.First = ⊥
 IsSource files.Second = ⊥
+IsSource files.Third = ⊥
 IsSource files.Script = ⊥
 IsSource files.Source = Unit {0}
 
@@ -179,3 +199,6 @@ status_with (Some stop) = status_of stop
 -- the files as a start
 abbrev pub start_in : Files → Start
 start_in f = record { board = f.board; secure = f.secure; nonsecure = f.nonsecure; script = f.script }
+
+abbrev pub pair_start_in : PairFiles → PairStart
+pair_start_in f = record { board = f.board; first = f.first; second = f.second; nonsecure = f.nonsecure; script = f.script }

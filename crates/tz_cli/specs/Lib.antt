@@ -4,9 +4,11 @@ pub mod Found
 pub mod Counts
 pub mod Choices
 pub mod Run
+pub mod Pair
 pub mod Asm
 pub mod Dis
 pub mod Commands
+pub mod PairLine
 pub mod Told
 pub mod Lines
 pub mod Reads

@@ -2,10 +2,11 @@
 use Rattle.std.specs.Prelude.{◌≡◌, ◌⊎◌, ℕ, nat_lt, ◌&&◌, Bool, true, false, not, if◌then◌else◌, List, [], ◌∷◌, Option, Some, None}
 use Rattle.tz_model.specs.Outside.{Held}
 use Rattle.tz_cli.specs.Run.{RunWords}
+use Rattle.tz_cli.specs.Pair.{PairWords}
 use Rattle.tz_cli.specs.Asm.{AsmWords}
 use Rattle.tz_cli.specs.Dis.{DisWords}
-use Rattle.tz_cli.specs.Commands.{Command, Run, Asm, Dis}
-use Rattle.tz_cli.specs.Told.{Stop, BadWords, TooManySteps, Unread, TooLong, BadBoard, BadImage, BadScript, BadSource, Told, Unknown, Stops, Gives, is_demo, is_none_script, board_told, secure_told, nonsecure_told, step_limit}
+use Rattle.tz_cli.specs.Commands.{Command, Run, Pair, Asm, Dis}
+use Rattle.tz_cli.specs.Told.{Stop, BadWords, TooManySteps, Unread, TooLong, BadBoard, BadImage, BadScript, BadSource, Told, Unknown, Stops, Gives, is_demo, is_none_script, board_told, secure_told, nonsecure_told, first_told, second_told, third_told, step_limit}
 
 -- nothing that is settled stops the command
 abbrev pub goes_on : {A : Type 0} → Told A → Bool
@@ -38,6 +39,15 @@ run_reads held r =
     (read_where (goes_on (secure_told held r)) r.nonsecure AsImage
     (read_where (not (is_none_script r.script) && goes_on (nonsecure_told held r)) r.script AsScript [])))
 
+-- the files of a pair, likewise
+abbrev pub pair_reads : (List ℕ → Held) → PairWords → List Reading
+pair_reads held p =
+    read_where (not (is_demo p.board)) p.board AsBoard
+    (read_where (goes_on (board_told held p.board)) p.first AsImage
+    (read_where (goes_on (first_told held p)) p.second AsImage
+    (read_where (goes_on (second_told held p)) p.nonsecure AsImage
+    (read_where (not (is_none_script p.script) && goes_on (third_told held p)) p.script AsScript []))))
+
 -- the file of an assembly
 abbrev pub asm_reads : AsmWords → List Reading
 asm_reads a = record { name = a.source; form = AsSource } ∷ []
@@ -52,6 +62,7 @@ dis_reads held d =
 abbrev pub reads_of : (List ℕ → Held) → Option Command → List Reading
 reads_of held None = []
 reads_of held (Some (Run r)) = if nat_lt step_limit r.steps then [] else run_reads held r
+reads_of held (Some (Pair p)) = if nat_lt step_limit p.steps then [] else pair_reads held p
 reads_of held (Some (Asm a)) = asm_reads a
 reads_of held (Some (Dis d)) = dis_reads held d
 

@@ -1,5 +1,5 @@
 -- What the words and a shelf's word settle: that a command stops, and why, or what it begins with.
-use Rattle.std.specs.Prelude.{◌≡◌, ℕ, nat_lt, Bool, if◌then◌else◌, List, [], length, codes, Option, Some, None, Result, Ok, Err}
+use Rattle.std.specs.Prelude.{◌≡◌, ◌⊎◌, ℕ, nat_lt, Bool, if◌then◌else◌, List, [], length, codes, Option, Some, None, Result, Ok, Err}
 use Rattle.std.specs.Str.{bytes_eq}
 use Rattle.tz_table.specs.declared.units.Side.{Side}
 use Rattle.tz_table.specs.declared.units.Side.TheVariants.{Secure, NonSecure}
@@ -12,6 +12,8 @@ use Rattle.tz_board.specs.Demo.{demo}
 use Rattle.tz_elf.specs.Images.{Refusal, image_of}
 use Rattle.tz_board.specs.Scripts.{Timed, ScriptRefusal, script_of}
 use Rattle.tz_twin.specs.Trace.{text_from}
+use Rattle.tz_iso.specs.declared.answer.What.{What}
+use Rattle.tz_iso.specs.Runs.{difference}
 use Rattle.tz_run.specs.Events.{events_of}
 use Rattle.tz_board.specs.Boards.{BoardRefusal, board_of}
 use Rattle.tz_text.specs.Text.{dis_text}
@@ -20,9 +22,11 @@ use Rattle.tz_elf.specs.ElfImage.{elf_bytes}
 use Rattle.tz_asm.specs.Refusals.{Refusal as AsmRefusal}
 use Rattle.tz_asm.specs.Told.{assembled}
 use Rattle.tz_cli.specs.Run.{RunWords}
+use Rattle.tz_cli.specs.Pair.{PairWords}
+use Rattle.tz_cli.specs.PairLine.{pair_line, pair_status}
 use Rattle.tz_cli.specs.Asm.{AsmWords}
 use Rattle.tz_cli.specs.Dis.{DisWords}
-use Rattle.tz_cli.specs.Commands.{Command, Run, Asm, Dis}
+use Rattle.tz_cli.specs.Commands.{Command, Run, Pair, Asm, Dis}
 use Rattle.tz_cli.specs.declared.words.asm.Form.{Form}
 use Rattle.tz_cli.specs.declared.words.asm.Form.TheVariants.{Hex, Elf}
 
@@ -141,6 +145,54 @@ state_of start = boot start.board start.secure start.nonsecure
 abbrev pub trace_of : Job → List ℕ
 trace_of job = text_from job.words.view (events_of job.start.script) 0 (state_of job.start) job.words.steps
 
+-- a board with two Secure images, the Non-secure one and a script
+pub record PairStart : Type 0 where
+  pub board : BoardValue
+  pub first : ImageValue
+  pub second : ImageValue
+  pub nonsecure : ImageValue
+  pub script : List Timed
+
+-- the files of a pair up to the first Secure image, to the second, and to the Non-secure one
+abbrev pub first_told : (List ℕ → Held) → PairWords → Told PairStart
+first_told held p =
+    told_then (board_told held p.board) (λ b. told_then (image_told held b Secure p.first) (λ i. Gives (record { board = b; first = i; second = no_image; nonsecure = no_image; script = [] })))
+
+abbrev pub second_told : (List ℕ → Held) → PairWords → Told PairStart
+second_told held p =
+    told_then (first_told held p) (λ s. told_then (image_told held s.board Secure p.second) (λ i. Gives (record s { second = i })))
+
+abbrev pub third_told : (List ℕ → Held) → PairWords → Told PairStart
+third_told held p =
+    told_then (second_told held p) (λ s. told_then (image_told held s.board NonSecure p.nonsecure) (λ i. Gives (record s { nonsecure = i })))
+
+-- the files of a pair, in the order of its words
+abbrev pub pair_start_told : (List ℕ → Held) → PairWords → Told PairStart
+pair_start_told held p =
+    told_then (third_told held p) (λ s. told_then (script_told held s.board.interrupts p.script) (λ events. Gives (record s { script = events })))
+
+-- a pair with what it begins with
+pub record PairJob : Type 0 where
+  pub words : PairWords
+  pub start : PairStart
+
+-- here, too, the limit of steps is tested before any file is read
+abbrev pub pair_told : (List ℕ → Held) → PairWords → Told PairJob
+pair_told held p =
+    if nat_lt step_limit p.steps then Stops TooManySteps
+    else told_then (pair_start_told held p) (λ start. Gives (record { words = p; start = start }))
+
+-- the two machines, as they start
+abbrev pub first_state : PairStart → State
+first_state start = boot start.board start.first start.nonsecure
+
+abbrev pub second_state : PairStart → State
+second_state start = boot start.board start.second start.nonsecure
+
+-- where the two runs first disagree, and in what
+abbrev pub difference_of : PairJob → Option (ℕ × What)
+difference_of job = difference (events_of job.start.script) 0 (first_state job.start) (second_state job.start) job.words.steps
+
 -- the segments of a source
 unfoldable pub source_told : (List ℕ → Held) → List ℕ → Told (List SegmentValue)
 source_told held name = told_then (file_with name source_limit (held name)) (λ bytes. graded (BadSource name) (assembled bytes))
@@ -160,6 +212,10 @@ pub record Task : Type 0 where
 abbrev pub run_task : Job → Task
 run_task job = record { text = trace_of job; status = 0 }
 
+-- a pair writes whether its runs agree, and where they first disagree
+abbrev pub pair_task : PairJob → Task
+pair_task job = record { text = pair_line job.words.steps (difference_of job); status = pair_status (difference_of job) }
+
 -- an assembly writes the image of its segments in a form
 abbrev pub image_bytes : Form → List SegmentValue → List ℕ
 image_bytes Hex segments = plain_text segments
@@ -176,6 +232,7 @@ dis_task image = record { text = dis_text image; status = 0 }
 abbrev pub told : (List ℕ → Held) → Option Command → Told Task
 told held None = Stops BadWords
 told held (Some (Run r)) = told_then (job_told held r) (λ job. Gives (run_task job))
+told held (Some (Pair p)) = told_then (pair_told held p) (λ job. Gives (pair_task job))
 told held (Some (Asm a)) = told_then (source_told held a.source) (λ segments. Gives (asm_task a.form segments))
 told held (Some (Dis d)) = told_then (listed_told held d) (λ image. Gives (dis_task image))
 
@@ -183,5 +240,6 @@ told held (Some (Dis d)) = told_then (listed_told held d) (λ image. Gives (dis_
 abbrev pub IsDone : Option Command → ℕ → Type 0
 IsDone None status = ⊥
 IsDone (Some (Run r)) status = status ≡ 0
+IsDone (Some (Pair p)) status = (status ≡ 0) ⊎ (status ≡ 1)
 IsDone (Some (Asm a)) status = status ≡ 0
 IsDone (Some (Dis d)) status = status ≡ 0

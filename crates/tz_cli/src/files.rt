@@ -8,13 +8,14 @@ ghost use Rattle.tz_cli.specs.declared.stops.LoadError.TheVariants as faults;
 ghost use Rattle.tz_cli.specs.Run.{run_in};
 ghost use Rattle.tz_cli.specs.Asm.{asm_in};
 ghost use Rattle.tz_cli.specs.Dis.{dis_in};
-ghost use Rattle.tz_cli.specs.Told.{file_with, board_told, image_told, script_told, source_told, start_told, listed_told, is_demo, is_none_script, TooLong};
+ghost use Rattle.tz_cli.specs.Pair.{pair_in};
+ghost use Rattle.tz_cli.specs.Told.{file_with, board_told, image_told, script_told, source_told, start_told, pair_start_told, listed_told, is_demo, is_none_script, TooLong};
 ghost use Rattle.tz_cli.specs.Reads.{AsImage};
 ghost use Rattle.tz_cli.specs.Answer.{Allows, AllowsStop};
-ghost use Rattle.tz_cli.specs.Faults.{form_of, name_in, names_read, run_files, asm_files, dis_files, unread_in, IsReached, IsListed, IsSource, IsStageFault, IsFault, start_in};
+ghost use Rattle.tz_cli.specs.Faults.{form_of, name_in, names_read, run_files, asm_files, dis_files, pair_files, unread_in, IsReached, IsListed, IsPaired, IsSource, IsStageFault, IsFault, start_in, pair_start_in};
 
 use crate::stops::{File, FileNames, LoadError};
-use crate::words::{AsmWords, DisWords, RunWords};
+use crate::words::{AsmWords, DisWords, PairWords, RunWords};
 use std::alloc::{AllocError, Global};
 use tz_asm::assemble;
 use tz_board::{Script, demo_board, read_board, read_script};
@@ -26,6 +27,16 @@ use tz_model::{Board, Image, Shelf, ShelfError, Side};
 pub struct Files {
     pub board: Board,
     pub secure: Image,
+    pub nonsecure: Image,
+    pub script: Script,
+}
+
+/// What the files of a pair give.
+#[derive(Drop)]
+pub struct PairFiles {
+    pub board: Board,
+    pub first: Image,
+    pub second: Image,
     pub nonsecure: Image,
     pub script: Script,
 }
@@ -50,6 +61,7 @@ pub fn name_of<'a>(names: &FileNames<'a>, file: File) -> &'a str
         File::Board => names.board,
         File::First => names.first,
         File::Second => names.second,
+        File::Third => names.third,
         File::Script => names.script,
         File::Source => names.source,
     }
@@ -63,6 +75,7 @@ pub fn names_of_run<'a>(words: &RunWords<'a>) -> FileNames<'a>
         board: words.board,
         first: words.secure,
         second: words.nonsecure,
+        third: "",
         script: words.script,
         source: "",
     }
@@ -76,7 +89,22 @@ pub fn names_of_dis<'a>(words: &DisWords<'a>) -> FileNames<'a>
         board: words.board,
         first: words.image,
         second: "",
+        third: "",
         script: "",
+        source: "",
+    }
+}
+
+/// The names of the files of a pair.
+pub fn names_of_pair<'a>(words: &PairWords<'a>) -> FileNames<'a>
+    ensures { names_read result ≡ pair_files (pair_in words.now) }
+{
+    FileNames {
+        board: words.board,
+        first: words.first,
+        second: words.second,
+        third: words.nonsecure,
+        script: words.script,
         source: "",
     }
 }
@@ -89,6 +117,7 @@ pub fn names_of_asm<'a>(words: &AsmWords<'a>) -> FileNames<'a>
         board: "",
         first: "",
         second: "",
+        third: "",
         script: "",
         source: words.source,
     }
@@ -242,6 +271,45 @@ pub fn load<H: Shelf>(
         Ok(script) => Ok(Files {
             board,
             secure,
+            nonsecure,
+            script,
+        }),
+        Err(fault) => Err(fault),
+    }
+}
+
+/// The files of a pair, in the order of its words.
+pub fn load_pair<H: Shelf>(
+    alloc: Global,
+    shelf: &mut H,
+    words: &PairWords<'_>,
+) -> Result<PairFiles, LoadError>
+    ensures ok { IfOk result (λ f. Allows (pair_start_told (H.held shelf.old) (pair_in words.now)) (pair_start_in f)) }
+    ensures err { IfErr result (λ e. IsFault (record { held = H.held shelf.old; sound = H.sound shelf.old; before = H.faults shelf.old; now = H.faults shelf.new }) (pair_files (pair_in words.now)) (IsPaired (H.held shelf.old) (pair_in words.now)) (pair_start_told (H.held shelf.old) (pair_in words.now)) e) }
+    ensures later { H.faults shelf.old ≤ H.faults shelf.new }
+{
+    let names = names_of_pair(words);
+    let board = match load_board(alloc, shelf, &names) {
+        Ok(board) => board,
+        Err(fault) => return Err(fault),
+    };
+    let first = match load_image(alloc, shelf, &names, File::First, &board, Side::Secure) {
+        Ok(image) => image,
+        Err(fault) => return Err(fault),
+    };
+    let second = match load_image(alloc, shelf, &names, File::Second, &board, Side::Secure) {
+        Ok(image) => image,
+        Err(fault) => return Err(fault),
+    };
+    let nonsecure = match load_image(alloc, shelf, &names, File::Third, &board, Side::NonSecure) {
+        Ok(image) => image,
+        Err(fault) => return Err(fault),
+    };
+    match load_script(alloc, shelf, &names, board.interrupts) {
+        Ok(script) => Ok(PairFiles {
+            board,
+            first,
+            second,
             nonsecure,
             script,
         }),

@@ -1,5 +1,6 @@
-//! tzrun: runs a Secure and a Non-secure image on a board and writes the trace of their steps, writes an
-//! image from its source, or an image as the text of its instructions.
+//! tzrun: runs a Secure and a Non-secure image on a board and writes the trace of their steps, tells where the
+//! runs of two Secure images disagree, writes an image from its source, or an image as the text of its
+//! instructions.
 //!
 //! `top` does all that the program does, over any shelf of files and any two sinks.
 //!
@@ -10,10 +11,12 @@
 #![tactic(auto)]
 
 mod asm;
+mod comparison;
 mod dis;
 mod files;
 mod lines;
 mod output;
+mod pair;
 mod process;
 mod program;
 mod run;
@@ -21,8 +24,9 @@ mod shelf;
 mod stops;
 mod words;
 
+pub use comparison::pair_run;
 pub use output::OutSink;
 pub use process::run_process;
 pub use program::top;
 pub use shelf::{FileShelf, read_to_limit};
-pub use words::{AsmWords, Command, DisWords, Form, RunWords, command_words};
+pub use words::{AsmWords, Command, DisWords, Form, PairWords, RunWords, command_words};

@@ -16,8 +16,11 @@ ghost use Rattle.tz_twin.specs.Seen.{Agree};
 ghost use Rattle.tz_twin.specs.Trace.{text_from};
 ghost use Rattle.tz_run.specs.Events.{events_of};
 ghost use Rattle.tz_cli.specs.Run.{RunWords};
-ghost use Rattle.tz_cli.specs.Commands.{Run, command_of};
-ghost use Rattle.tz_cli.specs.Told.{Stop, Job, Task, Stops, Gives, IsDone, told, job_told, trace_of, state_of};
+ghost use Rattle.tz_iso.specs.declared.answer.What.{What};
+ghost use Rattle.tz_cli.specs.Pair.{PairWords};
+ghost use Rattle.tz_cli.specs.PairLine.{FirstApart, agree_line, differ_line};
+ghost use Rattle.tz_cli.specs.Commands.{Run, Pair, command_of};
+ghost use Rattle.tz_cli.specs.Told.{Stop, Job, Task, Stops, Gives, IsDone, told, job_told, trace_of, state_of, PairJob, pair_told, first_state, second_state};
 ghost use Rattle.tz_cli.specs.Reads.{reads_of};
 ghost use Rattle.tz_cli.specs.Lines.{stop_line, status_of};
 ghost use Rattle.tz_cli.specs.Answer.{Answer, CutsLine, Excused, GainsFront, IsRefusedBy, IsStatus, IsText, NamesUnread, line_room};
@@ -25,6 +28,7 @@ ghost use Rattle.tz_cli.specs.Answer.{Answer, CutsLine, Excused, GainsFront, IsR
 use crate::asm::asm_files;
 use crate::dis::dis_files;
 use crate::lines::refuse;
+use crate::pair::pair_files;
 use crate::run::run_files;
 use crate::words::{Command, command_words};
 use std::alloc::Global;
@@ -85,6 +89,15 @@ pub fn top<H: Shelf, O: Sink, E: Sink>(
         (other : List ℕ) (image : ImageValue) → image_of other job.start.board Secure ≡ Ok image →
         Agree (events_of job.start.script) 0 (state_of job.start) (boot job.start.board image job.start.nonsecure) job.words.steps →
         Gains (O.written out.old) (O.written out.new) (text_from Ns (events_of job.start.script) 0 (boot job.start.board image job.start.nonsecure) job.words.steps) }
+
+    // `pair` decides that premise for two Secure images. At status 0 both runs cross out of Secure state alike
+    // for all steps; at status 1 they don't, and the line names the first step at which they don't with what
+    // differs first at it.
+    ensures agree { result ≡ 0 → (p : PairWords) → command_of (map string_bytes words.now) ≡ Some (Pair p) → (job : PairJob) → pair_told (H.held shelf.old) p ≡ Gives job →
+        Agree (events_of job.start.script) 0 (first_state job.start) (second_state job.start) job.words.steps × Gains (O.written out.old) (O.written out.new) (agree_line job.words.steps) }
+    ensures differ { result ≡ 1 → (p : PairWords) → command_of (map string_bytes words.now) ≡ Some (Pair p) → (job : PairJob) → pair_told (H.held shelf.old) p ≡ Gives job →
+        (k : ℕ) × (what : What) × FirstApart (events_of job.start.script) (first_state job.start) (second_state job.start) job.words.steps k what
+        × Gains (O.written out.old) (O.written out.new) (differ_line k what) }
 {
     answer(alloc, words, shelf, out, err)
 }
@@ -120,6 +133,7 @@ fn answer<H: Shelf, O: Sink, E: Sink>(
     };
     match command {
         Command::Run(words) => run_files(alloc, &words, shelf, out, err),
+        Command::Pair(words) => pair_files(alloc, &words, shelf, out, err),
         Command::Asm(words) => asm_files(alloc, &words, shelf, out, err),
         Command::Dis(words) => dis_files(alloc, &words, shelf, out, err),
     }

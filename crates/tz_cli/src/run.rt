@@ -17,7 +17,7 @@ use tz_model::{Shelf, Sink};
 use tz_run::run;
 
 /// The most steps of a run.
-const STEP_LIMIT: u32 = 10_000_000;
+pub const STEP_LIMIT: u32 = 10_000_000;
 
 /// Runs a machine of the files and writes its trace: 0, or 4 where the trace can't be written. Its error is
 /// want of memory, before anything is written.

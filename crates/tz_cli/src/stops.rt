@@ -4,15 +4,17 @@ use tz_asm::AsmError;
 use tz_board::{BoardError, ScriptError};
 use tz_elf::ElfError;
 
-/// The names of a command's files: a board, one image or two, a script, a source. Of files that it doesn't
+/// The names of a command's files: a board, one image or more, a script, a source. Of files that it doesn't
 /// have they are empty.
 #[derive(Clone, Copy)]
 pub struct FileNames<'a> {
     pub board: &'a str,
-    /// The one image, or the Secure one.
+    /// The one image, the Secure one, or the first of two Secure ones.
     pub first: &'a str,
-    /// The Non-secure image.
+    /// The Non-secure image, or the second Secure one.
     pub second: &'a str,
+    /// The Non-secure image behind two Secure ones.
+    pub third: &'a str,
     pub script: &'a str,
     pub source: &'a str,
 }
@@ -23,6 +25,7 @@ pub enum File {
     Board,
     First,
     Second,
+    Third,
     Script,
     Source,
 }

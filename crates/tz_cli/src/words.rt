@@ -11,13 +11,16 @@ mod asm;
 mod counts;
 mod dis;
 mod leaf;
+mod pair;
 mod run;
 
 use crate::words::asm::asm_command;
 use crate::words::dis::dis_command;
+use crate::words::pair::pair_command;
 use crate::words::run::run_command;
 pub use asm::{AsmWords, Form};
 pub use dis::DisWords;
+pub use pair::PairWords;
 pub use run::RunWords;
 use std::alloc::{AllocError, Global};
 
@@ -26,6 +29,8 @@ use std::alloc::{AllocError, Global};
 pub enum Command<'a> {
     /// A run of two images on a board.
     Run(RunWords<'a>),
+    /// Two runs beside each other, of two Secure images.
+    Pair(PairWords<'a>),
     /// An image from its source.
     Asm(AsmWords<'a>),
     /// An image as the text of its instructions.
@@ -43,6 +48,7 @@ pub fn command_words<'a>(
     match words {
         [_program, command, rest @ ..] => match command.as_str() {
             "run" => run_command(alloc, rest),
+            "pair" => pair_command(alloc, rest),
             "asm" => asm_command(alloc, rest),
             "dis" => dis_command(alloc, rest),
             _ => Ok(None),

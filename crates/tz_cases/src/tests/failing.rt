@@ -42,7 +42,7 @@ fn failing_answer(
 
 /// A line, which get, which put and which put on standard error fail, the status, what went out before, and the line
 /// on standard error.
-static ANSWERS: [(&str, (u64, u64, u64), u8, &str, &str); 5] = [
+static ANSWERS: [(&str, (u64, u64, u64), u8, &str, &str); 7] = [
     (
         "tzrun run @demo S N @none 4",
         (9, 2, 0),
@@ -63,6 +63,14 @@ static ANSWERS: [(&str, (u64, u64, u64), u8, &str, &str); 5] = [
         3,
         "",
         "cannot read N\n",
+    ),
+    ("tzrun pair @demo S S N @none 4", (9, 0, 9), 4, "", ""),
+    (
+        "tzrun pair @demo S S N @none 4",
+        (1, 9, 9),
+        3,
+        "",
+        "cannot read S\n",
     ),
     ("tzrun run", (9, 9, 0), 4, "", ""),
     ("", (9, 9, 9), 2, "", "usage\n"),

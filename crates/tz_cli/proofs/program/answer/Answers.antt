@@ -1,8 +1,9 @@
 -- Each exit is its answer.
 use Rattle.std.proofs.Common.{refl, sym, arith, map, Global}
 use Rattle.std.specs.String.{string_bytes}
-use Rattle.tz_cli.specs.Commands.{Run, Asm, Dis}
+use Rattle.tz_cli.specs.Commands.{Run, Pair, Asm, Dis}
 use Rattle.tz_cli.specs.Run.{run_in}
+use Rattle.tz_cli.specs.Pair.{pair_in}
 use Rattle.tz_cli.specs.Asm.{asm_in}
 use Rattle.tz_cli.specs.Dis.{dis_in}
 use Rattle.tz_cli.proofs.Exits.{gains_nothing, answer_words, answer_memory, answer_command}
@@ -18,6 +19,11 @@ pub returns-in-Run : goal.returns-in-Run
 returns-in-Run g c =
     let says = rw c.in-Run.is at (rw c.in-Ok-Some.field-0-is at c.in-Ok-Some.ensures) in
     answer_command _ _ (map (string_bytes {Z = Global}) c.args.words.now) (Run (run_in c.in-Run.words)) refl refl (sym says) c.run_files.ensures
+
+pub returns-in-Pair : goal.returns-in-Pair
+returns-in-Pair g c =
+    let says = rw c.in-Pair.is at (rw c.in-Ok-Some.field-0-is at c.in-Ok-Some.ensures) in
+    answer_command _ _ (map (string_bytes {Z = Global}) c.args.words.now) (Pair (pair_in c.in-Pair.words)) refl refl (sym says) c.pair_files.ensures
 
 pub returns-in-Asm : goal.returns-in-Asm
 returns-in-Asm g c =

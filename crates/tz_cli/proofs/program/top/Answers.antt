@@ -1,6 +1,7 @@
 -- Each clause is what the answer says.
 use Rattle.std.proofs.Common.{refl}
 use Rattle.tz_cli.proofs.Clauses.{usage_only, settled_stop, settled_task, unread_only, unwritten_only, cut_only, refused_only, memory_told, one_status, task_written, nothing_told, no_stop, quiet_else, front_written, room_suffices, sound_reads, trace_written, isolated_trace}
+use Rattle.tz_cli.proofs.PairClauses.{agreement_told, disagreement_told}
 use Rattle.tz_cli.proofs.program.top.Goals as goal
 
 pub returns-clause-usage : goal.returns-clause-usage
@@ -56,3 +57,9 @@ returns-clause-trace g c = trace_written _ _ c.answer.ensures
 
 pub returns-clause-isolation : goal.returns-clause-isolation
 returns-clause-isolation g c = λ done r run job told view other image accepted agree. isolated_trace _ _ c.answer.ensures done r run job told view image agree
+
+pub returns-clause-agree : goal.returns-clause-agree
+returns-clause-agree g c = agreement_told _ _ c.answer.ensures
+
+pub returns-clause-differ : goal.returns-clause-differ
+returns-clause-differ g c = disagreement_told _ _ c.answer.ensures

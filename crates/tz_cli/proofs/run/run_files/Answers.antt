@@ -13,7 +13,7 @@ returns-then-words-gt-STEP_LIMIT g c =
 pub returns-in-Err : goal.returns-in-Err
 returns-in-Err g c =
     answer_told _ (run_files (run_in c.args.words.now)) (IsReached _ (run_in c.args.words.now)) _ (run_loads _ (run_in c.args.words.now) refl c.if-words-gt-STEP_LIMIT.false) _ c.in-Err.fault _
-    c.names_of_run.ensures refl c.in-Err.ensures.err (gains_nothing _) c.refuse_fault.ensures
+    c.names_of_run.ensures (omega arith) c.in-Err.ensures.err (gains_nothing _) c.refuse_fault.ensures
 
 pub returns-in-Ok-run_started : goal.returns-in-Ok-run_started
 returns-in-Ok-run_started g c =

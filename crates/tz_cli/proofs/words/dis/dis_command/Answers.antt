@@ -1,11 +1,11 @@
-use Rattle.std.proofs.Common.{◌≡◌, ◌∙◌, sym, ap, [], map}
+use Rattle.std.proofs.Common.{◌≡◌, ◌∙◌, refl, sym, ap, [], map}
 use Rattle.std.specs.Prelude.{option_and_then, option_map, string_bytes}
 use Rattle.std.specs.Borrow.{Bor}
 use Rattle.tz_cli.specs.Commands.{Dis}
 use Rattle.tz_cli.specs.Found.{parts_in}
 use Rattle.tz_cli.specs.Parts.{AnyWord, Text, parts_of}
-use Rattle.tz_cli.specs.Dis.{dis_parts}
-use Rattle.tz_cli.proofs.Sides.{dis_parts-with_none}
+use Rattle.tz_cli.specs.Dis.{dis_parts, dis_with}
+use Rattle.tz_cli.proofs.NoOption.{told-with_none}
 use Rattle.tz_cli.proofs.words.dis.dis_command.Goals as goal
 
 pub returns-in-Ok-Some : goal.returns-in-Ok-Some
@@ -13,4 +13,4 @@ returns-in-Ok-Some c =
     let names = map (λ (s : Bor Text). s.now) c.as_slice.result.now in
     let same : names ≡ [] = ap (map (λ (s : Bor Text). s.now)) c.as_slice.ensures in
     c.dis_found.ensures ∙ ap (option_map Dis) (ap (option_and_then dis_parts) (ap (option_map parts_in) (sym c.in-Ok-Some.field-0-is) ∙ c.in-Ok-Some.ensures)
-    ∙ dis_parts-with_none names same (parts_of [] AnyWord (map string_bytes c.args.words.now)))
+    ∙ told-with_none dis_with (λ value values words. refl) names same (parts_of [] AnyWord (map string_bytes c.args.words.now)))

@@ -1,0 +1,86 @@
+//! The command `pair`: its files, two machines of the same board, and the line of their runs.
+
+ghost use Rattle.std.specs.Prelude.{◌+◌, [], Some, IfOk, IfErr};
+ghost use Rattle.tz_model.specs.Outside.{Gains};
+ghost use Rattle.tz_cli.specs.Pair.{pair_in, pair_names};
+ghost use Rattle.tz_cli.specs.Commands.{Pair as PairCommand, longest};
+ghost use Rattle.tz_cli.specs.PairLine.{pair_status};
+ghost use Rattle.tz_cli.specs.Told.{difference_of, pair_task};
+ghost use Rattle.tz_cli.specs.Answer.{Answer, IsTold};
+ghost use Rattle.tz_cli.specs.Faults.{pair_start_in};
+
+use crate::comparison::pair_run;
+use crate::files::{PairFiles, load_pair, names_of_pair};
+use crate::lines::{refuse, refuse_fault};
+use crate::run::STEP_LIMIT;
+use crate::words::PairWords;
+use std::alloc::{AllocError, Global};
+use tz_iso::Pair;
+use tz_model::{Shelf, Sink};
+
+/// Runs both machines of the files and writes the line of their runs: 0 where they agree, 1 where they don't,
+/// or 4 where it can't be written. Its error is want of memory, before anything is written.
+fn pair_started<O: Sink>(
+    alloc: Global,
+    files: &PairFiles,
+    words: &PairWords<'_>,
+    out: &mut O,
+) -> Result<u8, AllocError>
+    ensures ran { let task = pair_task (record { words = pair_in words.now; start = pair_start_in files.now }) in
+        IfOk result (λ status. IsTold status task.text task.status (O.written out.old) (O.written out.new) (O.space out.old) (O.faults out.old) (O.faults out.new)) }
+    ensures quiet { IfErr result (λ _. Gains (O.written out.old) (O.written out.new) []) }
+{
+    let pair = Pair::new(
+        alloc,
+        &files.board,
+        &files.first,
+        &files.second,
+        &files.nonsecure,
+    );
+    let mut pair = match pair {
+        Ok(pair) => pair,
+        Err(error) => return Err(error),
+    };
+    match pair_run(&mut pair, &files.script, words.steps, out) {
+        Ok(true) => Ok(0),
+        Ok(false) => Ok(1),
+        Err(_) => Ok(4),
+    }
+}
+
+/// Does what the words of `pair` say, and tells the answer with what it says of the outside.
+pub fn pair_files<H: Shelf, O: Sink, E: Sink>(
+    alloc: Global,
+    words: &PairWords<'_>,
+    shelf: &mut H,
+    out: &mut O,
+    err: &mut E,
+) -> u8
+    ensures { Answer (record {
+      command = Some (PairCommand (pair_in words.now));
+      room = 64 + longest (pair_names (pair_in words.now));
+      shelf = record { held = H.held shelf.old; sound = H.sound shelf.old; before = H.faults shelf.old; now = H.faults shelf.new };
+      out_old = O.written out.old;
+      out_new = O.written out.new;
+      out_space = O.space out.old;
+      out_before = O.faults out.old;
+      out_now = O.faults out.new;
+      err_old = E.written err.old;
+      err_new = E.written err.new;
+      err_space = E.space err.old;
+      err_before = E.faults err.old;
+      err_now = E.faults err.new;
+    }) result }
+{
+    if words.steps > STEP_LIMIT {
+        return refuse(err, b"limit steps\n", 6);
+    }
+    let files = match load_pair(alloc, shelf, words) {
+        Ok(files) => files,
+        Err(fault) => return refuse_fault(alloc, &names_of_pair(words), fault, err),
+    };
+    match pair_started(alloc, &files, words, out) {
+        Ok(status) => status,
+        Err(_) => refuse(err, b"no memory\n", 7),
+    }
+}
