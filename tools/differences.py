@@ -152,12 +152,14 @@ WHATS = {
         "clrex on each way out; sev and wfe at the same steps, whatever the secret is",
     ),
 }
+MASKS = r" cpsi[de] | msr (primask|basepri|basepri_max|faultmask)(_ns)?,"
 # What writes a part of the public state: instructions of Secure code, and addresses of its stores.
 WRITERS = {
+    "alone preempt": MASKS,
     "sp": r" msr (msp|psp|sp)_ns,",
     "limit": r" msr (msp|psp)lim_ns,",
     "control": r" msr control_ns,",
-    "mask": r" cpsi[de] | msr (primask|basepri|basepri_max|faultmask)(_ns)?,",
+    "mask": MASKS,
     "sau": r" \[e000ed[de]",
     "mpu": r" \[e002ed[9abc]",
     "vtor": r" \[e002ed0[89ab]",

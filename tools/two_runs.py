@@ -72,9 +72,9 @@ def kind_of_line(line):
     return line.split(b" ", 3)[2].strip()
 
 
-def code_of(line):
-    """What a step did, without what it changed: the letter, and of an instruction its place and code."""
-    return line.split(b" ", 5)[2:5]
+def place_of(line):
+    """Where a run is: the letter, and of an instruction its place, of an exception its number."""
+    return line.split(b" ", 4)[2:4]
 
 
 def kind_of(line, values):
@@ -201,7 +201,7 @@ class Difference:
             if self.first is None:
                 self.first = step
                 self.show_around(step)
-            if self.parted is None and code_of(lines[0]) != code_of(lines[1]):
+            if self.parted is None and place_of(lines[0]) != place_of(lines[1]):
                 self.parted = step
                 self.show_around(step)
         if step == self.step:
