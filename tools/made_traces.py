@@ -1,4 +1,4 @@
-"""Traces and sweeps that no run has written, for trying the page that shows them."""
+"""Traces that no run has written, for trying the page that shows them."""
 
 # Lines with further lines below them, which belong to the line above.
 FURTHER = """\
@@ -100,15 +100,3 @@ def write_long(file, lines):
             file.write(f"{step} {text}\n")
             step += 1
         turn += 1
-
-
-def sweep():
-    """A sweep of 4,000 arrival steps, of which 17 differ."""
-    differing = {step: (step + 27, "r12") for step in range(1204, 1207)}
-    differing |= {step: (3000, "alone return") for step in range(2040, 2048)}
-    differing |= {step: (step + 9, "bytes") for step in (3100, 3102, 3104, 3106, 3108, 3110)}
-    rows = ["step,status,k,what"]
-    for step in range(4000):
-        k, what = differing.get(step, ("", ""))
-        rows.append(f"{step},{1 if what else 0},{k},{what}")
-    return "\n".join(rows) + "\n"

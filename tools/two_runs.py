@@ -1,0 +1,262 @@
+"""Reads the traces of two runs beside each other, in view `all`, and keeps of them what tools/explain tells.
+
+A line is bytes, as `tzrun run` writes it. Of the lines no more is kept than what may be told: the runs may be long.
+"""
+
+import collections
+import contextlib
+import pathlib
+import re
+import subprocess
+
+from differences import WRITERS
+
+ROOT = pathlib.Path(__file__).resolve().parent.parent
+# Installed, this stands below the prefix.
+FRONT_DOOR = ROOT / "tzrun" if (ROOT / "crates.txt").is_file() else ROOT.parent.parent / "bin" / "tzrun"
+
+# The status where there is no program that answers.
+NO_PROGRAM = 70
+# Lines that are shown before and after a step.
+BEFORE, AFTER = 3, 2
+# Lines that are told at most of a run, and bytes of stores that are kept of it.
+MOST_TOLD, MOST_KEPT = 6, 200_000
+
+SECURE = b"s"
+EXC_RETURN = 0xFF
+REGISTER = re.compile(rb" (r\d+|lr|apsr)=([0-9a-f]{8})")
+STORE = re.compile(rb" (\[([0-9a-f]{8})\]\.([124])=([0-9a-f]{8}))")
+BRANCH = re.compile(rb" (blxns|bxns) (r\d+|lr)\b")
+
+
+class Ended(Exception):
+    """A command that ended as it hasn't to, with the status that comes of it."""
+
+    def __init__(self, returncode):
+        super().__init__()
+        self.status = returncode if returncode >= 0 else 128 - returncode
+
+
+@contextlib.contextmanager
+def traces(*wanted):
+    """The lines of runs, each of the images, the script, the count of steps and the view that are wanted."""
+    runs = []
+    try:
+        for board, secure, nonsecure, script, steps, view in wanted:
+            words = ["run", "--view", view, "--", board, secure, nonsecure, script, str(steps)]
+            runs.append(subprocess.Popen([FRONT_DOOR, *words], stdin=subprocess.DEVNULL, stdout=subprocess.PIPE))
+        yield [run.stdout for run in runs], runs
+    finally:
+        for run in runs:
+            run.stdout.close()
+            run.terminate()
+            run.wait()
+
+
+def steps_of(streams, runs, count):
+    """The lines of each step; where there are fewer than wanted, a run was refused."""
+    passed = 0
+    for passed, lines in enumerate(zip(*streams), 1):
+        yield passed - 1, lines
+    if passed < count:
+        statuses = [run.wait() for run in runs if not run.stdout.read(1)]
+        raise Ended(max(statuses, key=abs, default=0) or NO_PROGRAM)
+
+
+def side_of(line):
+    return line.split(b" ", 2)[1]
+
+
+def kind_of_line(line):
+    """`N`, `X`, `Z` or `L`."""
+    return line.split(b" ", 3)[2].strip()
+
+
+def place_of(line):
+    """Where a run is: the letter, and of an instruction its place, of an exception its number."""
+    return line.split(b" ", 4)[2:4]
+
+
+def kind_of(line, values):
+    """In which way a step that starts Secure and ends Non-secure crosses; `values` has registers as they are known."""
+    if kind_of_line(line) == b"X":
+        return "preempt" if int(line.split()[4], 16) & 0x40 else "chain"
+    branch = BRANCH.search(line)
+    if not branch:
+        return "excreturn"
+    if branch[1] == b"blxns":
+        return "call"
+    target = values.get(branch[2])
+    return "return" if target is not None and target >> 24 != EXC_RETURN else "bxns"
+
+
+class Run:
+    """What is kept of a run: what Secure code did since both runs were last in Non-secure code."""
+
+    def __init__(self, what):
+        self.writer = re.compile(WRITERS[what].encode()) if what in WRITERS else None
+        self.keeps_bytes = what == "bytes"
+        # LR as Non-secure code left it, and its last line; by register, the last line of Secure code that changed it.
+        self.lr, self.outside, self.secure = None, None, {}
+        self.forget()
+
+    def forget(self):
+        self.values, self.changed, self.stored = {}, {}, {}
+        self.wrote, self.writes, self.is_full = [], 0, False
+
+    def note_outside(self, line):
+        """Of Non-secure code LR is kept, which a call brings along, and the line, which may go to Secure code."""
+        self.outside = line
+        if b" lr=" in line or kind_of_line(line) == b"X":
+            self.lr = lr_of(line)
+
+    def note(self, line):
+        """Keeps what a step of Secure code changed."""
+        if self.outside:
+            self.note_registers(self.outside)
+            self.outside = None
+        for name in self.note_registers(line):
+            self.secure[name] = line
+        if self.writer and self.writer.search(line):
+            self.writes += 1
+            self.wrote = [*self.wrote, (line, self.known())][-MOST_TOLD:]
+        if self.keeps_bytes:
+            self.note_stores(line)
+
+    def note_registers(self, line):
+        """The names of the registers that a line says are changed. An entry may clear some, and no line says which."""
+        found = REGISTER.findall(line)
+        for name, value in found:
+            self.values[name] = int(value, 16)
+            self.changed[name] = line
+        if kind_of_line(line) == b"X":
+            self.values, self.changed[b"lr"] = {b"lr": lr_of(line)}, line
+            return [b"lr"]
+        return [name for name, _ in found]
+
+    def note_stores(self, line):
+        for store, place, size, value in STORE.findall(line):
+            for at in range(int(size)):
+                if len(self.stored) == MOST_KEPT:
+                    self.is_full = True
+                    return
+                self.stored[int(place, 16) + at] = int(value, 16) >> 8 * at & 0xFF, line, store
+
+    def known(self):
+        """The registers that are known."""
+        return {b"lr": self.lr, **self.values}
+
+
+def lr_of(line):
+    found = re.search(rb" lr=([0-9a-f]{8})", line)
+    return int(found[1] if found else line.split()[4], 16)
+
+
+class Difference:
+    """The two runs up to the step at which they differ, and a few steps on."""
+
+    def __init__(self, step, what):
+        self.step, self.what = step, what
+        self.runs = [Run(what), Run(what)]
+        self.recent = collections.deque(maxlen=BEFORE + 1)
+        # Which runs are in Secure code after the step; none where no line behind it can be had.
+        self.stays = self.at_step = self.last = None
+        self.ends, self.locks = {}, {}
+        self.begin_episode(None)
+
+    def begin_episode(self, after):
+        """Begins anew behind a crossing of both runs."""
+        self.after, self.entered, self.first, self.parted = after, None, None, None
+        self.shown, self.show_until = {}, -1
+        for run in self.runs:
+            run.forget()
+
+    def show_around(self, step):
+        self.shown.update(self.recent)
+        self.show_until = step + AFTER
+
+    def read(self, steps):
+        """Reads both runs; ends where all is known that is told."""
+        was_secure = True
+        for step, lines in steps:
+            is_secure = [side_of(line) == SECURE for line in lines]
+            if step == self.step + 1:
+                self.stays = is_secure
+            if step <= self.step:
+                if was_secure and not any(is_secure):
+                    self.begin_episode(step - 1 if step else None)
+                was_secure = all(is_secure)
+                self.take(step, lines, is_secure)
+            elif self.look_on(step, lines, is_secure):
+                return
+
+    def take(self, step, lines, is_secure):
+        self.recent.append((step, lines))
+        self.note_locks(step, lines)
+        for run, line, secure in zip(self.runs, lines, is_secure):
+            run.note(line) if secure else run.note_outside(line)
+        if self.entered is None and any(is_secure):
+            self.entered = step
+        if lines[0] != lines[1]:
+            if self.first is None:
+                self.first = step
+                self.show_around(step)
+            if self.parted is None and place_of(lines[0]) != place_of(lines[1]):
+                self.parted = step
+                self.show_around(step)
+        if step == self.step:
+            self.at_step = lines
+            self.show_around(step)
+        if step <= self.show_until:
+            self.shown[step] = lines
+
+    def note_locks(self, step, lines):
+        for number, line in enumerate(lines):
+            if kind_of_line(line) == b"L":
+                self.locks.setdefault(number, step)
+
+    def look_on(self, step, lines, is_secure):
+        """Whether all is known, this step behind the difference."""
+        self.last = step
+        if step <= self.show_until:
+            self.shown[step] = lines
+        self.note_locks(step, lines)
+        for number, secure in enumerate(is_secure):
+            if not secure:
+                self.ends.setdefault(number, step - 1)
+        is_over = len(self.ends) + len(set(self.locks) - set(self.ends)) == 2
+        return step >= self.show_until and (is_over or not self.what.startswith("alone"))
+
+
+class Agreement:
+    """What is counted of two runs that agree."""
+
+    def __init__(self):
+        self.run = Run("")
+        self.kinds = collections.Counter()
+        self.secure = self.differing = self.locked = 0
+        self.first = None
+
+    def read(self, steps, count):
+        """Reads the steps, each with the line of both runs in view all and of the first in view ns."""
+        was_secure, last = False, b""
+        for step, (line, other, seen) in steps:
+            is_secure = side_of(line) == SECURE
+            if not is_secure and step:
+                if was_secure:
+                    self.kinds[kind_of(last, self.run.known())] += 1
+                    self.run.forget()
+                elif was_hidden:
+                    self.kinds["refused"] += 1
+            if step == count:
+                return
+            was_secure, last, was_hidden = is_secure, line, seen.endswith(b" S\n")
+            if is_secure:
+                self.secure += 1
+                self.run.note(line)
+                self.locked += kind_of_line(line) == b"L"
+            else:
+                self.run.note_outside(line)
+            if line != other:
+                self.differing += 1
+                self.first = self.first or (line, other)
