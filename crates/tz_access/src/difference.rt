@@ -1,11 +1,12 @@
 //! What tells two memories apart for Non-secure code.
 
 ghost use Rattle.std.specs.Prelude.{◌≡◌, ◌+◌, ◌*◌, ◌<◌, ◌≤◌, length, true};
-ghost use Rattle.tz_mem.specs.Difference.{some_from, region_at};
-ghost use Rattle.tz_model.specs.Board.{are_apart};
-ghost use Rattle.tz_regs.specs.Difference.{open_byte_differs, open_bytes_differ};
+ghost use Rattle.tz_mem.specs.Difference.{some_from, region_at, IsFilled};
+ghost use Rattle.tz_model.specs.Board.{are_apart, is_nonsecure, is_region};
+ghost use Rattle.tz_regs.specs.Difference.{byte_differs, open_byte_differs, open_bytes_differ};
 
 use crate::bus::Bus;
+use tz_model::RegionSide;
 
 impl Bus {
     /// The board's regions share no bytes.
@@ -16,29 +17,98 @@ impl Bus {
         let _read = board.interrupts;
     }
 
-    /// Whether a byte differs that Non-secure code may read in both, in a block of 32 bytes of a region.
+    /// There is a byte at exactly the addresses of the board's regions.
+    fn know_filled(&self)
+        ensures { IsFilled (record { regions = self.now.board.regions; bytes = self.now.memory }) }
+    {
+        self.memory.know_filled();
+    }
+
+    /// The region of a number is made of whole blocks.
+    fn know_region(&self, index: usize)
+        requires { index < length self.now.board.regions }
+        ensures { is_region (region_at self.now.board.regions index) ≡ true }
+    {
+        self.know_regions();
+    }
+
+    /// How many regions there are.
+    fn region_count(&self) -> usize
+        ensures { result ≡ length self.now.board.regions }
+    {
+        self.board.regions.len()
+    }
+
+    /// The first address of a block of a region.
+    fn address_of(&self, index: usize, block: usize) -> u32
+        requires there { index < length self.now.board.regions }
+        requires fit { (block + 1) * 32 ≤ (region_at self.now.board.regions index).size }
+        ensures { result ≡ (region_at self.now.board.regions index).base + block * 32 }
+    {
+        self.know_region(index);
+        self.board.regions[index].base + (block * 32) as u32
+    }
+
+    /// How many bytes a region has.
+    fn size_of(&self, index: usize) -> usize
+        requires { index < length self.now.board.regions }
+        ensures { result ≡ (region_at self.now.board.regions index).size }
+    {
+        self.board.regions[index].size as usize
+    }
+
+    /// Whether some of so many bytes of a region differ, from an offset on.
+    fn differs_in(&self, other: &Bus, index: usize, offset: usize, count: usize) -> bool
+        requires same { self.now.board.regions ≡ other.now.board.regions }
+        requires there { index < length self.now.board.regions }
+        requires fit { offset + count ≤ (region_at self.now.board.regions index).size }
+        ensures { result ≡ some_from (byte_differs self.now.memory other.now.memory) ((region_at self.now.board.regions index).base + offset) count }
+    {
+        self.know_apart();
+        self.memory.differs_in(&other.memory, index, offset, count)
+    }
+
+    /// Whether a byte of a block of 32 bytes of a region, of which the block of this address is told by its
+    /// number, differs and is open in both.
     fn differs_in_block(&self, other: &Bus, index: usize, block: usize) -> bool
         requires same { self.now.board.regions ≡ other.now.board.regions }
         requires there { index < length self.now.board.regions }
         requires fit { (block + 1) * 32 ≤ (region_at self.now.board.regions index).size }
         ensures { result ≡ some_from (open_byte_differs self.now other.now) ((region_at self.now.board.regions index).base + block * 32) 32 }
     {
-        if !self.memory.differs_in(&other.memory, index, block * 32, 32) {
+        self.know_region(index);
+        if !self.differs_in(other, index, block * 32, 32) {
             return false;
         }
-        let addr = self.board.regions[index].base + (block * 32) as u32;
-        self.is_open(addr) && other.is_open(addr)
+        let addr = self.address_of(index, block);
+        let mine = self.is_open(addr);
+        let others = other.is_open(addr);
+        mine && others
     }
 
-    /// Whether a byte differs that Non-secure code may read in both, in a region. Only a region in which some
-    /// byte differs is looked at block by block.
+    /// Whether the board leaves the attribution of a region to the SAU. Else no byte of it is open.
+    fn is_left_to_sau(&self, index: usize) -> bool
+        requires { index < length self.now.board.regions }
+        ensures { result ≡ is_nonsecure (region_at self.now.board.regions index).side }
+    {
+        self.board.regions[index].side == RegionSide::NonSecure
+    }
+
+    /// Whether a byte of a region differs and is open in both. It looks at bytes only where the board leaves
+    /// the region to the SAU, and goes block by block only where some byte differs.
     fn differs_in_region(&self, other: &Bus, index: usize) -> bool
         requires same { self.now.board.regions ≡ other.now.board.regions }
         requires there { index < length self.now.board.regions }
         ensures { result ≡ some_from (open_byte_differs self.now other.now) (region_at self.now.board.regions index).base (region_at self.now.board.regions index).size }
     {
-        let size = self.board.regions[index].size as usize;
-        if !self.memory.differs_in(&other.memory, index, 0, size) {
+        self.know_regions();
+        self.know_region(index);
+        self.know_apart();
+        if !self.is_left_to_sau(index) {
+            return false;
+        }
+        let size = self.size_of(index);
+        if !self.differs_in(other, index, 0, size) {
             return false;
         }
         for block in 0..size / 32 {
@@ -49,13 +119,16 @@ impl Bus {
         false
     }
 
-    /// Whether some address that Non-secure code may read in both has another byte in each. Both are of the
-    /// same regions.
+    /// Whether an address that Non-secure code may read in both, each by its own SAU, has another byte in each.
+    /// Both are of the same regions. Each byte is compared once or twice at most; the attribution is asked once
+    /// for a block of 32 bytes, of those that differ alone.
     pub fn differs_in_open_bytes(&self, other: &Bus) -> bool
         requires { self.now.board.regions ≡ other.now.board.regions }
         ensures { result ≡ open_bytes_differ self.now other.now }
     {
-        for index in 0..self.board.regions.len() {
+        self.know_filled();
+        other.know_filled();
+        for index in 0..self.region_count() {
             if self.differs_in_region(other, index) {
                 return true;
             }

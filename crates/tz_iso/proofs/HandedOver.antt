@@ -1,5 +1,5 @@
 -- Registers that are handed over: no register differs exactly where what is handed over is the same.
-use Rattle.std.proofs.Common.{◌≡◌, ℕ, ◌+◌, ◌==◌, Bool, true, false, cond, List, [], ◌∷◌, Option, Some, None, refl, sym, ap, ◌∙◌, subst, eqb-true}
+use Rattle.std.proofs.Common.{◌≡◌, ℕ, ◌+◌, ◌==◌, Bool, true, false, cond, List, [], ◌∷◌, Option, Some, None, refl, ap, subst, eqb-true}
 use Rattle.tz_model.specs.declared.report.CrossKind.{CrossKind}
 use Rattle.tz_model.specs.declared.report.CrossKind.TheVariants.{Return, Call, ExcReturn, Chain, Preempt, Refused}
 use Rattle.tz_regs.specs.declared.parts.Registers.{Registers}
@@ -10,7 +10,7 @@ use Rattle.tz_twin.proofs.Bytes.{and_first, and_second}
 use Rattle.tz_iso.specs.declared.answer.What.{What}
 use Rattle.tz_iso.specs.declared.answer.What.TheVariants.{R}
 use Rattle.tz_iso.specs.Parts.{is_same_apsr}
-use Rattle.tz_iso.specs.What.{general_apart, all_apart, called_apart, saved_apart, handed_apart}
+use Rattle.tz_iso.specs.What.{general_apart, all_apart, called_apart, handed_apart}
 use Rattle.tz_iso.proofs.Same.{and_both, number_itself, same_flag, flag_itself, same_flags, flags_itself, first_same, also_same, neither, or_none}
 
 -- ---- R0 to R12

@@ -1,21 +1,19 @@
 -- Steps that tell their ways out of Secure state: nothing differs exactly where their crossings are the same.
-use Rattle.std.proofs.Common.{◌≡◌, ℕ, Bool, true, false, ◌&&◌, cond, List, Option, Some, None, IfSome, refl, sym, ap, ◌∙◌, subst}
+use Rattle.std.proofs.Common.{◌≡◌, Bool, true, false, cond, List, Option, Some, None, IfSome, refl, sym, ap, ◌∙◌}
 use Rattle.std.specs.Prelude.{is_some, option_map, unwrap_or}
 use Rattle.tz_model.specs.declared.report.CrossKind.{CrossKind}
 use Rattle.tz_model.specs.declared.report.ScriptEvent.{ScriptEvent}
 use Rattle.tz_model.specs.declared.report.Way.{Way}
-use Rattle.tz_regs.specs.declared.parts.Registers.{Registers}
 use Rattle.tz_regs.specs.State.{State}
 use Rattle.tz_sem.specs.declared.ending.Cause.{Cause}
-use Rattle.tz_sem.specs.Ended.{crosses, way_by, kind_of, way_of}
+use Rattle.tz_sem.specs.Ended.{crosses, way_by, kind_of}
 use Rattle.tz_sem.specs.Step.{Stepped, step, started, ended}
 use Rattle.tz_regs.specs.Registers.{before_in}
 use Rattle.tz_twin.specs.Seen.{Public, public_of, Handed, Nothing, handed_by, handed, Crossing, crossing}
 use Rattle.tz_twin.specs.Ways.{crosses_out, TellsWay}
 use Rattle.tz_twin.proofs.WaysOut.{tells_way}
-use Rattle.tz_iso.specs.declared.answer.What.{What}
 use Rattle.tz_iso.specs.Parts.{is_same_way}
-use Rattle.tz_iso.specs.What.{handed_apart, public_apart, crossings_apart, what_by, what_of}
+use Rattle.tz_iso.specs.What.{crossings_apart, what_by, what_of}
 use Rattle.tz_iso.proofs.Same.{same_way, way_itself, passed_by_same, first_same, neither, or_none}
 use Rattle.tz_iso.proofs.HandedOver.{same_handed, none_handed}
 use Rattle.tz_iso.proofs.Public.{same_public, none_public}

@@ -1,6 +1,6 @@
 //! Laws about what differs of two runs. Nothing here runs.
 
-ghost use Rattle.std.specs.Prelude.{◌≡◌, ◌<◌, ℕ, Some, None, ◌↔◌, List};
+ghost use Rattle.std.specs.Prelude.{◌≡◌, ◌<◌, ℕ, Some, None, List};
 ghost use Rattle.tz_model.specs.declared.report.ScriptEvent.{ScriptEvent};
 ghost use Rattle.tz_regs.specs.State.{State};
 ghost use Rattle.tz_sem.specs.Run.{Events};

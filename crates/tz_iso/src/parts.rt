@@ -153,24 +153,6 @@ fn units_apart(b: &Bus, c: &Bus) -> Option<What>
     None
 }
 
-/// What of the status registers isn't the same.
-fn status_apart(m: &Machine, n: &Machine) -> Option<What>
-    ensures { result ≡ first_apart ((m.now.core.status.ns.vtor == n.now.core.status.ns.vtor, What.Vtor) ∷ (m.now.core.status.ns.ccr == n.now.core.status.ns.ccr, What.Ccr) ∷ (is_same_faults m.now n.now, What.Fault) ∷ []) }
-{
-    let a = &m.core().status.ns;
-    let b = &n.core().status.ns;
-    if a.vtor != b.vtor {
-        return Some(What::Vtor);
-    }
-    if a.ccr != b.ccr {
-        return Some(What::Ccr);
-    }
-    if !is_same_faults(m, n) {
-        return Some(What::Fault);
-    }
-    None
-}
-
 /// What of the exceptions, or of what the core waits for, isn't the same.
 fn rest_apart(m: &Machine, n: &Machine) -> Option<What>
     ensures { result ≡ first_apart ((not (exceptions_differ m.now.exceptions n.now.exceptions), What.Exceptions) ∷ (is_same_timers m.now.exceptions n.now.exceptions, What.Systick) ∷ (is_same_rest m.now n.now, What.Sleep) ∷ []) }
@@ -185,6 +167,24 @@ fn rest_apart(m: &Machine, n: &Machine) -> Option<What>
         return Some(What::Sleep);
     }
     None
+}
+
+/// What of the status registers, or of the parts after them, isn't the same.
+fn status_apart(m: &Machine, n: &Machine) -> Option<What>
+    ensures { result ≡ first_apart ((m.now.core.status.ns.vtor == n.now.core.status.ns.vtor, What.Vtor) ∷ (m.now.core.status.ns.ccr == n.now.core.status.ns.ccr, What.Ccr) ∷ (is_same_faults m.now n.now, What.Fault) ∷ (not (exceptions_differ m.now.exceptions n.now.exceptions), What.Exceptions) ∷ (is_same_timers m.now.exceptions n.now.exceptions, What.Systick) ∷ (is_same_rest m.now n.now, What.Sleep) ∷ []) }
+{
+    let a = &m.core().status.ns;
+    let b = &n.core().status.ns;
+    if a.vtor != b.vtor {
+        return Some(What::Vtor);
+    }
+    if a.ccr != b.ccr {
+        return Some(What::Ccr);
+    }
+    if !is_same_faults(m, n) {
+        return Some(What::Fault);
+    }
+    rest_apart(m, n)
 }
 
 /// The first part of the public state that isn't the same.
@@ -204,8 +204,5 @@ pub fn public_apart(m: &Machine, n: &Machine) -> Option<What>
     if let Some(what) = units_apart(m.bus(), n.bus()) {
         return Some(what);
     }
-    if let Some(what) = status_apart(m, n) {
-        return Some(what);
-    }
-    rest_apart(m, n)
+    status_apart(m, n)
 }

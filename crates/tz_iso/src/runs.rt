@@ -1,6 +1,12 @@
 //! The pair of machines and its step.
 
 ghost use Rattle.std.specs.Prelude.{◌≡◌, ◌<◌, ◌↔◌, ℕ, None, IfOk};
+ghost use Rattle.tz_model.specs.declared.report.View.TheVariants.{Ns};
+ghost use Rattle.tz_sem.specs.Step.{step};
+ghost use Rattle.tz_text.specs.Line.{line};
+ghost use Rattle.tz_twin.specs.Seen.{crossing};
+ghost use Rattle.tz_iso.specs.What.{what_of};
+ghost use Rattle.tz_iso.specs.Runs.{IsLinked};
 
 use crate::answer::{PairStep, What};
 use crate::crossed::what_by;
@@ -38,12 +44,29 @@ impl Model for Pair {
     ghost invariant = { λ p. p.found ≡ None → IsLinked p.first p.second };
 }
 
+/// Makes the step of two linked machines, at which these events are due, and tells what differs first.
+fn step_both(
+    first: &mut Machine,
+    told: &mut Report,
+    second: &mut Machine,
+    other: &mut Report,
+    due: &[ScriptEvent],
+) -> Option<What>
+    requires { IsLinked first.old second.old }
+    ensures first { first.new ≡ (step first.old due.now).state }
+    ensures second { second.new ≡ (step second.old due.now).state }
+    ensures what { result ≡ what_of (step first.old due.now) (step second.old due.now) }
+    ensures exact { result ≡ None ↔ crossing (step first.old due.now) ≡ crossing (step second.old due.now) }
+    ensures lines { result ≡ None → (k : ℕ) → line Ns k (step first.old due.now).report ≡ line Ns k (step second.old due.now).report }
+    ensures linked { result ≡ None → IsLinked first.new second.new }
+{
+    first.step_into(due, told);
+    second.step_into(due, other);
+    what_by(&told.way, &other.way, first, second)
+}
+
 impl Pair {
-    ghost use Rattle.tz_model.specs.declared.report.View.TheVariants.{Ns};
-    ghost use Rattle.tz_sem.specs.Step.{step};
-    ghost use Rattle.tz_text.specs.Line.{line};
-    ghost use Rattle.tz_twin.specs.Seen.{crossing};
-    ghost use Rattle.tz_iso.specs.Runs.{IsLinked, started_pair, advanced, pair_after, answer_of};
+    ghost use Rattle.tz_iso.specs.Runs.{started_pair, advanced, pair_after, answer_of};
 
     /// Two machines that start with one board and one Non-secure image, each with a Secure image of its own. Fails
     /// for want of memory alone.
@@ -88,16 +111,24 @@ impl Pair {
         requires few { self.old.steps < 4294967295 }
         ensures steps { self.new ≡ advanced self.old due.now }
         ensures answer { result ≡ answer_of self.new.found }
+        ensures exact { result ≡ PairStep.Kept ↔ crossing (step self.old.first due.now) ≡ crossing (step self.old.second due.now) }
+        ensures lines { result ≡ PairStep.Kept → (k : ℕ) → line Ns k (step self.old.first due.now).report ≡ line Ns k (step self.old.second due.now).report }
+        ensures linked { result ≡ PairStep.Kept → IsLinked self.new.first self.new.second }
     {
-        self.first.step_into(due, &mut self.told);
-        self.second.step_into(due, &mut self.other);
-        let number = self.steps;
-        self.steps += 1;
-        match what_by(&self.told.way, &self.other.way, &self.first, &self.second) {
+        let step = self.steps;
+        let what = step_both(
+            &mut self.first,
+            &mut self.told,
+            &mut self.second,
+            &mut self.other,
+            due,
+        );
+        self.steps = step + 1;
+        match what {
             None => PairStep::Kept,
             Some(what) => {
-                self.found = Some((number, what));
-                PairStep::Differ { step: number, what }
+                self.found = Some((step, what));
+                PairStep::Differ { step, what }
             }
         }
     }

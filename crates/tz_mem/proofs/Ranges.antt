@@ -45,8 +45,7 @@ placed : (ks : List BlockValue) (i j : ℕ) (k : BlockValue) → are_apart (map 
 placed [] i j k apart l is fit = absurd (omega arith)
 placed (r ∷ ks) zero j k apart l is fit = (ap (λ (x : BlockValue). x.base + j) (sym is), subst (λ (x : BlockValue). j < length x.bytes) is fit)
 placed (r ∷ ks) (suc i) j k apart l is fit =
-    let parts = and_parts (apart_from (region_of r) (map region_of ks)) (are_apart (map region_of ks)) apart in
-    (
+    let parts = and_parts (apart_from (region_of r) (map region_of ks)) (are_apart (map region_of ks)) apart in (
       out_of_other r k j (apart_there (region_of r) ks i k parts.0 (omega arith) is) fit,
       placed ks i j k parts.1 (omega arith) is fit,
     )
@@ -65,6 +64,7 @@ lists_differ : (m n : Memory) (a : ℕ) (us vs : List ℕ) → length us ≡ len
     → ((t : ℕ) → t < length us → get m (a + t) ≡ slice_get us t)
     → ((t : ℕ) → t < length vs → get n (a + t) ≡ slice_get vs t)
     → not (pointwise nat_eq us vs) ≡ some_from (byte_differs m n) a (length us)
+unfolding some_from
 lists_differ m n a [] [] e at other = refl
 lists_differ m n a [] (v ∷ vs) e at other = absurd (omega arith)
 lists_differ m n a (u ∷ us) [] e at other = absurd (omega arith)

@@ -8,7 +8,7 @@ use Rattle.tz_regs.specs.Access.{is_mapped}
 use Rattle.tz_mem.specs.Values.{MemoryValue}
 
 -- some of n addresses from a on passes a test
-abbrev pub some_from : (ℕ → Bool) → ℕ → ℕ → Bool
+unfoldable pub some_from : (ℕ → Bool) → ℕ → ℕ → Bool
 some_from p a zero = false
 some_from p a (suc n) = p a || some_from p (a + 1) n
 

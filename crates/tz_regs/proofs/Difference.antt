@@ -58,8 +58,16 @@ slot_decides s t =
     (and_decides _ _ (flag_decides s.pending t.pending) (and_decides _ _ (flag_decides s.active t.active)
     (and_decides _ _ (flag_decides s.enabled t.enabled) (and_decides _ _ (Decides-eqb s.priority t.priority) (side_decides s.target t.target)))))
     (λ h. λ i. record { pending = h.0 i; active = h.1.0 i; enabled = h.1.1.0 i; priority = h.1.1.1.0 i; target = h.1.1.1.1 i })
-    (λ h. (ap (λ (x : SlotState). x.pending) h, (ap (λ (x : SlotState). x.active) h, (ap (λ (x : SlotState). x.enabled) h,
-    (ap (λ (x : SlotState). x.priority) h, ap (λ (x : SlotState). x.target) h)))))
+    (λ h. (
+      ap (λ (x : SlotState). x.pending) h,
+      (
+        ap (λ (x : SlotState). x.active) h,
+        (
+          ap (λ (x : SlotState). x.enabled) h,
+          (ap (λ (x : SlotState). x.priority) h, ap (λ (x : SlotState). x.target) h),
+        ),
+      ),
+    ))
 
 -- ---- the units
 
@@ -84,8 +92,16 @@ mpu_decides m n =
     (and_decides _ _ (Decides-eqb m.ctrl n.ctrl) (and_decides _ _ (Decides-eqb m.rnr n.rnr) (and_decides _ _ (Decides-eqb m.mair0 n.mair0)
     (and_decides _ _ (Decides-eqb m.mair1 n.mair1) (pointwise_decides bounds_decides m.regions n.regions)))))
     (λ h. λ i. record { ctrl = h.0 i; rnr = h.1.0 i; mair0 = h.1.1.0 i; mair1 = h.1.1.1.0 i; regions = h.1.1.1.1 i })
-    (λ h. (ap (λ (x : MpuState). x.ctrl) h, (ap (λ (x : MpuState). x.rnr) h, (ap (λ (x : MpuState). x.mair0) h,
-    (ap (λ (x : MpuState). x.mair1) h, ap (λ (x : MpuState). x.regions) h)))))
+    (λ h. (
+      ap (λ (x : MpuState). x.ctrl) h,
+      (
+        ap (λ (x : MpuState). x.rnr) h,
+        (
+          ap (λ (x : MpuState). x.mair0) h,
+          (ap (λ (x : MpuState). x.mair1) h, ap (λ (x : MpuState). x.regions) h),
+        ),
+      ),
+    ))
 
 pub same_mpu : (m n : MpuState) → mpu_differs m n ≡ false → m ≡ n
 unfolding mpu_differs
