@@ -11,7 +11,7 @@ KINDS = {
     "excreturn": "a return from a Secure handler",
     "chain": "a Non-secure exception in place of a Secure handler's return",
     "preempt": "a Non-secure exception that interrupts Secure code",
-    "refused": "a look of Non-secure code at Secure state that the core refuses",
+    "refused": "a look at Secure state that the core refused",
     "bxns": "a return (bxns), perhaps from a Secure handler: the trace doesn't tell",
 }
 

@@ -78,7 +78,9 @@ def place_of(line):
 
 
 def kind_of(line, values):
-    """In which way a step that starts Secure and ends Non-secure crosses; `values` has registers as they are known."""
+    """In which way a step that ends Non-secure goes there; `values` has registers as they are known."""
+    if side_of(line) != SECURE:
+        return "refused"
     if kind_of_line(line) == b"X":
         return "preempt" if int(line.split()[4], 16) & 0x40 else "chain"
     branch = BRANCH.search(line)
