@@ -8,10 +8,8 @@ use Rattle.tz_model.specs.Outside.{Held, Rose, Gains, Put}
 use Rattle.tz_model.specs.Image.{ImageValue, SegmentValue}
 use Rattle.tz_cli.specs.Run.{RunWords}
 use Rattle.tz_cli.specs.Pair.{PairWords}
-use Rattle.tz_sem.specs.Run.{Events}
 use Rattle.tz_iso.specs.declared.answer.What.{What}
-use Rattle.tz_iso.specs.Runs.{PairValue, difference}
-use Rattle.tz_cli.specs.PairLine.{agree_line, differ_line, is_agreed, pair_line, pair_status}
+use Rattle.tz_cli.specs.PairLine.{pair_status}
 use Rattle.tz_cli.specs.Asm.{AsmWords}
 use Rattle.tz_cli.specs.Dis.{DisWords}
 use Rattle.tz_cli.specs.Commands.{Command, Run, Pair, Asm, Dis, command_of, longest, names_of}
@@ -220,12 +218,12 @@ answer_cut c task room error allowed put rose same =
     (subst (λ (x : Option (List ℕ)). Gains c.err_old x []) (sym same) (gains_nothing c.err_old))
 
 -- a text that is put whole is told, and one that isn't is cut
-pub told_put : (old new : Option (List ℕ)) (space room : Option ℕ) (text : List ℕ) (status before now : ℕ) → Put old new space room text (Ok tt) → IsTold status text status old new space before now
-told_put old new space room text status before now put = inl (refl, subst (λ (x : List ℕ). Gains old new x) put.whole put.written)
+pub told_put : (old new : Option (List ℕ)) (space room : Option ℕ) (text : List ℕ) (before now : ℕ) → Put old new space room text (Ok tt) → IsTold 0 text 0 old new space before now
+told_put old new space room text before now put = inl (refl, subst (λ (x : List ℕ). Gains old new x) put.whole put.written)
 
-pub told_cut : (old new : Option (List ℕ)) (space room : Option ℕ) (text : List ℕ) (status before now : ℕ) (error : SinkError)
-    → Put old new space room text (Err error) → Rose before now → IsTold 4 text status old new space before now
-told_cut old new space room text status before now error put rose =
+pub told_cut : (old new : Option (List ℕ)) (space room : Option ℕ) (text : List ℕ) (before now : ℕ) (error : SinkError)
+    → Put old new space room text (Err error) → Rose before now → IsTold 4 text 0 old new space before now
+told_cut old new space room text before now error put rose =
     inr (refl, rose, unfit space (length text) error put.fits, record { gained = put.gained; rest = put.front.0; front = put.front.1; gains = put.written })
 
 -- a task whose text is told is answered by its status
@@ -279,33 +277,6 @@ pair_loads c p e l = record {
       (is_paired c.shelf.held p file reached);
   stops = λ stop h. pair_of_stop c.shelf.held p stop l h;
 }
-
--- a line that is put whole is told with its status
-line_told : (old new : Option (List ℕ)) (space room : Option ℕ) (steps : ℕ) (found : Option (ℕ × What)) (agreed : Bool) (before now : ℕ) → agreed ≡ is_agreed found
-    → Put old new space room (pair_line steps found) (Ok tt) → IsTold (cond agreed 0 1) (pair_line steps found) (pair_status found) old new space before now
-line_told old new space room steps None true before now is put = told_put old new space room (agree_line steps) 0 before now put
-line_told old new space room steps None false before now is put = absurd (cc is)
-line_told old new space room steps (Some found) true before now is put = absurd (cc is)
-line_told old new space room steps (Some found) false before now is put = told_put old new space room (differ_line found.0 found.1) 1 before now put
-
--- what the runs of a pair differ in first
-abbrev found_in : Events → PairValue → ℕ → Option (ℕ × What)
-found_in events p steps = difference events 0 p.first p.second steps
-
--- the same of a pair as it starts
-pub pair_told_put : (old new : Option (List ℕ)) (space room : Option ℕ) (events : Events) (steps : ℕ) (p q : PairValue) (agreed : Bool) (before now : ℕ) → p ≡ q
-    → agreed ≡ is_agreed (difference events 0 p.first p.second steps) → Put old new space room (pair_line steps (difference events 0 p.first p.second steps)) (Ok tt)
-    → IsTold (cond agreed 0 1) (pair_line steps (difference events 0 q.first q.second steps)) (pair_status (difference events 0 q.first q.second steps)) old new space before now
-pair_told_put old new space room events steps p q agreed before now same is put =
-    line_told old new space room steps (found_in events q steps) agreed before now (subst (λ (x : PairValue). agreed ≡ is_agreed (found_in events x steps)) same is)
-    (subst (λ (x : PairValue). Put old new space room (pair_line steps (found_in events x steps)) (Ok tt)) same put)
-
-pub pair_told_cut : (old new : Option (List ℕ)) (space room : Option ℕ) (events : Events) (steps : ℕ) (p q : PairValue) (before now : ℕ) (error : SinkError) → p ≡ q
-    → Put old new space room (pair_line steps (difference events 0 p.first p.second steps)) (Err error) → Rose before now
-    → IsTold 4 (pair_line steps (difference events 0 q.first q.second steps)) (pair_status (difference events 0 q.first q.second steps)) old new space before now
-pair_told_cut old new space room events steps p q before now error same put rose =
-    told_cut old new space room (pair_line steps (found_in events q steps)) (pair_status (found_in events q steps)) before now error
-    (subst (λ (x : PairValue). Put old new space room (pair_line steps (found_in events x steps)) (Err error)) same put) rose
 
 -- its statuses
 pub pair_done : (found : Option (ℕ × What)) → (pair_status found ≡ 0) ⊎ (pair_status found ≡ 1)

@@ -11,13 +11,13 @@ returns-in-Err-clause-quiet g c = gains_nothing _
 
 pub returns-in-Ok-run-clause-ran : goal.returns-in-Ok-run-clause-ran
 returns-in-Ok-run-clause-ran g c =
-    told_put _ _ _ (g.O.Sink.space c.run.new.out) _ _ _ _
+    told_put _ _ _ (g.O.Sink.space c.run.new.out) _ _ _
     (subst (λ (s : State). Put (g.O.Sink.written c.args.out.now) (g.O.Sink.written c.run.new.out) (g.O.Sink.space c.args.out.now) (g.O.Sink.space c.run.new.out)
     (text_from c.args.words.now.view (events_of c.args.files.now.script) 0 s c.args.words.now.steps) (Ok c.in-Ok-run.field-0)) c.in-Ok.ensures c.in-Ok-run.ensures.put)
 
 pub returns-clause-ran : goal.returns-clause-ran
 returns-clause-ran g c =
-    told_cut _ _ _ (g.O.Sink.space c.run.new.out) _ _ _ _ c.in-Err-run.field-0
+    told_cut _ _ _ (g.O.Sink.space c.run.new.out) _ _ _ c.in-Err-run.field-0
     (subst (λ (s : State). Put (g.O.Sink.written c.args.out.now) (g.O.Sink.written c.run.new.out) (g.O.Sink.space c.args.out.now) (g.O.Sink.space c.run.new.out)
     (text_from c.args.words.now.view (events_of c.args.files.now.script) 0 s c.args.words.now.steps) (Err c.in-Err-run.field-0)) c.in-Ok.ensures c.in-Err-run.ensures.put)
     (c.in-Err-run.ensures.cause.failed (failed_alone c.in-Err-run.field-0))
