@@ -1,7 +1,7 @@
 //! The top call over the system: what `main` is.
 //!
-//! Standard output is kept in a buffer, which is passed on before the program ends. It stands here, and not beside
-//! `main`, since whatever calls `top` has to be checked against all that it promises.
+//! Standard output is kept in a buffer, which is passed on before the program ends. It stands here, so that `main` is
+//! one call.
 
 use crate::output::OutSink;
 use crate::program::top;
