@@ -8,8 +8,10 @@ use Rattle.tz_model.specs.Outside.{Held, Rose, Gains, Put}
 use Rattle.tz_model.specs.Image.{ImageValue, SegmentValue}
 use Rattle.tz_cli.specs.Run.{RunWords}
 use Rattle.tz_cli.specs.Pair.{PairWords}
+use Rattle.tz_sem.specs.Run.{Events}
 use Rattle.tz_iso.specs.declared.answer.What.{What}
-use Rattle.tz_cli.specs.PairLine.{pair_status}
+use Rattle.tz_iso.specs.Runs.{PairValue, difference}
+use Rattle.tz_cli.specs.PairLine.{is_agreed, pair_line, pair_status}
 use Rattle.tz_cli.specs.Asm.{AsmWords}
 use Rattle.tz_cli.specs.Dis.{DisWords}
 use Rattle.tz_cli.specs.Commands.{Command, Run, Pair, Asm, Dis, command_of, longest, names_of}
@@ -277,6 +279,23 @@ pair_loads c p e l = record {
       (is_paired c.shelf.held p file reached);
   stops = λ stop h. pair_of_stop c.shelf.held p stop l h;
 }
+
+-- a line that is put whole is told with its status
+line_told : (old new : Option (List ℕ)) (space room : Option ℕ) (steps : ℕ) (found : Option (ℕ × What)) (agreed : Bool) (before now : ℕ) → agreed ≡ is_agreed found
+    → Put old new space room (pair_line steps found) (Ok tt) → IsTold (cond agreed 0 1) (pair_line steps found) (pair_status found) old new space before now
+line_told old new space room steps None true before now is put = inl (refl, subst (λ (x : List ℕ). Gains old new x) put.whole put.written)
+line_told old new space room steps None false before now is put = absurd (cc is)
+line_told old new space room steps (Some found) true before now is put = absurd (cc is)
+line_told old new space room steps (Some found) false before now is put = inl (refl, subst (λ (x : List ℕ). Gains old new x) put.whole put.written)
+
+-- the same of a pair as it starts
+pub pair_told_put : (old new : Option (List ℕ)) (space room : Option ℕ) (events : Events) (steps : ℕ) (p q : PairValue) (agreed answer : Bool) (before now : ℕ) → p ≡ q → agreed ≡ answer
+    → agreed ≡ is_agreed (difference events 0 p.first p.second steps) → Put old new space room (pair_line steps (difference events 0 p.first p.second steps)) (Ok tt)
+    → IsTold (cond answer 0 1) (pair_line steps (difference events 0 q.first q.second steps)) (pair_status (difference events 0 q.first q.second steps)) old new space before now
+pair_told_put old new space room events steps p q agreed answer before now same test is put =
+    line_told old new space room steps (difference events 0 q.first q.second steps) answer before now
+    (sym test ∙ subst (λ (x : PairValue). agreed ≡ is_agreed (difference events 0 x.first x.second steps)) same is)
+    (subst (λ (x : PairValue). Put old new space room (pair_line steps (difference events 0 x.first x.second steps)) (Ok tt)) same put)
 
 -- its statuses
 pub pair_done : (found : Option (ℕ × What)) → (pair_status found ≡ 0) ⊎ (pair_status found ≡ 1)
