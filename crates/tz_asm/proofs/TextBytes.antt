@@ -1,6 +1,6 @@
 -- What a line's text gives are bytes.
 use Rattle.std.proofs.Common.{◌≡◌, ◌<◌, ◌==◌, ◌&&◌, ℕ, zero, suc, Bool, true, false, nat_le, List, [], ◌∷◌, Option, Some, None, Result, Ok, Err, option_map, arith, refl, subst}
-use Rattle.std.specs.Prelude.{if◌then◌else◌, is_some, ok_or, slice_index}
+use Rattle.std.specs.Prelude.{if◌then◌else◌, ok_or, slice_index}
 use Rattle.std.proofs.lemmas.Bool.{and_parts, leb-true}
 use Rattle.tz_asm.specs.CodedOperands.{is_label}
 use Rattle.tz_asm.specs.Coded.{shaped}
@@ -226,18 +226,19 @@ with_text_holds (directives.Data size) operands text h = tt
 with_text_holds directives.Equ operands text h = tt
 with_text_holds directives.Space operands text h = tt
 
-refused_holds : (test : Bool) → Holds (if test then Err Operands else Err Mnemonic)
-refused_holds true = tt
-refused_holds false = tt
-
-texted_by_holds : (o : Option Directive) (word : List ℕ) (operands : List TokenValue) (text : Option (List ℕ)) → SomeBytes text → Holds (texted_by o word operands text)
-texted_by_holds (Some d) word operands text h = given_holds (with_text d operands text) (with_text_holds d operands text h)
-texted_by_holds None word operands text h = refused_holds (is_some (width_of_word word))
+texted_by_holds : (o : Option Directive) (operands : List TokenValue) (text : Option (List ℕ)) → SomeBytes text → Holds (texted_by o operands text)
+texted_by_holds (Some (directives.Text ends)) operands text h = given_holds (with_text (directives.Text ends) operands text) (with_text_holds (directives.Text ends) operands text h)
+texted_by_holds (Some directives.Org) operands text h = tt
+texted_by_holds (Some directives.Align) operands text h = tt
+texted_by_holds (Some (directives.Data size)) operands text h = tt
+texted_by_holds (Some directives.Equ) operands text h = tt
+texted_by_holds (Some directives.Space) operands text h = tt
+texted_by_holds None operands text h = tt
 
 texted_holds : (tokens : List TokenValue) (text : Option (List ℕ)) → SomeBytes text → Holds (texted tokens text)
 unfolding texted
 texted_holds [] text h = tt
-texted_holds (tokens.Word word ∷ operands) text h = texted_by_holds (directive_of word) word operands text h
+texted_holds (tokens.Word word ∷ operands) text h = texted_by_holds (directive_of word) operands text h
 texted_holds (tokens.Number n ∷ operands) text h = tt
 texted_holds (tokens.Mark m ∷ operands) text h = tt
 

@@ -1,12 +1,12 @@
 -- The statements of source.
-use Rattle.std.specs.Prelude.{ℕ, ◌==◌, Bool, true, false, ◌&&◌, is_some, if◌then◌else◌, List, [], ◌∷◌, codes, Option, Some, None, option_map, ok_or, Result, Ok, Err}
+use Rattle.std.specs.Prelude.{ℕ, ◌==◌, Bool, true, false, ◌&&◌, if◌then◌else◌, List, [], ◌∷◌, codes, Option, Some, None, option_map, ok_or, Result, Ok, Err}
 use Rattle.std.specs.Str.{bytes_eq}
 use Rattle.tz_asm.specs.Operands.{ExpressionValue, alignment, expression_of, number_of, unsigned}
 use Rattle.tz_asm.specs.declared.source.directive.Directive.{Directive}
 use Rattle.tz_asm.specs.declared.source.directive.Directive.TheVariants as directives
 use Rattle.tz_asm.specs.declared.source.number.Signed.{Signed}
 use Rattle.tz_asm.specs.declared.source.statement.LineError.{LineError}
-use Rattle.tz_asm.specs.declared.source.statement.LineError.TheVariants.{Mnemonic, Operands}
+use Rattle.tz_asm.specs.declared.source.statement.LineError.TheVariants.{Mnemonic, Operands, Token}
 use Rattle.tz_asm.specs.Coded.{shaped}
 use Rattle.tz_asm.specs.CodedOperands.{is_label}
 use Rattle.tz_asm.specs.Mnemonics.{width_of_word}
@@ -89,16 +89,17 @@ abbrev pub with_text : Directive → List TokenValue → Option (List ℕ) → O
 with_text (directives.Text ends) [] text = option_map (λ bytes. Text bytes ends) text
 with_text _ operands text = None
 
--- the statement of a word with a text among its operands
-abbrev pub texted_by : Option Directive → List ℕ → List TokenValue → Option (List ℕ) → Result StatementValue LineError
-texted_by (Some directive) word operands text = ok_or (with_text directive operands text) Operands
-texted_by None word operands text = if is_some (width_of_word word) then Err Operands else Err Mnemonic
+-- the statement of a word that may be a directive, with a text among its operands: `.ascii` and `.asciz` alone have
+-- texts, and to all other words a `"` is a character that no token has
+abbrev pub texted_by : Option Directive → List TokenValue → Option (List ℕ) → Result StatementValue LineError
+texted_by (Some (directives.Text ends)) operands text = ok_or (with_text (directives.Text ends) operands text) Operands
+texted_by _ operands text = Err Token
 
 -- the statement that tokens and a text are
 unfoldable pub texted : List TokenValue → Option (List ℕ) → Result StatementValue LineError
-texted [] text = Err Mnemonic
-texted (tokens.Word word ∷ operands) text = texted_by (directive_of word) word operands text
-texted _ text = Err Mnemonic
+texted [] text = Err Token
+texted (tokens.Word word ∷ operands) text = texted_by (directive_of word) operands text
+texted _ text = Err Token
 
 -- the statement that tokens are, with what the line ends with
 abbrev pub statement_with : List TokenValue → EndingValue → Result StatementValue LineError

@@ -1,13 +1,11 @@
 //! Statements.
 
-ghost use Rattle.std.specs.Prelude.{◌≡◌, Err, IfErr, IfOk, Ok, if◌then◌else◌, is_some, option_map};
-ghost use Rattle.tz_asm.specs.Mnemonics.{width_of_word};
+ghost use Rattle.std.specs.Prelude.{◌≡◌, Err, IfErr, IfOk, Ok, option_map};
 ghost use Rattle.tz_asm.specs.Statements.{directive_of, instructed, statement_of, statement_with, texted, texted_by, worded};
 ghost use Rattle.tz_asm.specs.Views.{ending_view, statement_view, views};
-ghost use Rattle.tz_asm.specs.declared.source.statement.LineError.TheVariants.{Mnemonic, Operands};
 
 use crate::code::{has_shape, width_of};
-use crate::source::directive::{directed, directive_of, with_text};
+use crate::source::directive::{Directive, directed, directive_of, with_text};
 use crate::source::number::Signed;
 use tz_syntax::Token;
 use tz_table::{Size, Width};
@@ -112,34 +110,24 @@ fn statement_of<'t, 's>(tokens: &'t [Token<'s>]) -> Result<Statement<'t, 's>, Li
     }
 }
 
-/// Why a word that begins a statement can't have a text behind it.
-fn no_text(word: &[u8]) -> LineError
-    ensures { (if is_some (width_of_word word.now) then Operands else Mnemonic) ≡ result }
-{
-    if width_of(word).is_some() {
-        LineError::Operands
-    } else {
-        LineError::Mnemonic
-    }
-}
-
-/// The statement of a word with a text among its operands, which is one where nothing stands behind it.
+/// The statement of a word with a text among its operands, which is one where nothing stands behind it. Only `.ascii` and
+/// `.asciz` have texts.
 fn texted_by<'t, 's>(
     word: &[u8],
     operands: &[Token<'s>],
     text: Option<&'t [u8]>,
 ) -> Result<Statement<'t, 's>, LineError>
-    ensures ok { IfOk result (λ s. texted_by (directive_of word.now) word.now (views operands.now)
+    ensures ok { IfOk result (λ s. texted_by (directive_of word.now) (views operands.now)
         (option_map (λ bytes. bytes.now) text.entry) ≡ Ok (statement_view s)) }
-    ensures err { IfErr result (λ e. texted_by (directive_of word.now) word.now (views operands.now)
+    ensures err { IfErr result (λ e. texted_by (directive_of word.now) (views operands.now)
         (option_map (λ bytes. bytes.now) text.entry) ≡ Err e) }
 {
     match directive_of(word) {
-        Some(directive) => match with_text(directive, operands, text) {
+        Some(Directive::Text(ends)) => match with_text(Directive::Text(ends), operands, text) {
             Some(statement) => Ok(statement),
             None => Err(LineError::Operands),
         },
-        None => Err(no_text(word)),
+        _ => Err(LineError::Token),
     }
 }
 
@@ -155,7 +143,7 @@ fn texted<'t, 's>(
 {
     match tokens {
         [Token::Word(word), operands @ ..] => texted_by(word, operands, text),
-        _ => Err(LineError::Mnemonic),
+        _ => Err(LineError::Token),
     }
 }
 
