@@ -77,6 +77,13 @@ def place_of(line):
     return line.split(b" ", 4)[2:4]
 
 
+def are_of_other_code(lines):
+    """Whether two lines are of one place of Secure code, and show that the images have other instructions there."""
+    words = [line.split(b" ", 5) for line in lines]
+    both = [it[1:4] for it in words]
+    return both[0] == both[1] and both[0][:2] == [SECURE, b"N"] and words[0][4] != words[1][4]
+
+
 def kind_of(line, values):
     """In which way a step that ends Non-secure goes there; `values` has registers as they are known."""
     if side_of(line) != SECURE:
@@ -164,6 +171,8 @@ class Difference:
         # Which runs are in Secure code after the step; none where no line behind it can be had.
         self.stays = self.at_step = self.last = None
         self.ends, self.locks = {}, {}
+        # The first step, of all, at which both are at one place of Secure code, and it has two codes; and the answers.
+        self.other_code, self.answers = None, {}
         self.begin_episode(None)
 
     def begin_episode(self, after):
@@ -200,6 +209,8 @@ class Difference:
         if self.entered is None and any(is_secure):
             self.entered = step
         if lines[0] != lines[1]:
+            if self.other_code is None and are_of_other_code(lines):
+                self.other_code = lines
             if self.first is None:
                 self.first = step
                 self.show_around(step)
@@ -207,10 +218,17 @@ class Difference:
                 self.parted = step
                 self.show_around(step)
         if step == self.step:
+            self.note_answers(lines)
             self.at_step = lines
             self.show_around(step)
         if step <= self.show_until:
             self.shown[step] = lines
+
+    def note_answers(self, lines):
+        """Keeps R0 of a run that returns, where it is known. Of one that was out before nothing is kept."""
+        for number, (run, line) in enumerate(zip(self.runs, lines)):
+            if number not in self.ends and side_of(line) == SECURE and kind_of(line, run.known()) in ("return", "bxns"):
+                self.answers[number] = run.values.get(b"r0")
 
     def note_locks(self, step, lines):
         for number, line in enumerate(lines):
@@ -226,6 +244,9 @@ class Difference:
         for number, secure in enumerate(is_secure):
             if not secure:
                 self.ends.setdefault(number, step - 1)
+            elif number not in self.ends:
+                self.runs[number].note_registers(lines[number])
+        self.note_answers(lines)
         is_over = len(self.ends) + len(set(self.locks) - set(self.ends)) == 2
         return step >= self.show_until and (is_over or not self.what.startswith("alone"))
 
