@@ -258,6 +258,8 @@ class Agreement:
         self.run = Run("")
         self.kinds = collections.Counter()
         self.secure = self.differing = self.locked = 0
+        # Of the steps that differ, those behind the first of Non-secure code.
+        self.differing_later, self.is_begun = 0, False
         self.first = None
 
     def read(self, steps, count):
@@ -280,6 +282,8 @@ class Agreement:
                 self.locked += kind_of_line(line) == b"L"
             else:
                 self.run.note_outside(line)
+                self.is_begun = True
             if line != other:
                 self.differing += 1
+                self.differing_later += self.is_begun
                 self.first = self.first or (line, other)
