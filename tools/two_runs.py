@@ -24,6 +24,7 @@ MOST_TOLD, MOST_KEPT = 6, 200_000
 
 SECURE = b"s"
 EXC_RETURN = 0xFF
+FAULTS = (b"3", b"4", b"5", b"6", b"7")
 REGISTER = re.compile(rb" (r\d+|lr|apsr)=([0-9a-f]{8})")
 STORE = re.compile(rb" (\[([0-9a-f]{8})\]\.([124])=([0-9a-f]{8}))")
 BRANCH = re.compile(rb" (blxns|bxns) (r\d+|lr)\b")
@@ -70,6 +71,11 @@ def side_of(line):
 def kind_of_line(line):
     """`N`, `X`, `Z` or `L`."""
     return line.split(b" ", 3)[2].strip()
+
+
+def is_fault(line):
+    """Whether an exception is taken that is a fault: 3 to 7."""
+    return b" X " in line and kind_of_line(line) == b"X" and line.split()[3] in FAULTS
 
 
 def place_of(line):
@@ -261,6 +267,8 @@ class Agreement:
         # Of the steps that differ, those behind the first of Non-secure code.
         self.differing_later, self.is_begun = 0, False
         self.first = None
+        # The first fault of each run.
+        self.faults = [None, None]
 
     def read(self, steps, count):
         """Reads the steps, each with the line of both runs in view all and of the first in view ns."""
@@ -276,6 +284,9 @@ class Agreement:
             if step == count:
                 return
             was_secure, last, was_hidden = is_secure, line, seen.endswith(b" S\n")
+            for run, its in enumerate((line, other)):
+                if self.faults[run] is None and is_fault(its):
+                    self.faults[run] = its
             if is_secure:
                 self.secure += 1
                 self.run.note(line)
