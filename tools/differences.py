@@ -152,6 +152,14 @@ WHATS = {
         "clrex on each way out; sev and wfe at the same steps, whatever the secret is",
     ),
 }
+# Of a byte that differs where an interrupt comes between.
+INTERRUPTED = Told(
+    WHATS["bytes"].meaning,
+    "Secure code stores to its caller's memory what depends on the secret, and means to clear or overwrite it later. "
+    "The interrupt comes before that",
+    "work in Secure memory, on the stack, and store to the caller's memory once it is decided what the caller is to "
+    "have",
+)
 MASKS = r" cpsi[de] | msr (primask|basepri|basepri_max|faultmask)(_ns)?,"
 # What writes a part of the public state: instructions of Secure code, and addresses of its stores.
 WRITERS = {
@@ -171,9 +179,11 @@ WRITERS = {
 }
 
 
-def told_of(what):
-    """What there is to tell of a difference."""
+def told_of(what, kinds=()):
+    """What there is to tell of a difference, at crossings of these kinds."""
     first, *more = what.split()
+    if first == "bytes" and "preempt" in kinds:
+        return INTERRUPTED
     if first == "alone":
         return ALONE.get(more[0] if more else "", TIME)
     if first in WHATS:

@@ -24,6 +24,7 @@ MOST_TOLD, MOST_KEPT = 6, 200_000
 
 SECURE = b"s"
 EXC_RETURN = 0xFF
+FAULTS = (b"3", b"4", b"5", b"6", b"7")
 REGISTER = re.compile(rb" (r\d+|lr|apsr)=([0-9a-f]{8})")
 STORE = re.compile(rb" (\[([0-9a-f]{8})\]\.([124])=([0-9a-f]{8}))")
 BRANCH = re.compile(rb" (blxns|bxns) (r\d+|lr)\b")
@@ -72,9 +73,21 @@ def kind_of_line(line):
     return line.split(b" ", 3)[2].strip()
 
 
+def is_fault(line):
+    """Whether an exception is taken that is a fault: 3 to 7."""
+    return b" X " in line and kind_of_line(line) == b"X" and line.split()[3] in FAULTS
+
+
 def place_of(line):
     """Where a run is: the letter, and of an instruction its place, of an exception its number."""
     return line.split(b" ", 4)[2:4]
+
+
+def are_of_other_code(lines):
+    """Whether two lines are of one place of Secure code, and show that the images have other instructions there."""
+    words = [line.split(b" ", 5) for line in lines]
+    both = [it[1:4] for it in words]
+    return both[0] == both[1] and both[0][:2] == [SECURE, b"N"] and words[0][4] != words[1][4]
 
 
 def kind_of(line, values):
@@ -164,6 +177,8 @@ class Difference:
         # Which runs are in Secure code after the step; none where no line behind it can be had.
         self.stays = self.at_step = self.last = None
         self.ends, self.locks = {}, {}
+        # The first step, of all, at which both are at one place of Secure code, and it has two codes; and the answers.
+        self.other_code, self.answers = None, {}
         self.begin_episode(None)
 
     def begin_episode(self, after):
@@ -200,6 +215,8 @@ class Difference:
         if self.entered is None and any(is_secure):
             self.entered = step
         if lines[0] != lines[1]:
+            if self.other_code is None and are_of_other_code(lines):
+                self.other_code = lines
             if self.first is None:
                 self.first = step
                 self.show_around(step)
@@ -207,10 +224,17 @@ class Difference:
                 self.parted = step
                 self.show_around(step)
         if step == self.step:
+            self.note_answers(lines)
             self.at_step = lines
             self.show_around(step)
         if step <= self.show_until:
             self.shown[step] = lines
+
+    def note_answers(self, lines):
+        """Keeps R0 of a run that returns, where it is known. Of one that was out before nothing is kept."""
+        for number, (run, line) in enumerate(zip(self.runs, lines)):
+            if number not in self.ends and side_of(line) == SECURE and kind_of(line, run.known()) in ("return", "bxns"):
+                self.answers[number] = run.values.get(b"r0")
 
     def note_locks(self, step, lines):
         for number, line in enumerate(lines):
@@ -226,6 +250,9 @@ class Difference:
         for number, secure in enumerate(is_secure):
             if not secure:
                 self.ends.setdefault(number, step - 1)
+            elif number not in self.ends:
+                self.runs[number].note_registers(lines[number])
+        self.note_answers(lines)
         is_over = len(self.ends) + len(set(self.locks) - set(self.ends)) == 2
         return step >= self.show_until and (is_over or not self.what.startswith("alone"))
 
@@ -237,7 +264,11 @@ class Agreement:
         self.run = Run("")
         self.kinds = collections.Counter()
         self.secure = self.differing = self.locked = 0
+        # Of the steps that differ, those behind the first of Non-secure code.
+        self.differing_later, self.is_begun = 0, False
         self.first = None
+        # The first fault of each run.
+        self.faults = [None, None]
 
     def read(self, steps, count):
         """Reads the steps, each with the line of both runs in view all and of the first in view ns."""
@@ -253,12 +284,17 @@ class Agreement:
             if step == count:
                 return
             was_secure, last, was_hidden = is_secure, line, seen.endswith(b" S\n")
+            for run, its in enumerate((line, other)):
+                if self.faults[run] is None and is_fault(its):
+                    self.faults[run] = its
             if is_secure:
                 self.secure += 1
                 self.run.note(line)
                 self.locked += kind_of_line(line) == b"L"
             else:
                 self.run.note_outside(line)
+                self.is_begun = True
             if line != other:
                 self.differing += 1
+                self.differing_later += self.is_begun
                 self.first = self.first or (line, other)
