@@ -10,18 +10,18 @@ use Rattle.tz_table.specs.declared.units.Size.TheVariants.{Byte, Half, Word}
 use Rattle.tz_model.specs.declared.board.Region.{Region}
 use Rattle.tz_model.specs.Board.{within, in_region, is_region, are_regions, is_nonsecure, is_callable}
 use Rattle.tz_model.specs.Words.{wrap}
-use Rattle.tz_regs.specs.declared.units.Bounds.{Bounds}
-use Rattle.tz_regs.specs.declared.request.Kind.{Kind}
-use Rattle.tz_regs.specs.declared.request.Kind.TheVariants as kinds
+use Rattle.tz_state.specs.declared.units.Bounds.{Bounds}
+use Rattle.tz_state.specs.declared.request.Kind.{Kind}
+use Rattle.tz_state.specs.declared.request.Kind.TheVariants as kinds
 use Rattle.tz_model.specs.declared.board.Profile.{Profile}
-use Rattle.tz_regs.specs.Regions.{holds, holding}
-use Rattle.tz_regs.specs.Memory.{every}
-use Rattle.tz_regs.specs.Attribution.{MapState, SauState, sau_side, idau_side, mapped_side, is_exempt, data_attribution, fetch_attribution, is_open}
-use Rattle.tz_regs.specs.Protection.{MpuState, permission, permission_by, default_permits, is_executable}
-use Rattle.tz_regs.specs.declared.request.Request.{Request}
-use Rattle.tz_regs.specs.State.{Bus, mpu_of}
-use Rattle.tz_regs.specs.Access.{is_mapped, is_writable, takes, lets}
-use Rattle.tz_regs.specs.Fetch.{is_own_byte, is_entry, lets_run}
+use Rattle.tz_state.specs.Regions.{holds, holding}
+use Rattle.tz_state.specs.Memory.{every}
+use Rattle.tz_state.specs.Attribution.{MapState, SauState, sau_side, idau_side, mapped_side, is_exempt, data_attribution, fetch_attribution, is_open}
+use Rattle.tz_state.specs.Protection.{MpuState, permission, permission_by, default_permits, is_executable}
+use Rattle.tz_state.specs.declared.request.Request.{Request}
+use Rattle.tz_state.specs.State.{Bus, mpu_of}
+use Rattle.tz_state.specs.Access.{is_mapped, is_writable, takes, lets}
+use Rattle.tz_state.specs.Fetch.{is_own_byte, is_entry, lets_run}
 use Rattle.tz_access.specs.Checks.{IsByBlocks, last_of}
 
 -- ---- an access

@@ -10,11 +10,11 @@ use Rattle.tz_model.specs.declared.board.Region.{Region}
 use Rattle.tz_model.specs.declared.board.RegionSide.{RegionSide}
 use Rattle.tz_model.specs.declared.board.RegionSide.TheVariants.{Secure, Nsc, NonSecure}
 use Rattle.tz_model.specs.Board.{in_region, is_region, are_regions, is_apart, apart_from, are_apart, is_nonsecure}
-use Rattle.tz_regs.specs.Attribution.{MapState, more_secure, sau_side, idau_side, mapped_side, is_exempt, data_attribution, is_open}
-use Rattle.tz_regs.specs.Access.{is_mapped}
-use Rattle.tz_regs.specs.State.{Bus, map_in}
-use Rattle.tz_regs.specs.Difference.{is_same_byte, byte_differs, open_byte_differs, open_bytes_differ}
-use Rattle.tz_regs.proofs.Difference.{none_differs, differs_nowhere}
+use Rattle.tz_state.specs.Attribution.{MapState, more_secure, sau_side, idau_side, mapped_side, is_exempt, data_attribution, is_open}
+use Rattle.tz_state.specs.Access.{is_mapped}
+use Rattle.tz_state.specs.State.{Bus, map_in}
+use Rattle.tz_state.specs.Difference.{is_same_byte, byte_differs, open_byte_differs, open_bytes_differ}
+use Rattle.tz_state.proofs.Difference.{none_differs, differs_nowhere}
 use Rattle.tz_mem.specs.Values.{MemoryValue}
 use Rattle.tz_mem.specs.Difference.{some_from, region_at, IsFilled}
 use Rattle.tz_access.specs.Checks.{IsByBlocks}

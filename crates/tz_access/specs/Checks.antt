@@ -9,10 +9,10 @@ use Rattle.tz_model.specs.Board.{is_nonsecure}
 use Rattle.tz_model.specs.Words.{wrap}
 use Rattle.tz_model.specs.declared.report.Fault.{Fault}
 use Rattle.tz_model.specs.declared.report.Fault.TheVariants.{Precise}
-use Rattle.tz_regs.specs.declared.request.Request.{Request}
-use Rattle.tz_regs.specs.Memory.{every}
-use Rattle.tz_regs.specs.State.{Bus}
-use Rattle.tz_regs.specs.Access.{takes}
+use Rattle.tz_state.specs.declared.request.Request.{Request}
+use Rattle.tz_state.specs.Memory.{every}
+use Rattle.tz_state.specs.State.{Bus}
+use Rattle.tz_state.specs.Access.{takes}
 use Rattle.tz_access.specs.declared.place.Place.{Place}
 use Rattle.tz_access.specs.declared.place.Place.TheVariants.{Memory, System}
 

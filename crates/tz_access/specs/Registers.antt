@@ -2,8 +2,8 @@
 use Rattle.std.specs.Prelude.{ℕ, Bool, if◌then◌else◌}
 use Rattle.tz_table.specs.declared.units.Side.{Side}
 use Rattle.tz_model.specs.Board.{within}
-use Rattle.tz_regs.specs.State.{Bus, mpu_of, with_mpu}
-use Rattle.tz_regs.specs.UnitRegisters.{sau_register, sau_read, sau_written, mpu_register, mpu_read, mpu_written}
+use Rattle.tz_state.specs.State.{Bus, mpu_of, with_mpu}
+use Rattle.tz_state.specs.UnitRegisters.{sau_register, sau_read, sau_written, mpu_register, mpu_read, mpu_written}
 
 -- the SAU's registers
 abbrev pub is_of_sau : ℕ → Bool

@@ -2,19 +2,19 @@
 
 ghost use Rattle.std.specs.Prelude.{◌≡◌, IfOk, MatchResult, OnOk, OnErr, IfErr, true, false};
 ghost use Rattle.tz_mem.specs.Values.{IsRefusal};
-ghost use Rattle.tz_regs.specs.Access.{is_mapped, is_writable};
-ghost use Rattle.tz_regs.specs.Memory.{every, value_at, with_value, with_byte, with_bytes};
-ghost use Rattle.tz_regs.specs.State.{map_in, mpu_of, with_memory};
-ghost use Rattle.tz_regs.specs.UnitRegisters.{reset_bus};
-ghost use Rattle.tz_regs.specs.Zeros.{zero_memory};
+ghost use Rattle.tz_state.specs.Access.{is_mapped, is_writable};
+ghost use Rattle.tz_state.specs.Memory.{every, value_at, with_value, with_byte, with_bytes};
+ghost use Rattle.tz_state.specs.State.{map_in, mpu_of, with_memory};
+ghost use Rattle.tz_state.specs.UnitRegisters.{reset_bus};
+ghost use Rattle.tz_state.specs.Zeros.{zero_memory};
 
 use std::alloc::{AllocError, Global};
 use std::marker::Model;
 use tz_mem::{Memory, NotMapped, Refused};
 use tz_model::{Board, Segment, Side, Size};
 use tz_mpu::Mpu;
-use tz_regs::Exclusive;
 use tz_sau::Sau;
+use tz_state::Exclusive;
 
 /// Memory with what guards it.
 #[derive(Drop)]
@@ -33,7 +33,7 @@ impl Model for Bus {
     ghost use Rattle.std.specs.FinMap as map;
     ghost use Rattle.std.specs.Ordering.{nat_cmp};
     ghost use Rattle.tz_model.specs.Board.{IsBoard};
-    ghost use Rattle.tz_regs.specs.State as state;
+    ghost use Rattle.tz_state.specs.State as state;
 
     ghost Value = { state.Bus };
 

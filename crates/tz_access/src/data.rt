@@ -1,10 +1,10 @@
 //! Data accesses: alignment, attribution, protection, the map, in this order.
 
 ghost use Rattle.std.specs.Prelude.{◌≡◌, MatchResult, None, Some, if◌then◌else◌};
-ghost use Rattle.tz_regs.specs.declared.request.Kind.TheVariants.{Read, Write};
-ghost use Rattle.tz_regs.specs.Memory.{every, value_at, with_value};
-ghost use Rattle.tz_regs.specs.State.{map_in, with_memory};
-ghost use Rattle.tz_regs.specs.Access.{is_aligned, is_crooked, may_touch, is_let, lets, takes, is_private, verdict, request_by};
+ghost use Rattle.tz_state.specs.declared.request.Kind.TheVariants.{Read, Write};
+ghost use Rattle.tz_state.specs.Memory.{every, value_at, with_value};
+ghost use Rattle.tz_state.specs.State.{map_in, with_memory};
+ghost use Rattle.tz_state.specs.Access.{is_aligned, is_crooked, may_touch, is_let, lets, takes, is_private, verdict, request_by};
 ghost use Rattle.tz_access.specs.Checks.{is_system, left_by};
 
 use crate::bus::Bus;
@@ -12,7 +12,7 @@ use crate::place::Place;
 use crate::span::{is_one_block, last_of};
 use crate::units::is_private;
 use tz_model::{Fault, Side, Size};
-use tz_regs::{Asker, Kind, Request};
+use tz_state::{Asker, Kind, Request};
 
 /// Whether an address is a multiple of a size.
 pub fn is_aligned(size: Size, addr: u32) -> bool
@@ -56,7 +56,7 @@ fn request_by(
 
 impl Bus {
     /// Whether attribution lets code of a side access each byte.
-    #[tactic(auto, unfolding(tz_regs::specs::Access::may_touch))]
+    #[tactic(auto, unfolding(tz_state::specs::Access::may_touch))]
     pub(crate) fn may_touch(&self, side: Side, size: Size, addr: u32) -> bool
         ensures { result ≡ may_touch (map_in self.now) side size addr }
     {
@@ -70,7 +70,7 @@ impl Bus {
     }
 
     /// Whether the MPU lets an access have each byte.
-    #[tactic(auto, using(crate::proofs::Blocks::every_by_ends), unfolding(tz_regs::specs::Access::is_let))]
+    #[tactic(auto, using(crate::proofs::Blocks::every_by_ends), unfolding(tz_state::specs::Access::is_let))]
     fn is_let(&self, request: &Request) -> bool
         ensures { result ≡ is_let self.now request.now }
     {
@@ -88,7 +88,7 @@ impl Bus {
     }
 
     /// All checks of an access but the map's.
-    #[tactic(auto, unfolding(tz_regs::specs::Access::verdict))]
+    #[tactic(auto, unfolding(tz_state::specs::Access::verdict))]
     fn guard(&self, request: &Request) -> Result<Place, Fault>
         ensures { MatchResult result
             (λ place. (verdict self.now request.now ≡ left_by place self.now request.now) × (is_system place ≡ is_private request.now.addr))

@@ -3,7 +3,7 @@
 ghost use Rattle.std.specs.Prelude.{◌≡◌, ◌+◌, ◌*◌, ◌<◌, ◌≤◌, length, true};
 ghost use Rattle.tz_mem.specs.Difference.{some_from, region_at, IsFilled};
 ghost use Rattle.tz_model.specs.Board.{are_apart, is_nonsecure, is_region};
-ghost use Rattle.tz_regs.specs.Difference.{byte_differs, open_byte_differs, open_bytes_differ};
+ghost use Rattle.tz_state.specs.Difference.{byte_differs, open_byte_differs, open_bytes_differ};
 
 use crate::bus::Bus;
 use tz_model::RegionSide;

@@ -3,15 +3,15 @@
 ghost use Rattle.std.specs.Prelude.{◌≡◌, ◌+◌, true, MatchOption, MatchResult, None, Some};
 ghost use Rattle.tz_table.specs.declared.units.Side.TheVariants.{Secure, NonSecure};
 ghost use Rattle.tz_model.specs.Words.{wrap};
-ghost use Rattle.tz_regs.specs.Attribution.{fetch_attribution};
-ghost use Rattle.tz_regs.specs.Fetch.{is_own_byte, is_own_fetch, is_runnable, wrong_side, lets_run, own_fetch, is_entry as is_entry_at, gateway_fetch, is_entry_fault, fetch, needs_second, narrow, wide};
-ghost use Rattle.tz_regs.specs.State.{map_in};
+ghost use Rattle.tz_state.specs.Attribution.{fetch_attribution};
+ghost use Rattle.tz_state.specs.Fetch.{is_own_byte, is_own_fetch, is_runnable, wrong_side, lets_run, own_fetch, is_entry as is_entry_at, gateway_fetch, is_entry_fault, fetch, needs_second, narrow, wide};
+ghost use Rattle.tz_state.specs.State.{map_in};
 ghost use Rattle.tz_access.specs.Checks.{IsByBlocks, is_own};
 
 use crate::bus::Bus;
 use crate::span::is_one_block;
 use tz_model::{Code, Fault, FetchAnswer, Fetched, RegionSide, Side};
-use tz_regs::Fetcher;
+use tz_state::Fetcher;
 
 /// Whether memory of this attribution is of a side.
 fn is_own(side: Side, attributed: RegionSide) -> bool
@@ -76,7 +76,7 @@ impl Bus {
     }
 
     /// Whether both bytes of a halfword are of the side that fetches it.
-    #[tactic(auto, unfolding(tz_regs::specs::Fetch::is_own_fetch))]
+    #[tactic(auto, unfolding(tz_state::specs::Fetch::is_own_fetch))]
     pub fn is_own_fetch(&self, side: Side, addr: u32) -> bool
         ensures { result ≡ is_own_fetch (map_in self.now) side addr }
     {
@@ -84,7 +84,7 @@ impl Bus {
     }
 
     /// Whether both bytes of a halfword are of the side that fetches it, by the attribution of its first.
-    #[tactic(auto, unfolding(tz_regs::specs::Fetch::is_own_fetch))]
+    #[tactic(auto, unfolding(tz_state::specs::Fetch::is_own_fetch))]
     fn is_own_rest(&self, side: Side, addr: u32, attributed: RegionSide) -> bool
         requires { attributed ≡ fetch_attribution (map_in self.now) side addr }
         ensures { result ≡ is_own_fetch (map_in self.now) side addr }
@@ -96,7 +96,7 @@ impl Bus {
     }
 
     /// Whether the second halfword at PC is of the side that fetches it, where the first is.
-    #[tactic(auto, using(crate::proofs::Blocks::second_in_block), unfolding(tz_regs::specs::Fetch::is_own_fetch))]
+    #[tactic(auto, using(crate::proofs::Blocks::second_in_block), unfolding(tz_state::specs::Fetch::is_own_fetch))]
     fn is_second_own(&self, side: Side, pc: u32) -> bool
         requires { is_own_fetch (map_in self.now) side pc ≡ true }
         ensures { result ≡ is_own_fetch (map_in self.now) side (wrap (pc + 2)) }
@@ -106,7 +106,7 @@ impl Bus {
     }
 
     /// Whether the MPU of a side lets code run at both bytes of a halfword.
-    #[tactic(auto, unfolding(tz_regs::specs::Fetch::is_runnable))]
+    #[tactic(auto, unfolding(tz_state::specs::Fetch::is_runnable))]
     fn is_runnable(&self, side: Side, privileged: bool, negative: bool, addr: u32) -> bool
         ensures { result ≡ is_runnable self.now side privileged negative addr }
     {
@@ -116,7 +116,7 @@ impl Bus {
     }
 
     /// Whether the MPU lets code run at the second halfword at PC, where it does at the first.
-    #[tactic(auto, unfolding(tz_regs::specs::Fetch::is_runnable))]
+    #[tactic(auto, unfolding(tz_state::specs::Fetch::is_runnable))]
     fn is_second_runnable(&self, side: Side, privileged: bool, negative: bool, pc: u32) -> bool
         requires { is_runnable self.now side privileged negative pc ≡ true }
         ensures { result ≡ is_runnable self.now side privileged negative (wrap (pc + 2)) }
@@ -137,7 +137,7 @@ impl Bus {
     }
 
     /// The instruction at PC, where its first halfword is of the side that fetches it.
-    #[tactic(auto, unfolding(tz_regs::specs::Fetch::own_fetch, tz_regs::specs::Fetch::half_verdict))]
+    #[tactic(auto, unfolding(tz_state::specs::Fetch::own_fetch, tz_state::specs::Fetch::half_verdict))]
     fn own_fetch(&self, fetcher: &Fetcher, pc: u32) -> Result<Fetched, Fault>
         requires { is_own_fetch (map_in self.now) fetcher.now.side pc ≡ true }
         ensures { result ≡ own_fetch self.now fetcher.now pc }
@@ -172,7 +172,7 @@ impl Bus {
 
     /// SG, where Non-secure code runs into Secure memory at PC: all four bytes have to be callable.
     /// `is_entry` tells it of the first two.
-    #[tactic(auto, unfolding(tz_regs::specs::Fetch::gateway_fetch))]
+    #[tactic(auto, unfolding(tz_state::specs::Fetch::gateway_fetch))]
     fn gateway_fetch(&self, fetcher: &Fetcher, pc: u32, is_entry: bool) -> Result<Fetched, Fault>
         requires { is_entry ≡ is_entry_at (map_in self.now) pc }
         ensures { result ≡ gateway_fetch self.now fetcher.now pc }
@@ -198,7 +198,7 @@ impl Bus {
     }
 
     /// The instruction at PC for Non-secure code.
-    #[tactic(auto, unfolding(tz_regs::specs::Fetch::fetch))]
+    #[tactic(auto, unfolding(tz_state::specs::Fetch::fetch))]
     fn nonsecure_fetch(&self, fetcher: &Fetcher, pc: u32) -> FetchAnswer
         requires { fetcher.now.side ≡ NonSecure }
         ensures { result ≡ fetch self.now fetcher.now pc }
@@ -218,7 +218,7 @@ impl Bus {
     }
 
     /// The instruction at PC, or its fault, and whether the fetch met Secure memory.
-    #[tactic(auto, unfolding(tz_regs::specs::Fetch::fetch, tz_regs::specs::Fetch::own_fetch, tz_regs::specs::Fetch::half_verdict))]
+    #[tactic(auto, unfolding(tz_state::specs::Fetch::fetch, tz_state::specs::Fetch::own_fetch, tz_state::specs::Fetch::half_verdict))]
     pub fn fetch_told(&self, pc: u32, fetcher: &Fetcher) -> FetchAnswer
         ensures { result ≡ fetch self.now fetcher.now pc }
     {

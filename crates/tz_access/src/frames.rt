@@ -4,17 +4,17 @@ ghost use Rattle.std.specs.Prelude.{◌≡◌, ◌+◌, ◌*◌, true, false, Ma
 ghost use Rattle.tz_table.specs.declared.units.Size.TheVariants.{Word};
 ghost use Rattle.tz_model.specs.Words.{wrap};
 ghost use Rattle.tz_regs.specs.Banks.{of_side};
-ghost use Rattle.tz_regs.specs.Memory.{every, word_at, with_word};
-ghost use Rattle.tz_regs.specs.declared.request.Kind.TheVariants.{Read, Write};
-ghost use Rattle.tz_regs.specs.Access.{verdict, request_by};
-ghost use Rattle.tz_regs.specs.State.{with_memory};
+ghost use Rattle.tz_state.specs.Memory.{every, word_at, with_word};
+ghost use Rattle.tz_state.specs.declared.request.Kind.TheVariants.{Read, Write};
+ghost use Rattle.tz_state.specs.Access.{verdict, request_by};
+ghost use Rattle.tz_state.specs.State.{with_memory};
 ghost use Rattle.tz_frames.specs.Machine.{vector_verdict, in_map_alone};
 
 use crate::bus::Bus;
 use crate::place::Place;
 use tz_frames::Frames;
 use tz_model::{Fault, Side, Size};
-use tz_regs::Asker;
+use tz_state::Asker;
 
 /// Frames over the bus: made for one entry or return.
 #[derive(Drop)]

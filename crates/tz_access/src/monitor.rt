@@ -1,11 +1,11 @@
 //! The exclusive monitor: one address and size, or nothing.
 
 ghost use Rattle.std.specs.Prelude.{◌≡◌, MatchOption, Some, None};
-ghost use Rattle.tz_regs.specs.State.{is_held, with_monitor};
+ghost use Rattle.tz_state.specs.State.{is_held, with_monitor};
 
 use crate::bus::Bus;
 use tz_model::Size;
-use tz_regs::Exclusive;
+use tz_state::Exclusive;
 
 /// Whether the monitor holds an address and a size.
 fn is_held(monitor: &Option<Exclusive>, addr: u32, size: Size) -> bool

@@ -1,13 +1,13 @@
 //! The registers of the SAU and of the MPUs, by their names and by their addresses (DDI0553, chapter D1.2).
 
 ghost use Rattle.std.specs.Prelude.{◌≡◌};
-ghost use Rattle.tz_regs.specs.State.{mpu_of, with_mpu};
-ghost use Rattle.tz_regs.specs.UnitRegisters.{sau_value, with_sau_value, mpu_value, with_mpu_value};
+ghost use Rattle.tz_state.specs.State.{mpu_of, with_mpu};
+ghost use Rattle.tz_state.specs.UnitRegisters.{sau_value, with_sau_value, mpu_value, with_mpu_value};
 ghost use Rattle.tz_access.specs.Registers.{is_of_sau, unit_read, unit_written};
 
 use crate::bus::Bus;
 use tz_model::Side;
-use tz_regs::{MpuRegister, SauRegister};
+use tz_state::{MpuRegister, SauRegister};
 
 /// Whether an address is one of the SAU's registers.
 fn is_of_sau(addr: u32) -> bool

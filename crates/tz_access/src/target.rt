@@ -2,12 +2,12 @@
 
 ghost use Rattle.std.specs.Prelude.{◌≡◌, ◌*◌, ◌+◌, ◌<◌, ◌≤◌, ◌&&◌};
 ghost use Rattle.tz_regs.specs.Special.{number_of};
-ghost use Rattle.tz_regs.specs.Target.{examined, learns, may, told_at, mregion, common_part, sregion, is_open_to, secure_part, target_word};
-ghost use Rattle.tz_regs.specs.Attribution.{idau_region};
+ghost use Rattle.tz_state.specs.Target.{examined, learns, may, told_at, mregion, common_part, sregion, is_open_to, secure_part, target_word};
+ghost use Rattle.tz_state.specs.Attribution.{idau_region};
 
 use crate::bus::Bus;
 use tz_model::Side;
-use tz_regs::{Kind, Probe};
+use tz_state::{Kind, Probe};
 
 /// What the SAU and the board tell of an address.
 #[derive(Clone, Copy)]
@@ -119,7 +119,7 @@ impl Bus {
     }
 
     /// What the SAU and the board tell: SREGION, IREGION, and whether the address is Non-secure.
-    #[tactic(auto, unfolding(tz_regs::specs::Attribution::attribution))]
+    #[tactic(auto, unfolding(tz_state::specs::Attribution::attribution))]
     fn attributed(&self, probe: &Probe) -> Attributed
         ensures sregion { result.sregion ≡ sregion self.now probe.now }
         ensures iregion { result.iregion ≡ idau_region 0 self.now.board.regions probe.now.addr }
@@ -149,7 +149,7 @@ impl Bus {
     /// What TT tells code of a side about an address. `privileged` is its privilege in the state whose MPU is
     /// looked at, which is the Non-secure one with `alternate`; `user` asks for an access without privilege;
     /// `negative` says that the execution priority is below 0.
-    #[tactic(auto, unfolding(tz_regs::specs::Target::target_word))]
+    #[tactic(auto, unfolding(tz_state::specs::Target::target_word))]
     pub fn test_target(
         &self,
         addr: u32,

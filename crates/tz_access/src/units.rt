@@ -2,16 +2,16 @@
 
 ghost use Rattle.std.specs.Prelude.{◌≡◌, true};
 ghost use Rattle.tz_access.specs.Checks.{IsByBlocks};
-ghost use Rattle.tz_regs.specs.Access.{is_mapped, is_writable, takes, lets, is_private};
-ghost use Rattle.tz_regs.specs.Attribution.{is_open};
-ghost use Rattle.tz_regs.specs.Fetch.{is_own_byte, lets_run, is_entry};
-ghost use Rattle.tz_regs.specs.Protection.{permits};
-ghost use Rattle.tz_regs.specs.State.{map_in, mpu_of};
+ghost use Rattle.tz_state.specs.Access.{is_mapped, is_writable, takes, lets, is_private};
+ghost use Rattle.tz_state.specs.Attribution.{is_open};
+ghost use Rattle.tz_state.specs.Fetch.{is_own_byte, lets_run, is_entry};
+ghost use Rattle.tz_state.specs.Protection.{permits};
+ghost use Rattle.tz_state.specs.State.{map_in, mpu_of};
 ghost use Rattle.tz_model.specs.Board.{in_region, are_regions};
 
 use crate::bus::Bus;
 use tz_model::{Region, RegionKind, RegionSide, Side};
-use tz_regs::{Kind, Request};
+use tz_state::{Kind, Request};
 
 /// Whether an address is in the private peripheral space.
 pub fn is_private(addr: u32) -> bool
@@ -28,7 +28,7 @@ fn holds(region: &Region, addr: u32) -> bool
 }
 
 /// Whether some region holds an address.
-#[tactic(auto, unfolding(tz_regs::specs::Access::is_mapped))]
+#[tactic(auto, unfolding(tz_state::specs::Access::is_mapped))]
 fn is_mapped(regions: &[Region], addr: u32) -> bool
     ensures { result ≡ is_mapped regions.now addr }
 {
@@ -41,7 +41,7 @@ fn is_mapped(regions: &[Region], addr: u32) -> bool
 }
 
 /// Whether the region that holds an address takes writes.
-#[tactic(auto, unfolding(tz_regs::specs::Access::is_writable))]
+#[tactic(auto, unfolding(tz_state::specs::Access::is_writable))]
 fn is_writable(regions: &[Region], addr: u32) -> bool
     ensures { result ≡ is_writable regions.now addr }
 {
@@ -63,7 +63,7 @@ impl Bus {
     }
 
     /// Whether Non-secure code may read a byte.
-    #[tactic(auto, using(crate::proofs::Blocks::open_by_blocks), unfolding(tz_regs::specs::Attribution::is_open))]
+    #[tactic(auto, using(crate::proofs::Blocks::open_by_blocks), unfolding(tz_state::specs::Attribution::is_open))]
     pub(crate) fn is_open(&self, addr: u32) -> bool
         ensures value { result ≡ is_open (map_in self.now) addr }
         ensures blocks { IsByBlocks (is_open (map_in self.now)) }

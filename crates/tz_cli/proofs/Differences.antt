@@ -1,7 +1,7 @@
 -- The search for the first step at which two runs disagree, step by step.
 use Rattle.std.proofs.Common.{◌≡◌, ℕ, suc, ◌+◌, ◌-◌, ◌<◌, ◌≤◌, List, Option, Some, None, refl, sym, ap, ◌∙◌, subst, arith}
 use Rattle.std.specs.Prelude.{option_map}
-use Rattle.tz_regs.specs.State.{State}
+use Rattle.tz_state.specs.State.{State}
 use Rattle.tz_sem.specs.Step.{step}
 use Rattle.tz_sem.specs.Run.{Events}
 use Rattle.tz_iso.specs.declared.answer.What.{What}

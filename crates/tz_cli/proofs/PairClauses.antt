@@ -1,7 +1,7 @@
 -- What the answers of `pair` say of its two runs.
 use Rattle.std.proofs.Common.{◌≡◌, ◌≢◌, ℕ, ◌<◌, List, Option, Some, None, refl, sym, ap, ◌∙◌, arith}
 use Rattle.tz_model.specs.Outside.{Held, Gains}
-use Rattle.tz_regs.specs.State.{State}
+use Rattle.tz_state.specs.State.{State}
 use Rattle.tz_sem.specs.Step.{step}
 use Rattle.tz_sem.specs.Run.{Events, state_after}
 use Rattle.tz_twin.specs.Seen.{crossing, Agree}

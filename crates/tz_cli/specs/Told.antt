@@ -6,7 +6,7 @@ use Rattle.tz_table.specs.declared.units.Side.TheVariants.{Secure, NonSecure}
 use Rattle.tz_model.specs.Board.{BoardValue}
 use Rattle.tz_model.specs.Image.{ImageValue, SegmentValue}
 use Rattle.tz_model.specs.Outside.{Held, Untold, Absent, Holds}
-use Rattle.tz_regs.specs.State.{State}
+use Rattle.tz_state.specs.State.{State}
 use Rattle.tz_sem.specs.Boot.{boot}
 use Rattle.tz_board.specs.Demo.{demo}
 use Rattle.tz_elf.specs.Images.{Refusal, image_of}

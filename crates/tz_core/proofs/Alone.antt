@@ -2,8 +2,8 @@
 use Rattle.std.proofs.Common.{◌≡◌, ℕ, List, [], Ok, Err, refl}
 use Rattle.tz_table.specs.declared.instruction.Insn.{Insn}
 use Rattle.tz_model.specs.Ports.{answers}
-use Rattle.tz_regs.specs.Access.{reached_in, access}
-use Rattle.tz_regs.specs.State.{State}
+use Rattle.tz_state.specs.Access.{reached_in, access}
+use Rattle.tz_state.specs.State.{State}
 use Rattle.tz_sem.specs.Local.{Finished, local_of, finished_in}
 use Rattle.tz_sem.specs.Branch.{plan_branch, finish_branch}
 use Rattle.tz_sem.specs.Exec.{ported, after_accesses, branch_over, through, alone}

@@ -4,9 +4,9 @@ use Rattle.std.specs.Prelude.{nat_le}
 use Rattle.std.proofs.lemmas.Bool.Decides.{nat_tests}
 use Rattle.tz_model.specs.declared.report.Fault.{Fault}
 use Rattle.tz_model.specs.declared.report.Fault.TheVariants.{Unaligned}
-use Rattle.tz_regs.specs.declared.request.Request.{Request}
-use Rattle.tz_regs.specs.State.{Bus}
-use Rattle.tz_regs.specs.Access.{is_aligned, is_private, verdict}
+use Rattle.tz_state.specs.declared.request.Request.{Request}
+use Rattle.tz_state.specs.State.{Bus}
+use Rattle.tz_state.specs.Access.{is_aligned, is_private, verdict}
 
 high : (a : ℕ) → is_private a ≡ true → nat_le 0xE0000000 a ≡ true
 high a e = grind (arith, nat_tests)

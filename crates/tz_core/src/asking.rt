@@ -1,13 +1,13 @@
 //! The running code as its accesses and fetches are checked.
 
 ghost use Rattle.std.specs.Prelude.{◌≡◌};
-ghost use Rattle.tz_regs.specs.State.{traps_unaligned, asker_in};
+ghost use Rattle.tz_state.specs.State.{traps_unaligned, asker_in};
 ghost use Rattle.tz_sem.specs.Step.{fetcher_in};
 
 use crate::running::Machine;
 use tz_model::Side;
 use tz_prio::is_negative;
-use tz_regs::{Asker, Fetcher};
+use tz_state::{Asker, Fetcher};
 
 /// CCR.UNALIGN_TRP.
 fn traps_unaligned(ccr: u32) -> bool

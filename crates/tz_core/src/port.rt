@@ -2,16 +2,17 @@
 
 ghost use Rattle.std.specs.Prelude.{◌-◌, ◌+◌, ◌<◌, ◌≤◌, ◌≡◌, ◌++◌, ◌∷◌, [], ℕ, true};
 ghost use Rattle.arrayvec.specs.ArrayVec.{array_vec_len};
-ghost use Rattle.tz_regs.specs.Access.{access, is_aligned, Reached};
-ghost use Rattle.tz_regs.specs.SystemRegisters.{SystemState};
-ghost use Rattle.tz_regs.specs.Views.{system_value, system_read, system_written};
+ghost use Rattle.tz_state.specs.Access.{access, is_aligned, Reached};
+ghost use Rattle.tz_state.specs.SystemRegisters.{SystemState};
+ghost use Rattle.tz_state.specs.Views.{system_value, system_read, system_written};
 
 use crate::changes::Stores;
 use tz_access::{Bus, Place};
 use tz_model::{Fault, Port, Size, Store, cut_to};
 use tz_nvic::Exceptions;
-use tz_regs::{Asker, Status};
+use tz_regs::Status;
 use tz_scs::SystemRegisters;
+use tz_state::Asker;
 
 /// The accesses of one instruction: who asks for them, what the system registers stand in, and the stores made.
 /// The status is a copy, which goes back into the core after the instruction.
@@ -56,7 +57,7 @@ impl Port for CorePort<'_> {
 
     ghost lent = { λ p. (p.exceptions.ghost_name, p.bus.ghost_name, p.stores.ghost_name) };
 
-    #[tactic(auto, using(crate::proofs::Private::private_aligned), unfolding(tz_regs::specs::Access::access))]
+    #[tactic(auto, using(crate::proofs::Private::private_aligned), unfolding(tz_state::specs::Access::access))]
     fn load(&mut self, addr: u32, size: Size, must_align: bool, user: bool) -> Result<u32, Fault> {
         match self.bus.load(&self.asker, size, addr, must_align, user) {
             Err(fault) => Err(fault),
@@ -73,7 +74,7 @@ impl Port for CorePort<'_> {
         }
     }
 
-    #[tactic(auto, using(crate::proofs::Private::private_aligned), unfolding(tz_regs::specs::Access::access))]
+    #[tactic(auto, using(crate::proofs::Private::private_aligned), unfolding(tz_state::specs::Access::access))]
     fn store(
         &mut self,
         addr: u32,

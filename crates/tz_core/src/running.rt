@@ -32,7 +32,7 @@ impl Model for Machine {
     ghost use Rattle.std.specs.FinMap as map;
     ghost use Rattle.std.specs.Ordering.{nat_cmp};
     ghost use Rattle.std.specs.Coded.{codes, coded_ℕ};
-    ghost use Rattle.tz_regs.specs.State.{State};
+    ghost use Rattle.tz_state.specs.State.{State};
 
     ghost Value = { State };
 
@@ -67,7 +67,7 @@ fn sleep_of(event: bool) -> Sleep
 
 impl Machine {
     ghost use Rattle.std.specs.Prelude.{[], true, if◌then◌else◌};
-    ghost use Rattle.tz_regs.specs.State.{side_of};
+    ghost use Rattle.tz_state.specs.State.{side_of};
     ghost use Rattle.tz_sem.specs.Exec.{executed};
     ghost use Rattle.tz_model.specs.Codes.{meaning_of};
     ghost use Rattle.tz_sem.specs.Step.{past, goes_next, skips, goes_on, concludes, executes, faulting, placed, decoded, enters, looks, unready, course_in, instructs, idles, by_sleep, takes, ended, step};

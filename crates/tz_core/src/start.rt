@@ -3,11 +3,11 @@
 ghost use Rattle.std.specs.Prelude.{◌≡◌, ◌+◌, true, false, ◌&&◌, IfOk, MatchOption};
 ghost use Rattle.tz_table.specs.declared.units.Size.TheVariants.{Word};
 ghost use Rattle.tz_model.specs.Words.{wrap};
-ghost use Rattle.tz_regs.specs.Memory.{every, word_at};
-ghost use Rattle.tz_regs.specs.Access.{is_mapped};
-ghost use Rattle.tz_regs.specs.State.{with_memory};
-ghost use Rattle.tz_regs.specs.Slots.{reset_exceptions};
-ghost use Rattle.tz_regs.specs.UnitRegisters.{reset_bus};
+ghost use Rattle.tz_state.specs.Memory.{every, word_at};
+ghost use Rattle.tz_state.specs.Access.{is_mapped};
+ghost use Rattle.tz_state.specs.State.{with_memory};
+ghost use Rattle.tz_state.specs.Slots.{reset_exceptions};
+ghost use Rattle.tz_state.specs.UnitRegisters.{reset_bus};
 ghost use Rattle.tz_sem.specs.Boot.{with_segments, start_from, boot};
 
 use crate::running::Machine;

@@ -2,7 +2,7 @@
 
 ghost use Rattle.std.specs.Prelude.{◌≡◌};
 ghost use Rattle.tz_table.specs.declared.units.Side.TheVariants.{Secure};
-ghost use Rattle.tz_regs.specs.State.{is_privileged_in};
+ghost use Rattle.tz_state.specs.State.{is_privileged_in};
 ghost use Rattle.tz_sem.specs.Taking.{goes_on_at, passed_by};
 ghost use Rattle.tz_sem.specs.Exchange.{ran_by};
 

@@ -1,7 +1,7 @@
 //! What a step begins with, and sleep.
 
 ghost use Rattle.std.specs.Prelude.{◌≡◌, ◌<◌};
-ghost use Rattle.tz_regs.specs.Execution as told;
+ghost use Rattle.tz_state.specs.Execution as told;
 
 use crate::running::Machine;
 use std::marker::Brand;
@@ -25,7 +25,7 @@ fn wakes_counted<L: Ledger>(blank: Blank, core: &Core, exceptions: &Exceptions) 
 
 impl Machine {
     ghost use Rattle.tz_model.specs.declared.report.Sleep.TheVariants.{Awake};
-    ghost use Rattle.tz_regs.specs.State.{with_run};
+    ghost use Rattle.tz_state.specs.State.{with_run};
     ghost use Rattle.tz_sem.specs.Step.{started, awake, without_event, is_woken};
 
     /// What a step begins with, of a locked machine too: the events that are due pend, and the timers count.

@@ -5,7 +5,7 @@ use Rattle.std.proofs.lemmas.Bool.Decides.{nat_tests}
 use Rattle.tz_table.specs.declared.units.Side.{Side}
 use Rattle.tz_table.specs.declared.units.Side.TheVariants.{Secure, NonSecure}
 use Rattle.tz_model.specs.declared.report.Slot.{Slot}
-use Rattle.tz_regs.specs.Slots.{ExceptionsValue, is_banked, index_of, side_at}
+use Rattle.tz_state.specs.Slots.{ExceptionsValue, is_banked, index_of, side_at}
 use Rattle.tz_frames.specs.Leave.{is_side}
 
 -- the numbers, one by one

@@ -9,13 +9,13 @@ use Rattle.tz_model.specs.declared.board.Profile.{Profile}
 use Rattle.tz_model.specs.declared.report.Fault.{Fault}
 use Rattle.tz_model.specs.declared.report.Slot.{Slot}
 use Rattle.tz_regs.specs.declared.parts.Core.{Core}
-use Rattle.tz_regs.specs.declared.slot.SlotState.{SlotState}
-use Rattle.tz_regs.specs.declared.taken.Taken.{Taken}
-use Rattle.tz_regs.specs.declared.taken.Taken.TheVariants.{AsIs, Hard, Lockup}
-use Rattle.tz_regs.specs.Slots.{ExceptionsValue, idle, at, places, index_of, number_at, slot_at}
-use Rattle.tz_regs.specs.SlotChanges.{pended}
-use Rattle.tz_regs.specs.Priority.{priority_of, subpriority_of, rank_of, is_ready, chosen_place, slot_found, chosen}
-use Rattle.tz_regs.specs.Escalation.{hard_side, escalated}
+use Rattle.tz_state.specs.declared.slot.SlotState.{SlotState}
+use Rattle.tz_state.specs.declared.taken.Taken.{Taken}
+use Rattle.tz_state.specs.declared.taken.Taken.TheVariants.{AsIs, Hard, Lockup}
+use Rattle.tz_state.specs.Slots.{ExceptionsValue, idle, at, places, index_of, number_at, slot_at}
+use Rattle.tz_state.specs.SlotChanges.{pended}
+use Rattle.tz_state.specs.Priority.{priority_of, subpriority_of, rank_of, is_ready, chosen_place, slot_found, chosen}
+use Rattle.tz_state.specs.Escalation.{hard_side, escalated}
 use Rattle.tz_nvic.proofs.Least.{least_found}
 use Rattle.tz_frames.specs.Looks.{Looking, Vector}
 use Rattle.tz_frames.specs.declared.frame.StackFault.{StackFault}

@@ -4,7 +4,7 @@ use Rattle.tz_model.specs.declared.board.Profile.{Profile}
 use Rattle.tz_model.specs.declared.report.Fault.{Fault}
 use Rattle.tz_model.specs.declared.report.Slot.{Slot}
 use Rattle.tz_regs.specs.declared.parts.Core.{Core}
-use Rattle.tz_regs.specs.Slots.{ExceptionsValue}
+use Rattle.tz_state.specs.Slots.{ExceptionsValue}
 use Rattle.tz_frames.specs.Looks.{Looking}
 use Rattle.tz_frames.specs.declared.leaving.Returning.{Returning}
 use Rattle.tz_frames.specs.Leave.{returning_by, slot_returning, noted, freed, unhandled, leaves, leaves_as, leaves_noting}

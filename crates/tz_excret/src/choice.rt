@@ -2,9 +2,9 @@
 //! anyone.
 
 ghost use Rattle.std.specs.Prelude.{◌≡◌, ◌<◌, true, IfSome};
-ghost use Rattle.tz_regs.specs.Slots.{exists};
-ghost use Rattle.tz_regs.specs.Priority as first;
-ghost use Rattle.tz_regs.specs.Execution as told;
+ghost use Rattle.tz_state.specs.Slots.{exists};
+ghost use Rattle.tz_state.specs.Priority as first;
+ghost use Rattle.tz_state.specs.Execution as told;
 
 use std::marker::Brand;
 use std::sync::ledger::{Blank, Ledger};

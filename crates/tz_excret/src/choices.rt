@@ -2,7 +2,7 @@
 //! made again (DDI0553, `PushCalleeStack`, `ExceptionTaken`).
 
 ghost use Rattle.std.specs.Prelude.{◌≡◌, ◌≤◌, ◌+◌, true, false};
-ghost use Rattle.tz_regs.specs.Slots.{exists};
+ghost use Rattle.tz_state.specs.Slots.{exists};
 ghost use Rattle.tz_frames.specs.declared.entering.Entered.TheVariants as entered;
 ghost use Rattle.tz_frames.specs.Enter.{Work, falls, callee_process, callee_privileged, raised_choice, stacked, taking, choosing, tries, with_lock};
 ghost use Rattle.tz_frames.specs.Stack.{pushed_additional};

@@ -6,7 +6,7 @@
 
 ghost use Rattle.std.specs.Prelude.{◌≡◌, ◌≤◌, ℕ, length};
 ghost use Rattle.tz_model.specs.declared.board.Profile.{Profile};
-ghost use Rattle.tz_regs.specs.Slots.{places};
+ghost use Rattle.tz_state.specs.Slots.{places};
 ghost use Rattle.tz_frames.specs.Machine.{Framed, framed};
 ghost use Rattle.tz_frames.specs.Enter.{Work, tries, chooses};
 

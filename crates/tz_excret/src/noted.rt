@@ -1,7 +1,7 @@
 //! An EXC_RETURN value, and what is wrong with it (DDI0553, `ValidateExceptionReturn`).
 
 ghost use Rattle.std.specs.Prelude.{◌≡◌, true, ◌||◌};
-ghost use Rattle.tz_regs.specs.Slots.{exists, at, index_of, side_at, is_banked};
+ghost use Rattle.tz_state.specs.Slots.{exists, at, index_of, side_at, is_banked};
 ghost use Rattle.tz_frames.specs.Leave.{is_exc_return, is_set, returning_by, slot_returning, is_well_formed, is_forged, is_side, is_returnable, noted};
 
 use crate::sides::{is_secure, side_by};

@@ -1,8 +1,8 @@
 //! The exception that a fault pends, and what becomes of it (DDI0553, `CreateException`).
 
 ghost use Rattle.std.specs.Prelude.{◌≡◌, true};
-ghost use Rattle.tz_regs.specs.Slots.{exists};
-ghost use Rattle.tz_regs.specs.Escalation.{hard_side};
+ghost use Rattle.tz_state.specs.Slots.{exists};
+ghost use Rattle.tz_state.specs.Escalation.{hard_side};
 ghost use Rattle.tz_frames.specs.Status.{exception_of, frame_exception, raised, faulted, frame_faulted};
 
 use crate::status::{set_frame_status, set_hfsr, set_status};

@@ -1,8 +1,8 @@
 //! The exception that returns is no longer active (DDI0553, `DeActivate`).
 
 ghost use Rattle.std.specs.Prelude.{◌≡◌, true};
-ghost use Rattle.tz_regs.specs.Slots.{exists};
-ghost use Rattle.tz_regs.specs.Execution.{raw_priority};
+ghost use Rattle.tz_state.specs.Slots.{exists};
+ghost use Rattle.tz_state.specs.Execution.{raw_priority};
 ghost use Rattle.tz_frames.specs.Leave.{is_urgent, urgent_slot, freed, keeps_faultmask, unmasked, unhandled};
 
 use crate::sides::{set_spsel, side_by};

@@ -1,11 +1,11 @@
 //! The vector of an exception, and the core that handles it (DDI0553, `ExceptionTaken`).
 
 ghost use Rattle.std.specs.Prelude.{◌≡◌, true, ◌==◌, ◌||◌, nat_lt};
-ghost use Rattle.tz_regs.specs.Slots.{exists};
-ghost use Rattle.tz_regs.specs.SlotChanges.{pended};
-ghost use Rattle.tz_regs.specs.Escalation.{hard_side};
-ghost use Rattle.tz_regs.specs.Priority.{hard_priority};
-ghost use Rattle.tz_regs.specs.Execution.{execution};
+ghost use Rattle.tz_state.specs.Slots.{exists};
+ghost use Rattle.tz_state.specs.SlotChanges.{pended};
+ghost use Rattle.tz_state.specs.Escalation.{hard_side};
+ghost use Rattle.tz_state.specs.Priority.{hard_priority};
+ghost use Rattle.tz_state.specs.Execution.{execution};
 ghost use Rattle.tz_frames.specs.Status.{slot as slot_of, with_hfsr, with_status};
 ghost use Rattle.tz_frames.specs.Registers.{taken_registers, scratch_cleared, all_cleared};
 ghost use Rattle.tz_frames.specs.Enter.{Work, exc_return, dcrs_of, handling, is_last_resort, vector_choice, can_harden, vectored};
@@ -106,7 +106,7 @@ fn handle(core: &mut Core, profile: Profile, entry: &Entering, slot: Slot, vecto
 }
 
 /// Whether HardFault of a side can be taken.
-#[tactic(auto, unfolding(tz_regs::specs::Priority::priority_of))]
+#[tactic(auto, unfolding(tz_state::specs::Priority::priority_of))]
 fn can_take_hard(core: &Core, exceptions: &Exceptions, side: Side) -> bool
     ensures { result ≡ nat_lt (hard_priority exceptions.now side) (execution exceptions.now core.now.masks) }
 {

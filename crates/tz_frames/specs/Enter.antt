@@ -12,11 +12,11 @@ use Rattle.tz_regs.specs.declared.parts.Stacks.{Stacks}
 use Rattle.tz_regs.specs.Banks.{stacks_of, with_stacks}
 use Rattle.tz_regs.specs.Registers.{is_handler}
 use Rattle.tz_regs.specs.Special.{number_of}
-use Rattle.tz_regs.specs.Slots.{ExceptionsValue}
-use Rattle.tz_regs.specs.SlotChanges.{pended, activated}
-use Rattle.tz_regs.specs.Priority.{hard_priority, chosen}
-use Rattle.tz_regs.specs.Execution.{execution}
-use Rattle.tz_regs.specs.Escalation.{hard_side}
+use Rattle.tz_state.specs.Slots.{ExceptionsValue}
+use Rattle.tz_state.specs.SlotChanges.{pended, activated}
+use Rattle.tz_state.specs.Priority.{hard_priority, chosen}
+use Rattle.tz_state.specs.Execution.{execution}
+use Rattle.tz_state.specs.Escalation.{hard_side}
 use Rattle.tz_frames.specs.Looks.{Looking, Vector}
 use Rattle.tz_frames.specs.declared.frame.StackFault.{StackFault}
 use Rattle.tz_frames.specs.declared.entering.Entering.{Entering}

@@ -13,9 +13,9 @@ use Rattle.tz_regs.specs.declared.parts.Masks.{Masks}
 use Rattle.tz_regs.specs.declared.parts.Stacks.{Stacks}
 use Rattle.tz_regs.specs.Banks.{of_side, stacks_of, with_stacks, masks_of, with_masks}
 use Rattle.tz_regs.specs.Registers.{sp_of}
-use Rattle.tz_regs.specs.Slots.{ExceptionsValue, at, exists, index_of, side_at, is_banked}
-use Rattle.tz_regs.specs.SlotChanges.{deactivated}
-use Rattle.tz_regs.specs.Execution.{raw_priority, takes_first}
+use Rattle.tz_state.specs.Slots.{ExceptionsValue, at, exists, index_of, side_at, is_banked}
+use Rattle.tz_state.specs.SlotChanges.{deactivated}
+use Rattle.tz_state.specs.Execution.{raw_priority, takes_first}
 use Rattle.tz_frames.specs.Looks.{Looking}
 use Rattle.tz_frames.specs.declared.frame.StackFault.{StackFault}
 use Rattle.tz_frames.specs.declared.frame.Basic.{Basic}

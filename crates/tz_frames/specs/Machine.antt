@@ -7,12 +7,12 @@ use Rattle.tz_model.specs.declared.report.Fault.{Fault}
 use Rattle.tz_model.specs.declared.report.Fault.TheVariants.{Violation, Precise}
 use Rattle.tz_model.specs.Words.{wrap}
 use Rattle.tz_regs.specs.Banks.{of_side}
-use Rattle.tz_regs.specs.declared.asker.Asker.{Asker}
-use Rattle.tz_regs.specs.declared.request.Kind.{Kind}
-use Rattle.tz_regs.specs.declared.request.Kind.TheVariants.{Read, Write}
-use Rattle.tz_regs.specs.Memory.{every, word_at, with_word}
-use Rattle.tz_regs.specs.Access.{may_touch, is_mapped, is_private, verdict, request_by}
-use Rattle.tz_regs.specs.State.{Bus, map_in, with_memory}
+use Rattle.tz_state.specs.declared.asker.Asker.{Asker}
+use Rattle.tz_state.specs.declared.request.Kind.{Kind}
+use Rattle.tz_state.specs.declared.request.Kind.TheVariants.{Read, Write}
+use Rattle.tz_state.specs.Memory.{every, word_at, with_word}
+use Rattle.tz_state.specs.Access.{may_touch, is_mapped, is_private, verdict, request_by}
+use Rattle.tz_state.specs.State.{Bus, map_in, with_memory}
 use Rattle.tz_frames.specs.Looks.{Looking, Vector, SecureLoad, FrameLoad, FrameStore}
 
 -- what they see and change: the bus, the vector tables of both sides, the privilege of Secure code, and whether

@@ -8,12 +8,12 @@ use Rattle.tz_model.specs.declared.report.Fault.TheVariants.{Undef, InvState, In
 use Rattle.tz_model.specs.declared.report.Slot.{Slot}
 use Rattle.tz_regs.specs.declared.parts.Core.{Core}
 use Rattle.tz_regs.specs.declared.parts.Status.{Status}
-use Rattle.tz_regs.specs.declared.taken.Taken.{Taken}
-use Rattle.tz_regs.specs.declared.taken.Taken.TheVariants.{AsIs, Hard, Lockup}
-use Rattle.tz_regs.specs.Slots.{ExceptionsValue}
-use Rattle.tz_regs.specs.SlotChanges.{pended}
-use Rattle.tz_regs.specs.Escalation.{hard_side, escalated}
-use Rattle.tz_regs.specs.FaultRegisters.{own_status, with_own_status}
+use Rattle.tz_state.specs.declared.taken.Taken.{Taken}
+use Rattle.tz_state.specs.declared.taken.Taken.TheVariants.{AsIs, Hard, Lockup}
+use Rattle.tz_state.specs.Slots.{ExceptionsValue}
+use Rattle.tz_state.specs.SlotChanges.{pended}
+use Rattle.tz_state.specs.Escalation.{hard_side, escalated}
+use Rattle.tz_state.specs.FaultRegisters.{own_status, with_own_status}
 use Rattle.tz_frames.specs.declared.frame.StackFault.{StackFault}
 use Rattle.tz_frames.specs.declared.frame.StackFault.TheVariants.{Limit, Access, Signature as Unsigned}
 

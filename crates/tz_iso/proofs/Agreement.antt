@@ -6,7 +6,7 @@ use Rattle.tz_model.specs.declared.report.View.TheVariants.{Ns}
 use Rattle.tz_model.specs.Board.{BoardValue}
 use Rattle.tz_model.specs.Image.{ImageValue}
 use Rattle.tz_model.specs.Words.{is_nonsecure_side}
-use Rattle.tz_regs.specs.State.{State, side_of}
+use Rattle.tz_state.specs.State.{State, side_of}
 use Rattle.tz_sem.specs.Boot.{boot}
 use Rattle.tz_sem.specs.Step.{step, started}
 use Rattle.tz_sem.specs.Run.{Events, state_after}

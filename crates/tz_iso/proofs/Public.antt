@@ -1,12 +1,12 @@
 -- The public state: no part differs exactly where it is the same.
 use Rattle.std.proofs.Common.{◌≡◌, Bool, true, false, not, Option, Some, None, refl, sym, ap, subst}
 use Rattle.tz_regs.specs.declared.parts.BusStatus.{BusStatus}
-use Rattle.tz_regs.specs.Attribution.{SauState}
-use Rattle.tz_regs.specs.Protection.{MpuState}
-use Rattle.tz_regs.specs.Slots.{ExceptionsValue}
-use Rattle.tz_regs.specs.Difference.{is_same_flag, sau_differs, mpu_differs, exceptions_differ}
-use Rattle.tz_regs.specs.State.{State, map_of}
-use Rattle.tz_regs.proofs.Difference.{same_sau, sau_itself, same_mpu, mpu_itself, same_exceptions, exceptions_itself, same_shown, shown_alike}
+use Rattle.tz_state.specs.Attribution.{SauState}
+use Rattle.tz_state.specs.Protection.{MpuState}
+use Rattle.tz_state.specs.Slots.{ExceptionsValue}
+use Rattle.tz_state.specs.Difference.{is_same_flag, sau_differs, mpu_differs, exceptions_differ}
+use Rattle.tz_state.specs.State.{State, map_of}
+use Rattle.tz_state.proofs.Difference.{same_sau, sau_itself, same_mpu, mpu_itself, same_exceptions, exceptions_itself, same_shown, shown_alike}
 use Rattle.tz_twin.specs.Seen.{open_bytes, open_bus, public_of}
 use Rattle.tz_twin.proofs.Bytes.{and_first, and_second}
 use Rattle.tz_iso.specs.Parts.{is_same_sp, is_same_limits, is_same_control, is_same_masks, is_same_side_faults, is_same_open_faults, is_same_faults, is_same_timers, is_same_monitor, is_same_sleep, is_same_rest}

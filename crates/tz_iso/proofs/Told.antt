@@ -4,7 +4,7 @@ use Rattle.std.specs.Prelude.{is_some, option_map, unwrap_or}
 use Rattle.tz_model.specs.declared.report.CrossKind.{CrossKind}
 use Rattle.tz_model.specs.declared.report.ScriptEvent.{ScriptEvent}
 use Rattle.tz_model.specs.declared.report.Way.{Way}
-use Rattle.tz_regs.specs.State.{State}
+use Rattle.tz_state.specs.State.{State}
 use Rattle.tz_sem.specs.declared.ending.Cause.{Cause}
 use Rattle.tz_sem.specs.Ended.{crosses, way_by, kind_of}
 use Rattle.tz_sem.specs.Step.{Stepped, step, started, ended}

@@ -12,11 +12,11 @@ use Rattle.tz_regs.specs.declared.parts.SideMasks.{SideMasks}
 use Rattle.tz_regs.specs.declared.parts.Masks.{Masks}
 use Rattle.tz_regs.specs.declared.parts.SideStatus.{SideStatus}
 use Rattle.tz_regs.specs.declared.parts.BusStatus.{BusStatus}
-use Rattle.tz_regs.specs.declared.request.Exclusive.{Exclusive}
-use Rattle.tz_regs.specs.declared.slot.Timer.{Timer}
-use Rattle.tz_regs.specs.Slots.{ExceptionsValue}
-use Rattle.tz_regs.specs.State.{State, is_same_size}
-use Rattle.tz_regs.specs.Difference.{is_same_flag}
+use Rattle.tz_state.specs.declared.request.Exclusive.{Exclusive}
+use Rattle.tz_state.specs.declared.slot.Timer.{Timer}
+use Rattle.tz_state.specs.Slots.{ExceptionsValue}
+use Rattle.tz_state.specs.State.{State, is_same_size}
+use Rattle.tz_state.specs.Difference.{is_same_flag}
 
 -- ---- the way
 

@@ -3,7 +3,7 @@ use Rattle.std.specs.Prelude.{◌≡◌, ℕ, zero, suc, ◌+◌, List, Option, 
 use Rattle.tz_model.specs.declared.report.ScriptEvent.{ScriptEvent}
 use Rattle.tz_model.specs.Board.{BoardValue}
 use Rattle.tz_model.specs.Image.{ImageValue}
-use Rattle.tz_regs.specs.State.{State}
+use Rattle.tz_state.specs.State.{State}
 use Rattle.tz_sem.specs.Boot.{boot}
 use Rattle.tz_sem.specs.Step.{step}
 use Rattle.tz_sem.specs.Run.{Events, state_after}

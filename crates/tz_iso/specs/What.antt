@@ -6,8 +6,8 @@ use Rattle.tz_model.specs.declared.report.CrossKind.{CrossKind}
 use Rattle.tz_model.specs.declared.report.CrossKind.TheVariants.{Return, Call, ExcReturn, Chain, Preempt, Refused}
 use Rattle.tz_model.specs.declared.report.Way.{Way}
 use Rattle.tz_regs.specs.declared.parts.Registers.{Registers}
-use Rattle.tz_regs.specs.State.{State}
-use Rattle.tz_regs.specs.Difference.{sau_differs, mpu_differs, exceptions_differ, open_bytes_differ}
+use Rattle.tz_state.specs.State.{State}
+use Rattle.tz_state.specs.Difference.{sau_differs, mpu_differs, exceptions_differ, open_bytes_differ}
 use Rattle.tz_frames.specs.Registers.{saved_of}
 use Rattle.tz_sem.specs.Step.{Stepped}
 use Rattle.tz_iso.specs.declared.answer.What.{What}

@@ -2,7 +2,7 @@
 
 ghost use Rattle.std.specs.Prelude.{◌≡◌, ◌+◌, ◌≤◌, length};
 ghost use Rattle.tz_frames.specs.Registers.{saved_of};
-ghost use Rattle.tz_regs.specs.Difference.{is_same_flag};
+ghost use Rattle.tz_state.specs.Difference.{is_same_flag};
 ghost use Rattle.tz_iso.specs.Parts.{is_same_flags, is_same_apsr};
 ghost use Rattle.tz_iso.specs.What.{general_apart, all_apart, called_apart, saved_apart, handed_apart};
 

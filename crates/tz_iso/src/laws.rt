@@ -2,7 +2,7 @@
 
 ghost use Rattle.std.specs.Prelude.{◌≡◌, ◌<◌, ℕ, Some, None, List};
 ghost use Rattle.tz_model.specs.declared.report.ScriptEvent.{ScriptEvent};
-ghost use Rattle.tz_regs.specs.State.{State};
+ghost use Rattle.tz_state.specs.State.{State};
 ghost use Rattle.tz_sem.specs.Run.{Events};
 ghost use Rattle.tz_sem.specs.Step.{step};
 ghost use Rattle.tz_twin.specs.Seen.{crossing, Agree};

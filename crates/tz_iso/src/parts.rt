@@ -1,7 +1,7 @@
 //! The parts of the public state, in two machines.
 
 ghost use Rattle.std.specs.Prelude.{◌≡◌, ◌==◌, not, ◌∷◌, []};
-ghost use Rattle.tz_regs.specs.Difference.{sau_differs, mpu_differs, exceptions_differ};
+ghost use Rattle.tz_state.specs.Difference.{sau_differs, mpu_differs, exceptions_differ};
 ghost use Rattle.tz_iso.specs.Parts.{is_same_sp, is_same_limits, is_same_control, is_same_side_masks, is_same_masks, is_same_side_faults, is_same_bus_faults, is_same_faults, is_same_timer, is_same_timers, is_same_monitor, is_same_sleep, is_same_rest};
 ghost use Rattle.tz_iso.specs.What.{first_apart, public_apart};
 
@@ -11,7 +11,8 @@ use tz_access::Bus;
 use tz_core::Machine;
 use tz_model::{Side, Sleep};
 use tz_nvic::Exceptions;
-use tz_regs::{BusStatus, Masks, SideMasks, SideStatus, Stacks, Timer};
+use tz_regs::{BusStatus, Masks, SideMasks, SideStatus, Stacks};
+use tz_state::Timer;
 
 /// Whether MSP and PSP are the same.
 fn is_same_sp(a: &Stacks, b: &Stacks) -> bool

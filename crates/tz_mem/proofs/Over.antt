@@ -1,9 +1,9 @@
 -- The bytes of a number, put from its address on.
 use Rattle.std.proofs.Common.{◌≡◌, ℕ, ◌+◌, refl, arith}
 use Rattle.std.specs.Int.{to_le_bytes, w16, w32}
-use Rattle.tz_regs.specs.Memory.{Memory}
+use Rattle.tz_state.specs.Memory.{Memory}
 use Rattle.tz_model.specs.Words.{wrap}
-use Rattle.tz_regs.specs.Memory.{with_half, with_word, with_bytes}
+use Rattle.tz_state.specs.Memory.{with_half, with_word, with_bytes}
 
 pub half_over : (m : Memory) (a n : ℕ) → with_bytes m a (to_le_bytes w16 n) ≡ with_half m a n
 unfolding with_bytes with_half

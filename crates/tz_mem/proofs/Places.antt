@@ -8,8 +8,8 @@ use Rattle.tz_table.specs.declared.units.Size.TheVariants.{Byte, Half, Word}
 use Rattle.tz_model.specs.declared.board.Region.{Region}
 use Rattle.tz_model.specs.Board.{in_region}
 use Rattle.tz_model.specs.Words.{wrap}
-use Rattle.tz_regs.specs.Memory.{every}
-use Rattle.tz_regs.specs.Access.{is_mapped, is_writable, takes_writes}
+use Rattle.tz_state.specs.Memory.{every}
+use Rattle.tz_state.specs.Access.{is_mapped, is_writable, takes_writes}
 use Rattle.tz_mem.specs.Blocks.{BlockValue, region_of, holds, byte_in, place_in, IsPlace, is_apart, holds_all, run_in, IsRun}
 
 pub in_of : (k : BlockValue) (a : ℕ) → holds k a ≡ true → (k.base + (a - k.base) ≡ a) × (a - k.base < length k.bytes)

@@ -9,8 +9,8 @@ use Rattle.std.proofs.lemmas.Bool.{and_parts}
 use Rattle.std.proofs.lemmas.Bool.Decides.{nat_tests}
 use Rattle.tz_model.specs.declared.board.Region.{Region}
 use Rattle.tz_model.specs.Board.{is_apart, apart_from, are_apart}
-use Rattle.tz_regs.specs.Memory.{Memory}
-use Rattle.tz_regs.specs.Difference.{byte_differs}
+use Rattle.tz_state.specs.Memory.{Memory}
+use Rattle.tz_state.specs.Difference.{byte_differs}
 use Rattle.tz_mem.specs.Blocks.{BlockValue, region_of, holds, IsPlace, memory_of, view_of}
 use Rattle.tz_mem.specs.Difference.{some_from, region_at, IsFilled}
 use Rattle.tz_mem.proofs.Places.{byte_of_place, mapped_at}

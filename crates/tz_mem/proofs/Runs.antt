@@ -4,8 +4,8 @@ use Rattle.std.specs.Prelude.{◌&&◌, map, unwrap_or, slice_index}
 use Rattle.tz_table.specs.declared.units.Size.{Size}
 use Rattle.tz_table.specs.declared.units.Size.TheVariants.{Byte, Half, Word}
 use Rattle.tz_model.specs.Words.{wrap}
-use Rattle.tz_regs.specs.Access.{is_mapped, is_writable, takes_writes}
-use Rattle.tz_regs.specs.Memory.{every, byte_at, half_at, word_at, value_at}
+use Rattle.tz_state.specs.Access.{is_mapped, is_writable, takes_writes}
+use Rattle.tz_state.specs.Memory.{every, byte_at, half_at, word_at, value_at}
 use Rattle.std.proofs.lemmas.Bool.Decides.{nat_tests}
 use Rattle.tz_mem.specs.Blocks.{BlockValue, region_of, memory_of, view_of, IsPlace, IsRun, is_apart, more_of, number_in}
 use Rattle.tz_mem.specs.Values.{IsCode}

@@ -13,7 +13,7 @@ use Rattle.std.proofs.lemmas.Bool.{cases_eq}
 use Rattle.tz_table.specs.declared.units.Size.{Size}
 use Rattle.tz_table.specs.declared.units.Size.TheVariants.{Byte, Half, Word}
 use Rattle.tz_model.specs.Words.{wrap}
-use Rattle.tz_regs.specs.Memory.{Memory, with_byte, with_half, with_word, with_value}
+use Rattle.tz_state.specs.Memory.{Memory, with_byte, with_half, with_word, with_value}
 use Rattle.tz_mem.specs.Values.{with_bytes}
 use Rattle.tz_mem.specs.Blocks.{BlockValue, region_of, memory_of, view_of, holds, byte_in, IsPlace, is_apart, IsRun, more_of, bytes_of, over, written_over}
 use Rattle.tz_mem.proofs.Places.{holds_at, slice_get_some, offset_of_place, byte_of_place, place_of_run, index_of_run}

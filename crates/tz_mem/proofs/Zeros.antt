@@ -4,7 +4,7 @@ use Rattle.std.specs.Prelude.{replicate}
 use Rattle.std.proofs.lemmas.List.{length-replicate}
 use Rattle.tz_model.specs.declared.board.Region.{Region}
 use Rattle.tz_model.specs.Image.{entries_from}
-use Rattle.tz_regs.specs.Zeros.{zero_entries}
+use Rattle.tz_state.specs.Zeros.{zero_entries}
 use Rattle.tz_mem.specs.Blocks.{BlockValue, region_of, entries_of}
 
 entries_of-push : (ks : List BlockValue) (k : BlockValue) → entries_of (ks ++ k ∷ []) ≡ entries_of ks ++ entries_from k.base k.bytes

@@ -9,7 +9,7 @@ use Rattle.tz_model.specs.declared.board.RegionKind.{RegionKind}
 use Rattle.tz_model.specs.declared.board.RegionSide.{RegionSide}
 use Rattle.tz_model.specs.Board.{in_region}
 use Rattle.tz_model.specs.Image.{entries_from}
-use Rattle.tz_regs.specs.Memory as bytes
+use Rattle.tz_state.specs.Memory as bytes
 use Rattle.tz_mem.specs.Values.{MemoryValue}
 
 -- a region with its bytes

@@ -4,7 +4,7 @@ use Rattle.std.specs.FinMap.{get}
 use Rattle.tz_model.specs.declared.board.Region.{Region}
 use Rattle.tz_model.specs.declared.board.RegionKind.TheVariants.{Rom}
 use Rattle.tz_model.specs.declared.board.RegionSide.TheVariants.{Secure}
-use Rattle.tz_regs.specs.Access.{is_mapped}
+use Rattle.tz_state.specs.Access.{is_mapped}
 use Rattle.tz_mem.specs.Values.{MemoryValue}
 
 -- some of n addresses from a on passes a test

@@ -4,9 +4,9 @@ use Rattle.tz_table.specs.declared.units.Size.{Size}
 use Rattle.tz_table.specs.declared.units.Size.TheVariants.{Half}
 use Rattle.tz_model.specs.Words.{wrap}
 use Rattle.tz_model.specs.declared.board.Region.{Region}
-use Rattle.tz_regs.specs.Memory as bytes
-use Rattle.tz_regs.specs.Memory.{every, half_at}
-use Rattle.tz_regs.specs.Access.{is_mapped, is_writable}
+use Rattle.tz_state.specs.Memory as bytes
+use Rattle.tz_state.specs.Memory.{every, half_at}
+use Rattle.tz_state.specs.Access.{is_mapped, is_writable}
 use Rattle.tz_mem.specs.declared.error.Refused.{Refused}
 use Rattle.tz_mem.specs.declared.error.Refused.TheVariants.{NotMapped, ReadOnly}
 

@@ -1,7 +1,7 @@
 //! The bytes of one region, and where among regions those of an access stand.
 
 ghost use Rattle.std.specs.Prelude.{◌≡◌, ◌+◌, ◌<◌, ◌≤◌, length};
-ghost use Rattle.tz_regs.specs.Access.{takes_writes};
+ghost use Rattle.tz_state.specs.Access.{takes_writes};
 ghost use Rattle.tz_mem.specs.Blocks.{holds, place_in, more_of, is_apart, holds_all, run_in, number_in, bytes_of, over, written_over};
 ghost use Rattle.tz_table.specs.declared.units.Size.TheVariants.{Half};
 

@@ -4,15 +4,15 @@ ghost use Rattle.std.specs.Prelude.{◌≡◌, ◌+◌, ◌<◌, length, true, f
 ghost use Rattle.tz_table.specs.declared.units.Size.TheVariants.{Half};
 ghost use Rattle.tz_mem.specs.Blocks.{region_of, memory_of, view_of, number_in};
 ghost use Rattle.tz_mem.specs.Values.{IsCode};
-ghost use Rattle.tz_regs.specs.Access.{is_mapped};
-ghost use Rattle.tz_regs.specs.Memory.{every, half_at};
+ghost use Rattle.tz_state.specs.Access.{is_mapped};
+ghost use Rattle.tz_state.specs.Memory.{every, half_at};
 
 use crate::block::{Block, half_in};
 use crate::numbers::{byte_of, whole_of};
 use tz_model::Size;
 
 /// The halfword at an address, byte by byte.
-#[tactic(auto, using(crate::proofs::Places::mapped_at, crate::proofs::Bytes::get_memory_of), unfolding(tz_regs::specs::Memory::half_at))]
+#[tactic(auto, using(crate::proofs::Places::mapped_at, crate::proofs::Bytes::get_memory_of), unfolding(tz_state::specs::Memory::half_at))]
 fn half_by_bytes(blocks: &[Block], addr: u32) -> Option<u16>
     ensures { MatchOption result (every (is_mapped (map region_of blocks.now)) addr Half ≡ false)
         (λ half. (every (is_mapped (map region_of blocks.now)) addr Half ≡ true) × (half ≡ half_at (memory_of blocks.now) addr)) }

@@ -4,7 +4,7 @@ ghost use Rattle.std.specs.Prelude.{◌≡◌, ◌+◌, ◌<◌, ◌≤◌, leng
 ghost use Rattle.tz_model.specs.Board.{are_apart};
 ghost use Rattle.tz_mem.specs.Blocks.{memory_of, region_of};
 ghost use Rattle.tz_mem.specs.Difference.{some_from, region_at};
-ghost use Rattle.tz_regs.specs.Difference.{byte_differs};
+ghost use Rattle.tz_state.specs.Difference.{byte_differs};
 
 use crate::block::Block;
 

@@ -5,12 +5,12 @@ ghost use Rattle.tz_table.specs.declared.units.Size.TheVariants.{Half};
 ghost use Rattle.tz_mem.specs.Blocks.{entries_of, region_of};
 ghost use Rattle.tz_mem.specs.Difference.{some_from, region_at, IsFilled};
 ghost use Rattle.tz_mem.specs.Values.{MemoryValue, with_bytes, IsRefusal, IsCode};
-ghost use Rattle.tz_regs.specs.Access.{is_mapped, is_writable};
+ghost use Rattle.tz_state.specs.Access.{is_mapped, is_writable};
 ghost use Rattle.tz_model.specs.Board.{are_apart};
-ghost use Rattle.tz_regs.specs.Difference.{byte_differs};
-ghost use Rattle.tz_regs.specs.Memory as bytes;
-ghost use Rattle.tz_regs.specs.Memory.{every, value_at, with_byte, with_value};
-ghost use Rattle.tz_regs.specs.Zeros.{zero_entries, zero_memory};
+ghost use Rattle.tz_state.specs.Difference.{byte_differs};
+ghost use Rattle.tz_state.specs.Memory as bytes;
+ghost use Rattle.tz_state.specs.Memory.{every, value_at, with_byte, with_value};
+ghost use Rattle.tz_state.specs.Zeros.{zero_entries, zero_memory};
 
 use crate::block::Block;
 use crate::code::code_at;
@@ -66,7 +66,7 @@ impl Memory {
     /// # Errors
     ///
     /// `AllocError` where memory runs out.
-    #[tactic(auto, unfolding(tz_regs::specs::Zeros::zero_memory, crate::specs::Blocks::memory_of))]
+    #[tactic(auto, unfolding(tz_state::specs::Zeros::zero_memory, crate::specs::Blocks::memory_of))]
     pub fn new(alloc: Global, board: &Board) -> Result<Memory, AllocError>
         ensures { IfOk result (λ m. m ≡ record { regions = board.now.regions; bytes = zero_memory board.now.regions }) }
     {

@@ -6,9 +6,9 @@
 ghost use Rattle.std.specs.Prelude.{◌≡◌, ◌+◌, ◌<◌, ◌^◌, true, false, None, Some, IfSome, IfErr, OnOk, OnErr, MatchOption, MatchResult, map};
 ghost use Rattle.tz_mem.specs.Blocks.{region_of, memory_of, view_of, byte_in, more_of, IsRun};
 ghost use Rattle.tz_mem.specs.Values.{with_bytes, IsRefusal};
-ghost use Rattle.tz_regs.specs.Access.{is_mapped, is_writable, takes_writes};
-ghost use Rattle.tz_regs.specs.Memory as map_bytes;
-ghost use Rattle.tz_regs.specs.Memory.{every, value_at, with_byte, with_value};
+ghost use Rattle.tz_state.specs.Access.{is_mapped, is_writable, takes_writes};
+ghost use Rattle.tz_state.specs.Memory as map_bytes;
+ghost use Rattle.tz_state.specs.Memory.{every, value_at, with_byte, with_value};
 
 use crate::block::{Block, more_of, number_in, place_of, run_of};
 use crate::error::Refused;
@@ -100,7 +100,7 @@ pub fn put_byte(blocks: &mut [Block], addr: u32, byte: u8) -> bool
 }
 
 /// Puts bytes from an address on; those of addresses that no block holds are left out.
-#[tactic(auto, unfolding(tz_regs::specs::Memory::with_bytes))]
+#[tactic(auto, unfolding(tz_state::specs::Memory::with_bytes))]
 pub fn put_all(blocks: &mut [Block], base: u32, bytes: &[u8])
     ensures { view_of blocks.new ≡ with_bytes (view_of blocks.old) (map_bytes.with_bytes (memory_of blocks.old) base bytes.now) }
 {

@@ -1,6 +1,6 @@
 -- The look through the regions.
 use Rattle.std.proofs.Common.{ℕ, List, ◌∷◌}
-use Rattle.tz_regs.specs.declared.units.Bounds.{Bounds}
+use Rattle.tz_state.specs.declared.units.Bounds.{Bounds}
 use Rattle.tz_mpu.specs.declared.found.Found.{Found}
 use Rattle.tz_mpu.specs.declared.found.Found.TheVariants.{Nothing, One, Several}
 use Rattle.tz_mpu.specs.Found.{found_of}

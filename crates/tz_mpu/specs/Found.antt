@@ -1,6 +1,6 @@
 -- What a look through the regions of an MPU finds.
 use Rattle.std.specs.Prelude.{ℕ, List, [], ◌∷◌}
-use Rattle.tz_regs.specs.declared.units.Bounds.{Bounds}
+use Rattle.tz_state.specs.declared.units.Bounds.{Bounds}
 use Rattle.tz_mpu.specs.declared.found.Found.{Found}
 use Rattle.tz_mpu.specs.declared.found.Found.TheVariants.{Nothing, One, Several}
 

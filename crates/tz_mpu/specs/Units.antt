@@ -1,6 +1,6 @@
 -- An MPU as a value.
 use Rattle.tz_model.specs.declared.board.Profile.{Profile}
-use Rattle.tz_regs.specs.Protection.{MpuState}
+use Rattle.tz_state.specs.Protection.{MpuState}
 
 -- an MPU and the profile whose rules it follows
 pub record MpuValue : Type 0 where

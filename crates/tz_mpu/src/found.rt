@@ -1,10 +1,10 @@
 //! A look through the regions of an MPU.
 
 ghost use Rattle.std.specs.Prelude.{◌≡◌, ◌≤◌, length};
-ghost use Rattle.tz_regs.specs.Regions.{spans, holds, holding};
+ghost use Rattle.tz_state.specs.Regions.{spans, holds, holding};
 ghost use Rattle.tz_mpu.specs.Found.{found_of};
 
-use tz_regs::Bounds;
+use tz_state::Bounds;
 
 /// The enabled regions that hold an address.
 #[derive(Clone, Copy)]
@@ -23,7 +23,7 @@ fn holds(bounds: &Bounds, addr: u32) -> bool
 }
 
 /// Which enabled regions hold an address: one look at each, up to the second that does.
-#[tactic(auto, unfolding(tz_regs::specs::Regions::holding))]
+#[tactic(auto, unfolding(tz_state::specs::Regions::holding))]
 pub fn look(regions: &[Bounds], addr: u32) -> Found
     requires { length regions.now ≤ 16 }
     ensures { result ≡ found_of (holding 0 regions.now addr) }

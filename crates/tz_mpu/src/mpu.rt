@@ -1,10 +1,10 @@
 //! One MPU.
 
 ghost use Rattle.std.specs.Prelude.{◌≡◌, ◌≤◌, ◌<◌, ◌&&◌, None, Some, MatchOption, MatchResult, length, replicate, slice_set};
-ghost use Rattle.tz_regs.specs.Difference.{mpu_differs};
-ghost use Rattle.tz_regs.specs.Protection.{permission, permission_by, mpu_region, is_mpu_on, has_privileged_default, default_permits};
-ghost use Rattle.tz_regs.specs.Regions.{no_bounds, holding};
-ghost use Rattle.tz_regs.specs.UnitRegisters.{bounds_at, selected, mpu_register, mpu_value, mpu_read, with_mpu_value, mpu_written, rlar_bits, reset_mpu};
+ghost use Rattle.tz_state.specs.Difference.{mpu_differs};
+ghost use Rattle.tz_state.specs.Protection.{permission, permission_by, mpu_region, is_mpu_on, has_privileged_default, default_permits};
+ghost use Rattle.tz_state.specs.Regions.{no_bounds, holding};
+ghost use Rattle.tz_state.specs.UnitRegisters.{bounds_at, selected, mpu_register, mpu_value, mpu_read, with_mpu_value, mpu_written, rlar_bits, reset_mpu};
 ghost use Rattle.tz_mpu.specs.Units.{with_registers};
 
 use crate::found::{Found, look};
@@ -14,7 +14,7 @@ use arrayvec::ArrayVec;
 use std::marker::Model;
 use thiserror::Error;
 use tz_model::Profile;
-use tz_regs::{Bounds, Kind, MpuRegister};
+use tz_state::{Bounds, Kind, MpuRegister};
 
 /// The MPU refuses an access.
 #[derive(Clone, Copy, Debug, Error)]
@@ -67,7 +67,7 @@ fn unset(count: u8) -> ArrayVec<Bounds, 16>
 
 impl Mpu {
     /// An MPU with so many regions, at most 16: off, with zeros in all registers.
-    #[tactic(auto, unfolding(tz_regs::specs::UnitRegisters::reset_mpu))]
+    #[tactic(auto, unfolding(tz_state::specs::UnitRegisters::reset_mpu))]
     pub fn new(regions: u8, profile: Profile) -> Mpu
         requires { regions ≤ 16 }
         ensures { result ≡ record { profile = profile; mpu = reset_mpu regions } }
@@ -125,7 +125,7 @@ impl Mpu {
     ///
     /// `MpuFault` where it doesn't: no region holds the address and the default map doesn't count, the region
     /// doesn't permit the access, or several regions hold the address.
-    #[tactic(auto, unfolding(tz_regs::specs::Protection::permission))]
+    #[tactic(auto, unfolding(tz_state::specs::Protection::permission))]
     pub fn check(
         &self,
         addr: u32,
@@ -147,7 +147,7 @@ impl Mpu {
     }
 
     /// The one enabled region that holds an address, where the MPU is on; what TT tells of it.
-    #[tactic(auto, unfolding(tz_regs::specs::Protection::mpu_region))]
+    #[tactic(auto, unfolding(tz_state::specs::Protection::mpu_region))]
     pub fn examine(&self, addr: u32, negative: bool) -> Option<u8>
         ensures { result ≡ mpu_region self.now.mpu addr negative }
     {
@@ -264,7 +264,7 @@ impl Mpu {
     }
 
     /// Whether the registers of two MPUs differ.
-    #[tactic(auto, unfolding(tz_regs::specs::Difference::mpu_differs))]
+    #[tactic(auto, unfolding(tz_state::specs::Difference::mpu_differs))]
     pub fn differs(&self, other: &Mpu) -> bool
         ensures { result ≡ mpu_differs self.now.mpu other.now.mpu }
     {

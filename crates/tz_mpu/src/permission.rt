@@ -1,10 +1,10 @@
 //! What a region and the default map permit.
 
 ghost use Rattle.std.specs.Prelude.{◌≡◌};
-ghost use Rattle.tz_regs.specs.Protection.{is_executable, default_permits, may_read, may_write, has_pxn, may_run, region_permits};
+ghost use Rattle.tz_state.specs.Protection.{is_executable, default_permits, may_read, may_write, has_pxn, may_run, region_permits};
 
 use tz_model::Profile;
-use tz_regs::{Bounds, Kind};
+use tz_state::{Bounds, Kind};
 
 /// Whether the default map lets code run at an address.
 fn is_executable(addr: u32) -> bool

@@ -1,9 +1,9 @@
 //! The registers of an MPU by their addresses.
 
 ghost use Rattle.std.specs.Prelude.{◌≡◌};
-ghost use Rattle.tz_regs.specs.UnitRegisters.{mpu_register};
+ghost use Rattle.tz_state.specs.UnitRegisters.{mpu_register};
 
-use tz_regs::MpuRegister;
+use tz_state::MpuRegister;
 
 /// The register at an address, or none.
 pub fn register_at(addr: u32) -> Option<MpuRegister>

@@ -1,10 +1,10 @@
 -- What the active slots tell.
 use Rattle.std.proofs.Common.{◌≡◌, ℕ, zero, suc, Bool, true, false, cond, refl, ap, ◌∙◌}
 use Rattle.std.specs.Prelude.{◌==◌, ◌&&◌, ◌||◌, not}
-use Rattle.tz_regs.specs.Slots.{ExceptionsValue, number_at}
-use Rattle.tz_regs.specs.Execution.{is_active}
-use Rattle.tz_regs.specs.ControlRegisters.{is_other_active}
-use Rattle.tz_regs.specs.Pieces.{any_below}
+use Rattle.tz_state.specs.Slots.{ExceptionsValue, number_at}
+use Rattle.tz_state.specs.Execution.{is_active}
+use Rattle.tz_state.specs.ControlRegisters.{is_other_active}
+use Rattle.tz_state.specs.Pieces.{any_below}
 use Rattle.tz_nvic.specs.declared.active.ActiveSlots.{ActiveSlots}
 use Rattle.tz_nvic.specs.declared.active.ActiveSlots.TheVariants.{Nothing, One, Several}
 use Rattle.tz_nvic.specs.ActiveSlots.{slot_added, has_other, active_slots_below}

@@ -2,10 +2,10 @@
 use Rattle.std.proofs.Common.{◌≡◌, ◌⊎◌, inl, inr, ℕ, zero, suc, ◌+◌, ◌≤◌, Bool, false, refl, ap, ◌∙◌, arith}
 use Rattle.std.specs.Prelude.{nat_lt}
 use Rattle.std.proofs.lemmas.Bool.Decides.{nat_tests}
-use Rattle.tz_regs.specs.Slots.{ExceptionsValue, is_place}
-use Rattle.tz_regs.specs.Least.{least_below}
-use Rattle.tz_regs.specs.Priority.{is_ready, rank_of, chosen_place}
-use Rattle.tz_regs.specs.Execution.{is_active, active_below, raw_priority}
+use Rattle.tz_state.specs.Slots.{ExceptionsValue, is_place}
+use Rattle.tz_state.specs.Least.{least_below}
+use Rattle.tz_state.specs.Priority.{is_ready, rank_of, chosen_place}
+use Rattle.tz_state.specs.Execution.{is_active, active_below, raw_priority}
 use Rattle.tz_nvic.specs.ActiveSlots.{active_slots_below, active_slots}
 
 beyond : (e : ExceptionsValue) (j : ℕ) → e.interrupts + 32 ≤ j → is_place e j ≡ false

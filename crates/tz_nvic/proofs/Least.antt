@@ -2,7 +2,7 @@
 use Rattle.std.proofs.Common.{◌≡◌, ◌≢◌, ◌⊎◌, inl, inr, ℕ, zero, suc, ◌<◌, ◌≤◌, Bool, true, false, cond, Option, Some, None, refl, sym, subst, arith}
 use Rattle.std.specs.Prelude.{nat_lt}
 use Rattle.std.proofs.lemmas.Bool.Decides.{nat_tests}
-use Rattle.tz_regs.specs.Least.{lower_of, least_below}
+use Rattle.tz_state.specs.Least.{lower_of, least_below}
 
 -- one of those below n is ready, and no other that is has a lower rank
 pub record IsLeast (ready : ℕ → Bool) (rank : ℕ → ℕ) (n b : ℕ) : Type 0 where

@@ -5,8 +5,8 @@ use Rattle.std.proofs.lemmas.Bool.Decides.{nat_tests}
 use Rattle.tz_table.specs.declared.units.Side.{Side}
 use Rattle.tz_table.specs.declared.units.Side.TheVariants.{Secure, NonSecure}
 use Rattle.tz_model.specs.declared.report.Slot.{Slot}
-use Rattle.tz_regs.specs.First.{Ascends}
-use Rattle.tz_regs.specs.Slots.{ExceptionsValue, is_banked, is_system, has_number, bank_of, index_of, number_at, is_place, side_at, slot_at, exists}
+use Rattle.tz_state.specs.First.{Ascends}
+use Rattle.tz_state.specs.Slots.{ExceptionsValue, is_banked, is_system, has_number, bank_of, index_of, number_at, is_place, side_at, slot_at, exists}
 
 pub number_back : (e : ExceptionsValue) (slot : Slot) → exists e slot ≡ true → number_at (index_of slot) ≡ slot.number
 number_back e slot h = grind (arith, nat_tests)

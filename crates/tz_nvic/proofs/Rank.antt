@@ -4,9 +4,9 @@ use Rattle.std.proofs.Math.Pow.{pow_mono}
 use Rattle.std.proofs.lemmas.Nat.{pow_pos}
 use Rattle.tz_table.specs.declared.units.Side.{Side}
 use Rattle.tz_table.specs.declared.units.Side.TheVariants.{Secure, NonSecure}
-use Rattle.tz_regs.specs.Slots.{ExceptionsValue, number_at, side_at, at, is_fixed}
-use Rattle.tz_regs.specs.Priority.{subgroup_of, priority_of, subpriority_of, rank_of}
-use Rattle.tz_regs.specs.First.{ComesBefore, FitGroups}
+use Rattle.tz_state.specs.Slots.{ExceptionsValue, number_at, side_at, at, is_fixed}
+use Rattle.tz_state.specs.Priority.{subgroup_of, priority_of, subpriority_of, rank_of}
+use Rattle.tz_state.specs.First.{ComesBefore, FitGroups}
 
 rest_few : (n byte : ℕ) → n ≤ 7 → byte % 2 ^ (n + 1) < 256
 rest_few n byte h =

@@ -3,13 +3,13 @@ use Rattle.std.proofs.Common.{◌≡◌, ℕ, zero, suc, false, Option, Some, No
 use Rattle.std.proofs.lemmas.Grind.{common_steps}
 use Rattle.tz_table.specs.declared.units.Side.{Side}
 use Rattle.tz_table.specs.declared.units.Side.TheVariants.{Secure, NonSecure}
-use Rattle.tz_regs.specs.SlotChanges.{with_timer}
-use Rattle.tz_regs.specs.Timers.{counts, counted_down, pended_by}
+use Rattle.tz_state.specs.SlotChanges.{with_timer}
+use Rattle.tz_state.specs.Timers.{counts, counted_down, pended_by}
 use Rattle.std.specs.Prelude.{min, if◌then◌else◌, IfSome}
-use Rattle.tz_regs.specs.declared.slot.Timer.{Timer}
-use Rattle.tz_regs.specs.Slots.{ExceptionsValue, number_at, timer_of}
-use Rattle.tz_regs.specs.Priority.{rank_of, priority_of, subpriority_of, chosen_place}
-use Rattle.tz_regs.specs.Execution.{is_active, active_below}
+use Rattle.tz_state.specs.declared.slot.Timer.{Timer}
+use Rattle.tz_state.specs.Slots.{ExceptionsValue, number_at, timer_of}
+use Rattle.tz_state.specs.Priority.{rank_of, priority_of, subpriority_of, chosen_place}
+use Rattle.tz_state.specs.Execution.{is_active, active_below}
 use Rattle.tz_nvic.specs.declared.known.Known.{Known}
 use Rattle.tz_nvic.specs.declared.active.ActiveSlots.{ActiveSlots}
 use Rattle.tz_nvic.specs.ActiveSlots.{active_slots_below, slot_added}

@@ -1,7 +1,7 @@
 -- What is active, as far as it tells whether there is a slot beside one of a given number.
 use Rattle.std.specs.Prelude.{ℕ, zero, suc, ◌==◌, Bool, true, false, not, if◌then◌else◌}
-use Rattle.tz_regs.specs.Slots.{ExceptionsValue, places, number_at}
-use Rattle.tz_regs.specs.Execution.{is_active}
+use Rattle.tz_state.specs.Slots.{ExceptionsValue, places, number_at}
+use Rattle.tz_state.specs.Execution.{is_active}
 use Rattle.tz_nvic.specs.declared.active.ActiveSlots.{ActiveSlots}
 use Rattle.tz_nvic.specs.declared.active.ActiveSlots.TheVariants.{Nothing, One, Several}
 

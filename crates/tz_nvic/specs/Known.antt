@@ -1,9 +1,9 @@
 -- What is kept of a look at all slots.
 use Rattle.std.specs.Prelude.{◌≡◌, ◌≤◌, ◌<◌, true, IfSome}
-use Rattle.tz_regs.specs.Slots.{ExceptionsValue, is_place}
-use Rattle.tz_regs.specs.Priority.{chosen_place}
-use Rattle.tz_regs.specs.Execution.{raw_priority}
-use Rattle.tz_regs.specs.ControlRegisters.{is_interrupt_pending}
+use Rattle.tz_state.specs.Slots.{ExceptionsValue, is_place}
+use Rattle.tz_state.specs.Priority.{chosen_place}
+use Rattle.tz_state.specs.Execution.{raw_priority}
+use Rattle.tz_state.specs.ControlRegisters.{is_interrupt_pending}
 use Rattle.tz_nvic.specs.ActiveSlots.{active_slots}
 use Rattle.tz_nvic.specs.declared.known.Known.{Known}
 

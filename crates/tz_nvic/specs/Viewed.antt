@@ -1,6 +1,6 @@
 -- The exceptions as a value.
 use Rattle.std.specs.Prelude.{◌≡◌, ◌≤◌, length, IfSome}
-use Rattle.tz_regs.specs.Slots.{ExceptionsValue}
+use Rattle.tz_state.specs.Slots.{ExceptionsValue}
 use Rattle.tz_nvic.specs.Known.{IsKnown}
 use Rattle.tz_nvic.specs.declared.exceptions.Exceptions.TheInside.{Inside}
 

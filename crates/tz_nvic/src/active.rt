@@ -1,9 +1,9 @@
 //! What is active: its least priority, and whether it is one slot or several.
 
 ghost use Rattle.std.specs.Prelude.{◌≡◌, ◌≤◌, ◌<◌, min, if◌then◌else◌};
-ghost use Rattle.tz_regs.specs.Priority.{priority_of};
-ghost use Rattle.tz_regs.specs.Execution.{is_active, raw_priority};
-ghost use Rattle.tz_regs.specs.Slots.{number_at};
+ghost use Rattle.tz_state.specs.Priority.{priority_of};
+ghost use Rattle.tz_state.specs.Execution.{is_active, raw_priority};
+ghost use Rattle.tz_state.specs.Slots.{number_at};
 ghost use Rattle.tz_nvic.specs.ActiveSlots.{slot_added, has_other, active_slots};
 
 use crate::exceptions::Exceptions;
@@ -67,7 +67,7 @@ impl Exceptions {
     }
 
     /// The least priority of the active slots, four above the manual's, by a look at each.
-    #[tactic(auto, unfolding(tz_regs::specs::Execution::active_below))]
+    #[tactic(auto, unfolding(tz_state::specs::Execution::active_below))]
     pub(crate) fn least_active(&self) -> u32
         ensures is { result ≡ raw_priority self.now }
         ensures few { result ≤ 260 }

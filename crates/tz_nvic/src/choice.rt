@@ -1,10 +1,10 @@
 //! The choice among the exceptions.
 
 ghost use Rattle.std.specs.Prelude.{◌≡◌, ◌≤◌, ◌<◌, ◌+◌, true, IfSome, if◌then◌else◌};
-ghost use Rattle.tz_regs.specs.Slots.{is_place};
-ghost use Rattle.tz_regs.specs.Least.{lower_of};
-ghost use Rattle.tz_regs.specs.ControlRegisters.{is_interrupt_pending};
-ghost use Rattle.tz_regs.specs.Priority.{is_ready, rank_of, chosen_place};
+ghost use Rattle.tz_state.specs.Slots.{is_place};
+ghost use Rattle.tz_state.specs.Least.{lower_of};
+ghost use Rattle.tz_state.specs.ControlRegisters.{is_interrupt_pending};
+ghost use Rattle.tz_state.specs.Priority.{is_ready, rank_of, chosen_place};
 
 use crate::exceptions::Exceptions;
 use std::sync::ledger::Ledger;
@@ -46,7 +46,7 @@ impl Exceptions {
     /// The place of the slot that comes first, by a look at each. Most steps know it from an earlier look: so it
     /// stays a call, and what each step does is small.
     #[inline(never)]
-    #[tactic(auto, unfolding(tz_regs::specs::Least::least_below))]
+    #[tactic(auto, unfolding(tz_state::specs::Least::least_below))]
     pub(crate) fn chosen_place<L: Ledger>(&self, steps: &mut Steps<L>) -> Option<usize>
         ensures is { result ≡ chosen_place self.now }
         ensures few { IfSome result (λ i. i < 272) }
@@ -62,7 +62,7 @@ impl Exceptions {
     }
 
     /// Whether an external interrupt of either side is pending, by a look at each.
-    #[tactic(auto, unfolding(tz_regs::specs::Pieces::any_below))]
+    #[tactic(auto, unfolding(tz_state::specs::Pieces::any_below))]
     pub(crate) fn any_pending(&self) -> bool
         ensures { result ≡ is_interrupt_pending self.now }
     {

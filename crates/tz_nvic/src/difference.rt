@@ -2,7 +2,7 @@
 
 ghost use Rattle.std.specs.Prelude.{◌≡◌};
 ghost use Rattle.std.specs.Cmp.Lexicographic.{pointwise};
-ghost use Rattle.tz_regs.specs.Difference.{is_same_slot, is_same_choice, exceptions_differ};
+ghost use Rattle.tz_state.specs.Difference.{is_same_slot, is_same_choice, exceptions_differ};
 
 use crate::exceptions::Exceptions;
 
@@ -25,7 +25,7 @@ impl Exceptions {
     }
 
     /// Whether the exceptions of two cores differ in anything but their timers.
-    #[tactic(auto, unfolding(tz_regs::specs::Difference::exceptions_differ))]
+    #[tactic(auto, unfolding(tz_state::specs::Difference::exceptions_differ))]
     pub fn differs(&self, other: &Exceptions) -> bool
         ensures { result ≡ exceptions_differ self.now other.now }
     {

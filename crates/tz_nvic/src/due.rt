@@ -1,8 +1,8 @@
 //! The events of a script.
 
 ghost use Rattle.std.specs.Prelude.{◌≡◌};
-ghost use Rattle.tz_regs.specs.Due as told;
-ghost use Rattle.tz_regs.specs.Due.{slots_pended, slot_of_event};
+ghost use Rattle.tz_state.specs.Due as told;
+ghost use Rattle.tz_state.specs.Due.{slots_pended, slot_of_event};
 
 use crate::exceptions::Exceptions;
 use tz_model::{ScriptEvent, Side, Slot};
@@ -29,7 +29,7 @@ impl Exceptions {
     }
 
     /// Sets the slots of events pending, in order. Those of interrupts that the core hasn't are passed over.
-    #[tactic(auto, unfolding(tz_regs::specs::Due::slots_due))]
+    #[tactic(auto, unfolding(tz_state::specs::Due::slots_due))]
     pub fn pend_due(&mut self, due: &[ScriptEvent])
         ensures { self.new ≡ told.due self.old due.now }
     {

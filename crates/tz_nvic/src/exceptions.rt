@@ -1,15 +1,15 @@
 //! The table of slots: what is pending, active and enabled, priorities and targets.
 
 ghost use Rattle.std.specs.Prelude.{◌≡◌, ◌≤◌, ◌<◌, ◌+◌, true, IfOk, IsTrue};
-ghost use Rattle.tz_regs.specs.Slots.{at, exists, is_external, is_place, side_at, slot_at, index_of, is_enabled, with_slot, reset_exceptions};
-ghost use Rattle.tz_regs.specs.SlotChanges.{pended, unpended, activated, deactivated, prioritized, switched, targeted};
+ghost use Rattle.tz_state.specs.Slots.{at, exists, is_external, is_place, side_at, slot_at, index_of, is_enabled, with_slot, reset_exceptions};
+ghost use Rattle.tz_state.specs.SlotChanges.{pended, unpended, activated, deactivated, prioritized, switched, targeted};
 
 use crate::known::Known;
 use crate::place::{PLACES, index_of, is_always_enabled, is_banked, is_system, number_at};
 use std::alloc::{AllocError, Global};
 use std::marker::Model;
 use tz_model::{Side, Slot};
-use tz_regs::{SlotState, Timer};
+use tz_state::{SlotState, Timer};
 
 /// The exceptions of a core.
 #[derive(Drop)]
@@ -27,7 +27,7 @@ pub struct Exceptions {
 }
 
 impl Model for Exceptions {
-    ghost use Rattle.tz_regs.specs.Slots.{ExceptionsValue};
+    ghost use Rattle.tz_state.specs.Slots.{ExceptionsValue};
 
     ghost Value = { ExceptionsValue };
 

@@ -1,10 +1,10 @@
 //! What a look at all slots finds, and the calls that answer from it.
 
 ghost use Rattle.std.specs.Prelude.{◌≡◌, ◌≤◌, ◌<◌, ◌+◌, true, IfSome};
-ghost use Rattle.tz_regs.specs.Slots.{exists, is_place};
-ghost use Rattle.tz_regs.specs.Priority.{chosen_place, chosen};
-ghost use Rattle.tz_regs.specs.Execution.{raw_priority};
-ghost use Rattle.tz_regs.specs.ControlRegisters.{is_interrupt_pending, returns_to_base};
+ghost use Rattle.tz_state.specs.Slots.{exists, is_place};
+ghost use Rattle.tz_state.specs.Priority.{chosen_place, chosen};
+ghost use Rattle.tz_state.specs.Execution.{raw_priority};
+ghost use Rattle.tz_state.specs.ControlRegisters.{is_interrupt_pending, returns_to_base};
 ghost use Rattle.tz_nvic.specs.ActiveSlots.{active_slots};
 ghost use Rattle.tz_nvic.specs.Known.{IsKnown};
 

@@ -2,9 +2,9 @@
 
 ghost use Rattle.std.specs.Prelude.{◌≡◌, ℕ, ◌<◌, Some, None, true, false};
 ghost use Rattle.tz_model.specs.declared.report.Slot.{Slot};
-ghost use Rattle.tz_regs.specs.Slots.{ExceptionsValue, places, exists, is_place, index_of, number_at, slot_at};
-ghost use Rattle.tz_regs.specs.Priority.{is_ready, chosen_place};
-ghost use Rattle.tz_regs.specs.First.{IsFirst, FitGroups, Ascends};
+ghost use Rattle.tz_state.specs.Slots.{ExceptionsValue, places, exists, is_place, index_of, number_at, slot_at};
+ghost use Rattle.tz_state.specs.Priority.{is_ready, chosen_place};
+ghost use Rattle.tz_state.specs.First.{IsFirst, FitGroups, Ascends};
 
 /// The slot that is chosen is ready and comes before all others that are, by group priority, subpriority and
 /// place; it is the only one that does; and none is chosen only where none is ready.

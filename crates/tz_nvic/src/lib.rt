@@ -21,4 +21,4 @@ pub use exceptions::Exceptions;
 pub use laws::{chosen_comes_first, places_tell_slots};
 pub use place::PLACES;
 pub use tz_ready::Steps;
-pub use tz_regs::{SlotState, Timer};
+pub use tz_state::{SlotState, Timer};

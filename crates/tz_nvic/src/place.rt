@@ -1,7 +1,7 @@
 //! The place of each slot.
 
 ghost use Rattle.std.specs.Prelude.{◌≡◌, ◌<◌};
-ghost use Rattle.tz_regs.specs.Slots.{is_banked, is_system, bank_of, index_of, number_at, is_always_enabled};
+ghost use Rattle.tz_state.specs.Slots.{is_banked, is_system, bank_of, index_of, number_at, is_always_enabled};
 
 use tz_model::{Side, Slot};
 

@@ -1,7 +1,7 @@
 //! Priorities, four above the manual's: NMI has 2, the masks of nothing 260.
 
 ghost use Rattle.std.specs.Prelude.{◌≡◌, ◌≤◌, ◌<◌, ◌+◌, ◌^◌};
-ghost use Rattle.tz_regs.specs.Priority.{group_size, group_of, counted, hard_priority, priority_of, subpriority_of, rank_of};
+ghost use Rattle.tz_state.specs.Priority.{group_size, group_of, counted, hard_priority, priority_of, subpriority_of, rank_of};
 
 use crate::exceptions::Exceptions;
 use crate::place::number_at;
@@ -69,7 +69,7 @@ impl Exceptions {
     }
 
     /// The group priority of the slot at a place, four above the manual's.
-    #[tactic(auto, unfolding(tz_regs::specs::Priority::priority_of))]
+    #[tactic(auto, unfolding(tz_state::specs::Priority::priority_of))]
     pub fn priority_of(&self, index: usize) -> u32
         requires { index < 272 }
         ensures is { result ≡ priority_of self.now index }
@@ -88,7 +88,7 @@ impl Exceptions {
     }
 
     /// The subpriority of the slot at a place.
-    #[tactic(auto, unfolding(tz_regs::specs::Priority::subpriority_of))]
+    #[tactic(auto, unfolding(tz_state::specs::Priority::subpriority_of))]
     fn subpriority_of(&self, index: usize) -> u32
         requires { index < 272 }
         ensures is { result ≡ subpriority_of self.now index }
@@ -104,7 +104,7 @@ impl Exceptions {
     }
 
     /// Where the slot at a place stands in the order of priorities; no two have one rank.
-    #[tactic(auto, unfolding(tz_regs::specs::Priority::rank_of))]
+    #[tactic(auto, unfolding(tz_state::specs::Priority::rank_of))]
     pub(crate) fn rank_of(&self, index: usize) -> u32
         requires { index < 272 }
         ensures { result ≡ rank_of self.now index }

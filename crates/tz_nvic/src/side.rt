@@ -1,12 +1,12 @@
 //! What each side chooses: PRIGROUP, PRIS, BFHFNMINS and the timers.
 
 ghost use Rattle.std.specs.Prelude.{◌≡◌, ◌≤◌};
-ghost use Rattle.tz_regs.specs.Slots.{prigroup_of, timer_of};
-ghost use Rattle.tz_regs.specs.SlotChanges.{is_fault_side_held, with_prigroup, with_fault_side, with_timer, timer_bits};
+ghost use Rattle.tz_state.specs.Slots.{prigroup_of, timer_of};
+ghost use Rattle.tz_state.specs.SlotChanges.{is_fault_side_held, with_prigroup, with_fault_side, with_timer, timer_bits};
 
 use crate::exceptions::Exceptions;
 use tz_model::Side;
-use tz_regs::Timer;
+use tz_state::Timer;
 
 impl Exceptions {
     /// AIRCR.PRIGROUP of a side, at most 7.

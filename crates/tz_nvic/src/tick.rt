@@ -1,13 +1,13 @@
 //! The count of both timers.
 
 ghost use Rattle.std.specs.Prelude.{◌≡◌, ◌<◌};
-ghost use Rattle.tz_regs.specs.Timers.{counts, interrupts, runs_out, counted_down, pended_by, ticked};
-ghost use Rattle.tz_regs.specs.SlotChanges.{with_timer};
-ghost use Rattle.tz_regs.specs.Slots.{timer_of};
+ghost use Rattle.tz_state.specs.Timers.{counts, interrupts, runs_out, counted_down, pended_by, ticked};
+ghost use Rattle.tz_state.specs.SlotChanges.{with_timer};
+ghost use Rattle.tz_state.specs.Slots.{timer_of};
 
 use crate::exceptions::Exceptions;
 use tz_model::Side;
-use tz_regs::Timer;
+use tz_state::Timer;
 
 /// SYST_CSR.ENABLE: whether a timer counts.
 fn counts(timer: &Timer) -> bool

@@ -7,10 +7,10 @@ use Rattle.tz_table.specs.declared.units.Side.{Side}
 use Rattle.tz_table.specs.declared.units.Side.TheVariants.{Secure, NonSecure}
 use Rattle.tz_regs.specs.declared.parts.Masks.{Masks}
 use Rattle.tz_regs.specs.declared.parts.SideMasks.{SideMasks}
-use Rattle.tz_regs.specs.Slots.{ExceptionsValue}
-use Rattle.tz_regs.specs.Priority.{group_of, counted}
-use Rattle.tz_regs.specs.Execution.{raw_priority, basepri_priority, primask_priority, faultmask_priority, faultmask_set, side_priority, execution, manual_priority}
-use Rattle.tz_regs.specs.State.{is_negative_at}
+use Rattle.tz_state.specs.Slots.{ExceptionsValue}
+use Rattle.tz_state.specs.Priority.{group_of, counted}
+use Rattle.tz_state.specs.Execution.{raw_priority, basepri_priority, primask_priority, faultmask_priority, faultmask_set, side_priority, execution, manual_priority}
+use Rattle.tz_state.specs.State.{is_negative_at}
 
 least_negative : (a b : ℕ) → nat_lt (min a b) 4 ≡ (nat_lt a 4 || nat_lt b 4)
 least_negative a b = grind (arith, nat_tests)

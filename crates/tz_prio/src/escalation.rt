@@ -1,13 +1,14 @@
 //! What a synchronous exception becomes.
 
 ghost use Rattle.std.specs.Prelude.{◌≡◌, true};
-ghost use Rattle.tz_regs.specs.Slots.{exists};
-ghost use Rattle.tz_regs.specs.Escalation.{hard_side, hardened, escalated};
+ghost use Rattle.tz_state.specs.Slots.{exists};
+ghost use Rattle.tz_state.specs.Escalation.{hard_side, hardened, escalated};
 
 use crate::execution::{can_take, execution};
 use tz_model::{Side, Slot};
 use tz_nvic::Exceptions;
-use tz_regs::{Core, Masks, Taken};
+use tz_regs::{Core, Masks};
+use tz_state::Taken;
 
 /// The side of the HardFault that an exception of a side becomes.
 fn hard_side(exceptions: &Exceptions, side: Side) -> Side

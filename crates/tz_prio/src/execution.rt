@@ -1,9 +1,9 @@
 //! The execution priority.
 
 ghost use Rattle.std.specs.Prelude.{◌≡◌, ◌≤◌, true};
-ghost use Rattle.tz_regs.specs.Slots.{exists};
-ghost use Rattle.tz_regs.specs.Execution as told;
-ghost use Rattle.tz_regs.specs.Execution.{manual_priority};
+ghost use Rattle.tz_state.specs.Slots.{exists};
+ghost use Rattle.tz_state.specs.Execution as told;
+ghost use Rattle.tz_state.specs.Execution.{manual_priority};
 
 use crate::masks::{side_priority, without_primask};
 use std::sync::ledger::Ledger;
@@ -12,7 +12,7 @@ use tz_nvic::{Exceptions, Steps};
 use tz_regs::{Core, Masks};
 
 /// The execution priority, four above the manual's.
-#[tactic(auto, unfolding(tz_regs::specs::Execution::execution))]
+#[tactic(auto, unfolding(tz_state::specs::Execution::execution))]
 pub(crate) fn execution(masks: &Masks, exceptions: &Exceptions) -> u32
     ensures is { result ≡ told.execution exceptions.now masks.now }
     ensures few { result ≤ 260 }

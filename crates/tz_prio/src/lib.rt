@@ -12,4 +12,4 @@ mod negative;
 pub use escalation::escalate;
 pub use execution::{can_take, execution_priority, raw_priority, takes_first, wakes};
 pub use negative::is_negative;
-pub use tz_regs::Taken;
+pub use tz_state::Taken;

@@ -1,7 +1,7 @@
 //! The priorities of masks, four above the manual's.
 
 ghost use Rattle.std.specs.Prelude.{◌≡◌, ◌≤◌};
-ghost use Rattle.tz_regs.specs.Execution.{basepri_priority, primask_priority, faultmask_set, faultmask_priority, side_priority, without_primask};
+ghost use Rattle.tz_state.specs.Execution.{basepri_priority, primask_priority, faultmask_set, faultmask_priority, side_priority, without_primask};
 
 use tz_model::Side;
 use tz_nvic::Exceptions;

@@ -1,8 +1,8 @@
 //! Whether the execution priority is negative.
 
 ghost use Rattle.std.specs.Prelude.{◌≡◌};
-ghost use Rattle.tz_regs.specs.Execution.{execution, manual_priority};
-ghost use Rattle.tz_regs.specs.State.{is_negative_at};
+ghost use Rattle.tz_state.specs.Execution.{execution, manual_priority};
+ghost use Rattle.tz_state.specs.State.{is_negative_at};
 
 use tz_nvic::Exceptions;
 use tz_regs::Core;

@@ -1,6 +1,6 @@
 -- Looks that have found a region so far.
 use Rattle.std.proofs.Common.{ℕ, List, ◌∷◌, Option, Some, None}
-use Rattle.tz_regs.specs.declared.units.Bounds.{Bounds}
+use Rattle.tz_state.specs.declared.units.Bounds.{Bounds}
 use Rattle.tz_sau.specs.declared.scan.Holders.{Holders}
 use Rattle.tz_sau.specs.Holders.{holders_of}
 

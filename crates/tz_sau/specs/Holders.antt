@@ -1,6 +1,6 @@
 -- None, one or several of the regions hold an address.
 use Rattle.std.specs.Prelude.{ℕ, List, [], ◌∷◌}
-use Rattle.tz_regs.specs.declared.units.Bounds.{Bounds}
+use Rattle.tz_state.specs.declared.units.Bounds.{Bounds}
 use Rattle.tz_sau.specs.declared.scan.Holders.{Holders}
 use Rattle.tz_sau.specs.declared.scan.Holders.TheVariants.{Nobody, One, Several}
 

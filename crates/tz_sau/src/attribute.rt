@@ -2,14 +2,14 @@
 
 ghost use Rattle.std.specs.Prelude.{◌≡◌, ◌≤◌, length};
 ghost use Rattle.tz_model.specs.Board.{within, is_callable};
-ghost use Rattle.tz_regs.specs.Attribution.{MapState, more_secure, own_side, side_by, is_exempt, side_told, is_fixed, attributed, attribution, data_attribution, fetch_attribution, mapped_side, sau_side, sau_region};
-ghost use Rattle.tz_regs.specs.Regions.{the_only};
+ghost use Rattle.tz_state.specs.Attribution.{MapState, more_secure, own_side, side_by, is_exempt, side_told, is_fixed, attributed, attribution, data_attribution, fetch_attribution, mapped_side, sau_side, sau_region};
+ghost use Rattle.tz_state.specs.Regions.{the_only};
 
 use crate::idau::{IdauWord, idau_word};
 use crate::scan::{Holders, look};
 use crate::unit::Sau;
 use tz_model::{RegionSide, Side};
-use tz_regs::Attribute;
+use tz_state::Attribute;
 
 /// What the SAU says of an address.
 #[derive(Clone, Copy)]
@@ -84,10 +84,10 @@ fn is_fixed(fetch: bool, addr: u32) -> bool
 }
 
 impl Sau {
-    ghost use Rattle.tz_regs.specs.Attribution.{idau_side, idau_region};
+    ghost use Rattle.tz_state.specs.Attribution.{idau_side, idau_region};
 
     /// The SAU's word on an address.
-    #[tactic(auto, unfolding(tz_regs::specs::Attribution::sau_side, tz_regs::specs::Attribution::sau_region))]
+    #[tactic(auto, unfolding(tz_state::specs::Attribution::sau_side, tz_state::specs::Attribution::sau_region))]
     fn sau_word(&self, addr: u32) -> SauWord
         ensures side { result.side ≡ sau_side self.now.sau addr }
         ensures region { result.region ≡ sau_region self.now.sau addr }
@@ -126,7 +126,7 @@ impl Sau {
         idau_word(&self.regions[..self.region_count], addr)
     }
 
-    #[tactic(auto, unfolding(tz_regs::specs::Attribution::mapped_side))]
+    #[tactic(auto, unfolding(tz_state::specs::Attribution::mapped_side))]
     fn mapped_side(&self, addr: u32) -> RegionSide
         ensures { result ≡ mapped_side self.now addr }
     {
@@ -134,7 +134,7 @@ impl Sau {
     }
 
     /// The attribution of an address as data, for code of a side.
-    #[tactic(auto, unfolding(tz_regs::specs::Attribution::data_attribution))]
+    #[tactic(auto, unfolding(tz_state::specs::Attribution::data_attribution))]
     pub fn data_attribution(&self, side: Side, addr: u32) -> RegionSide
         ensures { result ≡ data_attribution self.now side addr }
     {
@@ -146,7 +146,7 @@ impl Sau {
     }
 
     /// The attribution of an address as code, for code of a side.
-    #[tactic(auto, unfolding(tz_regs::specs::Attribution::fetch_attribution))]
+    #[tactic(auto, unfolding(tz_state::specs::Attribution::fetch_attribution))]
     pub fn fetch_attribution(&self, side: Side, addr: u32) -> RegionSide
         ensures { result ≡ fetch_attribution self.now side addr }
     {
@@ -160,7 +160,7 @@ impl Sau {
     }
 
     /// The whole word on an address, as code or as data, for code of a side.
-    #[tactic(auto, unfolding(tz_regs::specs::Attribution::attribution, tz_regs::specs::Attribution::mapped_side, tz_regs::specs::Attribution::data_attribution, tz_regs::specs::Attribution::fetch_attribution))]
+    #[tactic(auto, unfolding(tz_state::specs::Attribution::attribution, tz_state::specs::Attribution::mapped_side, tz_state::specs::Attribution::data_attribution, tz_state::specs::Attribution::fetch_attribution))]
     pub fn attribute(&self, addr: u32, fetch: bool, side: Side) -> Attribute
         ensures { result ≡ attribution self.now fetch side addr }
     {

@@ -1,13 +1,13 @@
 //! The SAU as the board starts it.
 
 ghost use Rattle.std.specs.Prelude.{◌≡◌, ◌≤◌, ◌-◌, ◌++◌, length, map, replicate, take};
-ghost use Rattle.tz_regs.specs.Regions.{no_bounds};
-ghost use Rattle.tz_regs.specs.UnitRegisters.{bounds_of, reset_sau};
+ghost use Rattle.tz_state.specs.Regions.{no_bounds};
+ghost use Rattle.tz_state.specs.UnitRegisters.{bounds_of, reset_sau};
 
 use crate::unit::Sau;
 use arrayvec::ArrayVec;
 use tz_model::{Board, Region, RegionKind, RegionSide, SauRegion};
-use tz_regs::Bounds;
+use tz_state::Bounds;
 
 /// RBAR and RLAR of a region that the board starts with.
 fn bounds_of(region: &SauRegion) -> Bounds
@@ -53,10 +53,10 @@ fn kept(regions: &[Region]) -> [Region; 32]
 }
 
 impl Sau {
-    ghost use Rattle.tz_regs.specs.Attribution.{MapState};
+    ghost use Rattle.tz_state.specs.Attribution.{MapState};
 
     /// The SAU as a board starts it: on exactly where the board starts it with a region at least.
-    #[tactic(auto, unfolding(tz_regs::specs::UnitRegisters::reset_sau))]
+    #[tactic(auto, unfolding(tz_state::specs::UnitRegisters::reset_sau))]
     pub fn new(board: &Board) -> Sau
         ensures { result ≡ record { regions = board.now.regions; sau = reset_sau board.now.sau_regions board.now.sau } }
     {

@@ -2,7 +2,7 @@
 
 ghost use Rattle.std.specs.Prelude.{◌≡◌, ◌≤◌, length};
 ghost use Rattle.tz_model.specs.Board.{in_region};
-ghost use Rattle.tz_regs.specs.Attribution.{idau_side, idau_region};
+ghost use Rattle.tz_state.specs.Attribution.{idau_side, idau_region};
 
 use tz_model::{Region, RegionSide};
 
@@ -21,7 +21,7 @@ fn in_region(region: &Region, addr: u32) -> bool
 }
 
 /// The board's word on an address, which is Non-secure outside all regions.
-#[tactic(auto, unfolding(tz_regs::specs::Attribution::idau_side, tz_regs::specs::Attribution::idau_region))]
+#[tactic(auto, unfolding(tz_state::specs::Attribution::idau_side, tz_state::specs::Attribution::idau_region))]
 pub fn idau_word(regions: &[Region], addr: u32) -> IdauWord
     requires { length regions.now ≤ 32 }
     ensures side { result.side ≡ idau_side regions.now addr }

@@ -1,10 +1,10 @@
 //! The SAU's registers by their addresses (DDI0553, chapter D1.2).
 
 ghost use Rattle.std.specs.Prelude.{◌≡◌, MatchOption, ◌≤◌, ◌<◌, length, slice_set};
-ghost use Rattle.tz_regs.specs.UnitRegisters.{bounds_at, sau_register, sau_value, with_sau_value, sau_read, sau_written};
+ghost use Rattle.tz_state.specs.UnitRegisters.{bounds_at, sau_register, sau_value, with_sau_value, sau_read, sau_written};
 
 use crate::unit::Sau;
-use tz_regs::{Bounds, SauRegister};
+use tz_state::{Bounds, SauRegister};
 
 /// The register at an address.
 fn register_at(addr: u32) -> Option<SauRegister>
@@ -21,7 +21,7 @@ fn register_at(addr: u32) -> Option<SauRegister>
 }
 
 impl Sau {
-    ghost use Rattle.tz_regs.specs.Attribution.{MapState};
+    ghost use Rattle.tz_state.specs.Attribution.{MapState};
 
     /// RBAR and RLAR of a region by its number; none where there is no such region.
     pub fn region(&self, index: u8) -> Option<(u32, u32)>

@@ -1,10 +1,10 @@
 //! The regions of the SAU that hold an address.
 
 ghost use Rattle.std.specs.Prelude.{◌≡◌, ◌≤◌, length};
-ghost use Rattle.tz_regs.specs.Regions.{holds, holding};
+ghost use Rattle.tz_state.specs.Regions.{holds, holding};
 ghost use Rattle.tz_sau.specs.Holders.{holders_of};
 
-use tz_regs::Bounds;
+use tz_state::Bounds;
 
 /// Which regions hold an address: none, one, or several.
 #[derive(Clone, Copy)]
@@ -23,7 +23,7 @@ fn holds(region: &Bounds, addr: u32) -> bool
 }
 
 /// The enabled regions that hold an address. It looks no further than the second of them.
-#[tactic(auto, unfolding(tz_regs::specs::Regions::holding))]
+#[tactic(auto, unfolding(tz_state::specs::Regions::holding))]
 pub fn look(bounds: &[Bounds], addr: u32) -> Holders
     requires { length bounds.now ≤ 8 }
     ensures { result ≡ holders_of (holding 0 bounds.now addr) }

@@ -1,12 +1,12 @@
 //! The SAU and the board's regions beside it.
 
 ghost use Rattle.std.specs.Prelude.{◌≡◌};
-ghost use Rattle.tz_regs.specs.Difference.{sau_differs};
+ghost use Rattle.tz_state.specs.Difference.{sau_differs};
 
 use arrayvec::ArrayVec;
 use std::marker::Model;
 use tz_model::Region;
-use tz_regs::Bounds;
+use tz_state::Bounds;
 
 /// The SAU of a board, with the board's regions.
 #[derive(Drop)]
@@ -20,7 +20,7 @@ pub struct Sau {
 
 impl Model for Sau {
     ghost use Rattle.std.specs.Prelude.{take, ◌≤◌};
-    ghost use Rattle.tz_regs.specs.Attribution.{MapState};
+    ghost use Rattle.tz_state.specs.Attribution.{MapState};
 
     ghost Value = { MapState };
 
@@ -34,7 +34,7 @@ impl Model for Sau {
 
 impl Sau {
     /// Whether the registers of two SAUs differ.
-    #[tactic(auto, unfolding(tz_regs::specs::Difference::sau_differs))]
+    #[tactic(auto, unfolding(tz_state::specs::Difference::sau_differs))]
     pub fn differs(&self, other: &Sau) -> bool
         ensures { result ≡ sau_differs self.now.sau other.now.sau }
     {

@@ -1,7 +1,7 @@
 -- What the system registers are lent, and what a core is with what they leave.
 use Rattle.std.specs.Prelude.{◌≡◌}
-use Rattle.tz_regs.specs.SystemRegisters.{SystemState}
-use Rattle.tz_regs.specs.State.{State}
+use Rattle.tz_state.specs.SystemRegisters.{SystemState}
+use Rattle.tz_state.specs.State.{State}
 use Rattle.tz_scs.specs.declared.system.System.{System}
 use Rattle.tz_scs.specs.declared.system.SystemRegisters.{SystemRegisters}
 

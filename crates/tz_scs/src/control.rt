@@ -1,10 +1,10 @@
 //! ICSR, AIRCR, VTOR, CCR and SHCSR (DDI0553, chapter D1.2).
 
 ghost use Rattle.std.specs.Prelude.{◌≡◌, ◌<◌, true};
-ghost use Rattle.tz_regs.specs.Slots.{is_system};
-ghost use Rattle.tz_regs.specs.Pieces.{bit_at};
-ghost use Rattle.tz_regs.specs.Priority.{chosen};
-ghost use Rattle.tz_regs.specs.ControlRegisters.{shows_active, shows_pending, shows_enabled, pending_number, icsr_value, pends, icsr_written, aircr_value, has_key, aircr_written, vtor_written, ccr_value, ccr_written, shcsr_value, enables, shcsr_written};
+ghost use Rattle.tz_state.specs.Slots.{is_system};
+ghost use Rattle.tz_state.specs.Pieces.{bit_at};
+ghost use Rattle.tz_state.specs.Priority.{chosen};
+ghost use Rattle.tz_state.specs.ControlRegisters.{shows_active, shows_pending, shows_enabled, pending_number, icsr_value, pends, icsr_written, aircr_value, has_key, aircr_written, vtor_written, ccr_value, ccr_written, shcsr_value, enables, shcsr_written};
 
 use crate::numbers::{put_number, sees_number, slot_seen};
 use crate::pieces::{flag, is_bit};
@@ -13,7 +13,8 @@ use std::sync::ledger::{Blank, Ledger};
 use tz_model::{Side, Slot};
 use tz_nvic::Exceptions;
 use tz_ready::Steps;
-use tz_regs::{SideStatus, SlotState};
+use tz_regs::SideStatus;
+use tz_state::SlotState;
 
 /// The bit that tells a number of the system active.
 fn active_flag(exceptions: &Exceptions, side: Side, number: u16, bit: u32) -> u32
@@ -105,7 +106,7 @@ fn move_pending(exceptions: &mut Exceptions, side: Side, number: u16, set: bool,
 }
 
 /// Writes ICSR: PENDSTSET and PENDSTCLR, PENDSVSET and PENDSVCLR, PENDNMISET and PENDNMICLR.
-#[tactic(auto, unfolding(tz_regs::specs::ControlRegisters::icsr_written))]
+#[tactic(auto, unfolding(tz_state::specs::ControlRegisters::icsr_written))]
 pub(crate) fn write_icsr(exceptions: &mut Exceptions, side: Side, value: u32)
     ensures { exceptions.new ≡ icsr_written side exceptions.old value }
 {
@@ -223,7 +224,7 @@ fn enable(exceptions: &mut Exceptions, side: Side, number: u16, on: bool)
 }
 
 /// Writes SHCSR: what is enabled, and nothing else.
-#[tactic(auto, unfolding(tz_regs::specs::ControlRegisters::shcsr_written))]
+#[tactic(auto, unfolding(tz_state::specs::ControlRegisters::shcsr_written))]
 pub(crate) fn write_shcsr(exceptions: &mut Exceptions, side: Side, value: u32)
     ensures { exceptions.new ≡ shcsr_written side exceptions.old value }
 {

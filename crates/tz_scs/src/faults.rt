@@ -1,11 +1,12 @@
 //! CFSR, HFSR, MMFAR, BFAR, SFSR and SFAR (DDI0553, chapter D1.2).
 
 ghost use Rattle.std.specs.Prelude.{◌≡◌, ◌%◌, ◌/◌, ◌^◌};
-ghost use Rattle.tz_regs.specs.FaultRegisters.{own_status, with_own_status, if_bus, if_secure, cfsr_of, fault_value, cleared, with_bus_seen, with_security_seen, cfsr_cleared, fault_written};
+ghost use Rattle.tz_state.specs.FaultRegisters.{own_status, with_own_status, if_bus, if_secure, cfsr_of, fault_value, cleared, with_bus_seen, with_security_seen, cfsr_cleared, fault_written};
 
 use crate::views::{sees_bus, sees_secure};
 use tz_model::Side;
-use tz_regs::{BusStatus, FaultRegister, SecurityStatus, SideStatus, Status};
+use tz_regs::{BusStatus, SecurityStatus, SideStatus, Status};
+use tz_state::FaultRegister;
 
 /// The registers of a side.
 pub(crate) fn own_status(side: Side, status: &Status) -> &SideStatus

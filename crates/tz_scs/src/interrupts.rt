@@ -2,14 +2,14 @@
 //! that are its own.
 
 ghost use Rattle.std.specs.Prelude.{◌≡◌, ◌<◌, ◌+◌, IsTrue};
-ghost use Rattle.tz_regs.specs.Slots.{at};
-ghost use Rattle.tz_regs.specs.Pieces.{bits_below};
-ghost use Rattle.tz_regs.specs.NvicRegisters.{sees_interrupt, with_seen, shows_bank, bank_bit, bank_put, seen_bit, bank_value, slots_put, bank_written, seen_priority, with_priority, priorities_value, priorities_written, stir_written};
+ghost use Rattle.tz_state.specs.Slots.{at};
+ghost use Rattle.tz_state.specs.Pieces.{bits_below};
+ghost use Rattle.tz_state.specs.NvicRegisters.{sees_interrupt, with_seen, shows_bank, bank_bit, bank_put, seen_bit, bank_value, slots_put, bank_written, seen_priority, with_priority, priorities_value, priorities_written, stir_written};
 
 use crate::pieces::{flag, is_bit};
 use tz_model::Side;
 use tz_nvic::Exceptions;
-use tz_regs::{Bank, SlotState};
+use tz_state::{Bank, SlotState};
 
 /// Whether the board has an interrupt, and the view of a side shows it.
 fn sees_interrupt(exceptions: &Exceptions, side: Side, number: u32) -> bool
@@ -82,7 +82,7 @@ fn seen_bit(exceptions: &Exceptions, side: Side, bank: Bank, number: u32) -> boo
 }
 
 /// The bits of 32 interrupts from one on.
-#[tactic(auto, unfolding(tz_regs::specs::Pieces::bits_below))]
+#[tactic(auto, unfolding(tz_state::specs::Pieces::bits_below))]
 fn seen_bits(exceptions: &Exceptions, side: Side, bank: Bank, first: u32) -> u32
     requires { first < 8192 }
     ensures { result ≡ bits_below (λ k. seen_bit side exceptions.now bank (first + k)) 32 }
@@ -116,7 +116,7 @@ fn put_bit(exceptions: &mut Exceptions, side: Side, bank: Bank, number: u32, bit
 }
 
 /// Writes the bits of 32 interrupts from one on.
-#[tactic(auto, unfolding(tz_regs::specs::NvicRegisters::slots_put))]
+#[tactic(auto, unfolding(tz_state::specs::NvicRegisters::slots_put))]
 fn put_bits(exceptions: &mut Exceptions, side: Side, bank: Bank, first: u32, value: u32)
     requires { first < 8192 }
     ensures { exceptions.new ≡ record exceptions.old { slots = slots_put side bank value first exceptions.old 32 } }
@@ -172,7 +172,7 @@ pub(crate) fn priorities_value(exceptions: &Exceptions, side: Side, word: u8) ->
 }
 
 /// Writes a word of IPR.
-#[tactic(auto, unfolding(tz_regs::specs::NvicRegisters::priorities_written))]
+#[tactic(auto, unfolding(tz_state::specs::NvicRegisters::priorities_written))]
 pub(crate) fn write_priorities(exceptions: &mut Exceptions, side: Side, word: u8, value: u32)
     ensures { exceptions.new ≡ priorities_written side exceptions.old word value }
 {

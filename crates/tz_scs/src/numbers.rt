@@ -2,13 +2,13 @@
 //! (DDI0553, chapter D1.2).
 
 ghost use Rattle.std.specs.Prelude.{◌≡◌, ◌≤◌, IsTrue, true};
-ghost use Rattle.tz_regs.specs.Slots.{is_system};
-ghost use Rattle.tz_regs.specs.ControlRegisters.{sees_number, slot_seen, with_number, has_byte, byte_seen, with_byte_seen, shpr_value, shpr_written};
+ghost use Rattle.tz_state.specs.Slots.{is_system};
+ghost use Rattle.tz_state.specs.ControlRegisters.{sees_number, slot_seen, with_number, has_byte, byte_seen, with_byte_seen, shpr_value, shpr_written};
 
 use crate::views::{sees_bus, sees_secure};
 use tz_model::{Side, Slot};
 use tz_nvic::Exceptions;
-use tz_regs::SlotState;
+use tz_state::SlotState;
 
 /// Whether a view shows a number.
 pub(crate) fn sees_number(exceptions: &Exceptions, side: Side, number: u16) -> bool
@@ -85,7 +85,7 @@ pub(crate) fn shpr_value(exceptions: &Exceptions, side: Side, number: u16) -> u3
 }
 
 /// Writes the word of SHPR whose first byte is that of a number.
-#[tactic(auto, unfolding(tz_regs::specs::ControlRegisters::shpr_written))]
+#[tactic(auto, unfolding(tz_state::specs::ControlRegisters::shpr_written))]
 pub(crate) fn write_shpr(exceptions: &mut Exceptions, side: Side, number: u16, value: u32)
     requires { number ≤ 12 }
     ensures { exceptions.new ≡ shpr_written side exceptions.old number value }

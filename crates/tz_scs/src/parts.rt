@@ -1,11 +1,11 @@
 //! Bytes and halfwords of a register.
 
 ghost use Rattle.std.specs.Prelude.{◌≡◌, ◌%◌, true};
-ghost use Rattle.tz_regs.specs.Access.{is_aligned};
-ghost use Rattle.tz_regs.specs.Views.{part_of, with_part, control_narrow, fault_narrow, narrow_of};
+ghost use Rattle.tz_state.specs.Access.{is_aligned};
+ghost use Rattle.tz_state.specs.Views.{part_of, with_part, control_narrow, fault_narrow, narrow_of};
 
 use tz_model::Size;
-use tz_regs::{ControlRegister, FaultRegister, Narrow, Register};
+use tz_state::{ControlRegister, FaultRegister, Narrow, Register};
 
 /// The number of a size that stands at an address in its word.
 pub(crate) fn part_of(word: u32, addr: u32, size: Size) -> u32

@@ -1,7 +1,7 @@
 //! Flags and bits of a word.
 
 ghost use Rattle.std.specs.Prelude.{◌≡◌, ◌<◌};
-ghost use Rattle.tz_regs.specs.Pieces.{is_bit, bit_at};
+ghost use Rattle.tz_state.specs.Pieces.{is_bit, bit_at};
 
 /// The word in which one bit, below 32, tells a flag.
 pub(crate) fn flag(on: bool, bit: u32) -> u32

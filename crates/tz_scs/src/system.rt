@@ -1,10 +1,10 @@
 //! Reads and writes of the system registers.
 
 ghost use Rattle.std.specs.Prelude.{◌≡◌, ◌%◌, true, MatchOption};
-ghost use Rattle.tz_regs.specs.Access.{is_aligned};
-ghost use Rattle.tz_regs.specs.declared.register.Register.TheVariants.{Sau};
-ghost use Rattle.tz_regs.specs.SystemRegisters.{control_value, control_written, sau_seen, value_of, after_read, written};
-ghost use Rattle.tz_regs.specs.Views.{narrow_of, narrow_written, sized_written, system_value, system_read, system_written};
+ghost use Rattle.tz_state.specs.Access.{is_aligned};
+ghost use Rattle.tz_state.specs.declared.register.Register.TheVariants.{Sau};
+ghost use Rattle.tz_state.specs.SystemRegisters.{control_value, control_written, sau_seen, value_of, after_read, written};
+ghost use Rattle.tz_state.specs.Views.{narrow_of, narrow_written, sized_written, system_value, system_read, system_written};
 ghost use Rattle.tz_scs.specs.Lent.{state_of, SameLoans, SameSystem, machine_of, system_of, with_system};
 
 use crate::control;
@@ -17,7 +17,8 @@ use crate::views::found_at;
 use tz_access::Bus;
 use tz_model::{Side, Size};
 use tz_nvic::Exceptions;
-use tz_regs::{ControlRegister, Core, Found, Narrow, Register, SauRegister, Status};
+use tz_regs::{Core, Status};
+use tz_state::{ControlRegister, Found, Narrow, Register, SauRegister};
 
 /// The state that the system registers stand in, with the number of the exception that is handled.
 #[derive(Drop)]

@@ -1,9 +1,9 @@
 //! Where the system registers stand (DDI0553, chapter D1.2), by pages of the table of offsets.
 
 ghost use Rattle.std.specs.Prelude.{◌≡◌, ◌/◌, ◌%◌};
-ghost use Rattle.tz_regs.specs.RegisterTable.{row_at, timer_rows, nvic_rows, control_rows, mpu_rows, sau_rows, register_at};
+ghost use Rattle.tz_state.specs.RegisterTable.{row_at, timer_rows, nvic_rows, control_rows, mpu_rows, sau_rows, register_at};
 
-use tz_regs::{
+use tz_state::{
     Bank, ControlRegister, FaultRegister, MpuRegister, Register, SauRegister, TimerRegister,
 };
 

@@ -1,9 +1,9 @@
 //! SYST_CSR, SYST_RVR, SYST_CVR and SYST_CALIB of a timer (DDI0553, chapter D1.2).
 
 ghost use Rattle.std.specs.Prelude.{◌≡◌};
-ghost use Rattle.tz_regs.specs.TimerRegisters.{unflagged, timer_value, timer_read, timer_written};
+ghost use Rattle.tz_state.specs.TimerRegisters.{unflagged, timer_value, timer_read, timer_written};
 
-use tz_regs::{Timer, TimerRegister};
+use tz_state::{Timer, TimerRegister};
 
 /// What a register shows.
 pub(crate) fn timer_value(timer: Timer, register: TimerRegister) -> u32

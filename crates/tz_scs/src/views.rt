@@ -1,12 +1,12 @@
 //! What the view of a side shows: registers by their addresses, and what goes with BusFault and SecureFault.
 
 ghost use Rattle.std.specs.Prelude.{◌≡◌};
-ghost use Rattle.tz_regs.specs.ControlRegisters.{sees_bus, sees_secure};
-ghost use Rattle.tz_regs.specs.Views.{found_by, alias_found, found_at};
+ghost use Rattle.tz_state.specs.ControlRegisters.{sees_bus, sees_secure};
+ghost use Rattle.tz_state.specs.Views.{found_by, alias_found, found_at};
 
 use crate::table::register_at;
 use tz_model::Side;
-use tz_regs::{Found, Register};
+use tz_state::{Found, Register};
 
 /// Whether a view shows NMI, BusFault and what goes with them, while AIRCR.BFHFNMINS is as told.
 pub(crate) fn sees_bus(side: Side, bfhfnmins: bool) -> bool

@@ -9,8 +9,8 @@ use Rattle.tz_regs.specs.declared.parts.Core.{Core}
 use Rattle.tz_regs.specs.declared.parts.Stacks.{Stacks}
 use Rattle.tz_regs.specs.Banks.{secure_after}
 use Rattle.tz_regs.specs.Special.{named_of}
-use Rattle.tz_regs.specs.State.{State, priority_in, is_held}
-use Rattle.tz_regs.specs.Access.{is_aligned, reached_in, access}
+use Rattle.tz_state.specs.State.{State, priority_in, is_held}
+use Rattle.tz_state.specs.Access.{is_aligned, reached_in, access}
 use Rattle.tz_sem.specs.declared.family.Family.{Family}
 use Rattle.tz_sem.specs.declared.family.Family.TheVariants.{Alu, LoadStore, Branch, System}
 use Rattle.tz_sem.specs.Local.{Finished, FinishedNamed, local_of, put, finished_in, finished_named}

@@ -4,13 +4,13 @@ use Rattle.tz_table.specs.declared.units.Size.TheVariants.{Word}
 use Rattle.tz_model.specs.Words.{wrap}
 use Rattle.tz_model.specs.Board.{BoardValue}
 use Rattle.tz_model.specs.Image.{SegmentValue, ImageValue}
-use Rattle.tz_regs.specs.Memory.{Memory, every, word_at, with_bytes}
-use Rattle.tz_regs.specs.Zeros.{zero_memory}
+use Rattle.tz_state.specs.Memory.{Memory, every, word_at, with_bytes}
+use Rattle.tz_state.specs.Zeros.{zero_memory}
 use Rattle.tz_regs.specs.Reset.{reset_core}
-use Rattle.tz_regs.specs.Access.{is_mapped}
-use Rattle.tz_regs.specs.State.{State}
-use Rattle.tz_regs.specs.Slots.{reset_exceptions}
-use Rattle.tz_regs.specs.UnitRegisters.{reset_bus}
+use Rattle.tz_state.specs.Access.{is_mapped}
+use Rattle.tz_state.specs.State.{State}
+use Rattle.tz_state.specs.Slots.{reset_exceptions}
+use Rattle.tz_state.specs.UnitRegisters.{reset_bus}
 
 -- the bytes of segments put into memory, one segment after the other
 unfoldable pub with_segments : Memory → List SegmentValue → Memory

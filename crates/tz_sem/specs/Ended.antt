@@ -16,7 +16,7 @@ use Rattle.tz_regs.specs.declared.parts.Before.{Before}
 use Rattle.tz_regs.specs.declared.parts.Core.{Core}
 use Rattle.tz_regs.specs.Registers.{sp_in}
 use Rattle.tz_regs.specs.Special.{apsr_word}
-use Rattle.tz_regs.specs.State.{State, side_of}
+use Rattle.tz_state.specs.State.{State, side_of}
 use Rattle.tz_sem.specs.declared.ending.Cause.{Cause}
 use Rattle.tz_sem.specs.declared.ending.Cause.TheVariants.{Went, Returned, Called, CameBack, Resumed, Taken}
 use Rattle.tz_sem.specs.declared.ending.Ending.{Ending}

@@ -5,8 +5,8 @@ use Rattle.tz_model.specs.declared.report.Fault.{Fault}
 use Rattle.tz_model.specs.Words.{even_of}
 use Rattle.tz_regs.specs.declared.parts.Core.{Core}
 use Rattle.tz_regs.specs.Registers.{is_handler}
-use Rattle.tz_regs.specs.Access.{Reached, reached_in, access}
-use Rattle.tz_regs.specs.State.{State, with_core, with_registers}
+use Rattle.tz_state.specs.Access.{Reached, reached_in, access}
+use Rattle.tz_state.specs.State.{State, with_core, with_registers}
 use Rattle.tz_frames.specs.Machine.{framed}
 use Rattle.tz_frames.specs.Gate.{Called, branched_ns, calls_ns, is_fnc_return, function_returned}
 use Rattle.tz_frames.specs.Leave.{is_exc_return}

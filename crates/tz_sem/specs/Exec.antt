@@ -10,11 +10,11 @@ use Rattle.tz_model.specs.declared.report.Store as stored
 use Rattle.tz_model.specs.Ports.{Access, Answering, answers}
 use Rattle.tz_regs.specs.declared.parts.Core.{Core}
 use Rattle.tz_regs.specs.Special.{named_of}
-use Rattle.tz_regs.specs.declared.probe.Probe.{Probe}
-use Rattle.tz_regs.specs.declared.request.Exclusive.{Exclusive}
-use Rattle.tz_regs.specs.State.{Bus, State, priority_in, is_held, with_core, with_bus, with_monitor}
-use Rattle.tz_regs.specs.Access.{is_aligned, Reached, reached_in, access}
-use Rattle.tz_regs.specs.Target.{target_word}
+use Rattle.tz_state.specs.declared.probe.Probe.{Probe}
+use Rattle.tz_state.specs.declared.request.Exclusive.{Exclusive}
+use Rattle.tz_state.specs.State.{Bus, State, priority_in, is_held, with_core, with_bus, with_monitor}
+use Rattle.tz_state.specs.Access.{is_aligned, Reached, reached_in, access}
+use Rattle.tz_state.specs.Target.{target_word}
 use Rattle.tz_sem.specs.declared.family.Family.{Family}
 use Rattle.tz_sem.specs.declared.family.Family.TheVariants.{Alu, LoadStore, Branch, System}
 use Rattle.tz_sem.specs.Local.{Local, Finished, local_of, with_local, put, finished_in, finished_named}

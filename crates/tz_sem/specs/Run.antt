@@ -1,7 +1,7 @@
 -- Several steps in a row, with the events that are due at each.
 use Rattle.std.specs.Prelude.{ℕ, zero, suc, ◌+◌, List}
 use Rattle.tz_model.specs.declared.report.ScriptEvent.{ScriptEvent}
-use Rattle.tz_regs.specs.State.{State}
+use Rattle.tz_state.specs.State.{State}
 use Rattle.tz_sem.specs.Step.{step}
 
 -- the events of each step, by its number

@@ -24,11 +24,11 @@ use Rattle.tz_regs.specs.declared.parts.Before.{Before}
 use Rattle.tz_regs.specs.declared.parts.Core.{Core}
 use Rattle.tz_regs.specs.Registers.{before_in}
 use Rattle.tz_regs.specs.ItState.{it_advanced}
-use Rattle.tz_regs.specs.declared.fetcher.Fetcher.{Fetcher}
-use Rattle.tz_regs.specs.State.{State, map_of, is_privileged_in, priority_in, is_negative_at, with_core, with_exceptions, with_run, with_registers, with_pc}
-use Rattle.tz_regs.specs.Due.{begun}
-use Rattle.tz_regs.specs.Execution.{takes_first, wakes}
-use Rattle.tz_regs.specs.Fetch.{fetch, is_own_fetch, wide, sg_half}
+use Rattle.tz_state.specs.declared.fetcher.Fetcher.{Fetcher}
+use Rattle.tz_state.specs.State.{State, map_of, is_privileged_in, priority_in, is_negative_at, with_core, with_exceptions, with_run, with_registers, with_pc}
+use Rattle.tz_state.specs.Due.{begun}
+use Rattle.tz_state.specs.Execution.{takes_first, wakes}
+use Rattle.tz_state.specs.Fetch.{fetch, is_own_fetch, wide, sg_half}
 use Rattle.tz_sem.specs.ItRules.{is_misplaced, is_passed_over, ignores_condition}
 use Rattle.tz_sem.specs.Exec.{Executed, executed}
 use Rattle.tz_frames.specs.Gate.{gateway_entered}

@@ -9,8 +9,8 @@ use Rattle.tz_model.specs.declared.report.Fault.TheVariants.{Undef, StackLimit, 
 use Rattle.tz_model.specs.declared.report.Outcome.TheVariants.{Next, Sleep}
 use Rattle.tz_regs.specs.Registers.{with_reg, with_reg_stacks, reg_of, is_privileged}
 use Rattle.tz_regs.specs.Special.{Named, special_of, with_special, is_below_limit, changed_state}
-use Rattle.tz_regs.specs.declared.probe.Probe.{Probe}
-use Rattle.tz_regs.specs.State.{is_negative_at}
+use Rattle.tz_state.specs.declared.probe.Probe.{Probe}
+use Rattle.tz_state.specs.State.{is_negative_at}
 use Rattle.tz_sem.specs.Local.{FinishedNamed}
 
 -- goes on with nothing changed

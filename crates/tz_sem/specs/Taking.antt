@@ -7,8 +7,8 @@ use Rattle.tz_model.specs.declared.report.Fault.TheVariants.{Call}
 use Rattle.tz_model.specs.Words.{wrap}
 use Rattle.tz_regs.specs.declared.parts.Core.{Core}
 use Rattle.tz_regs.specs.ItState.{it_advanced}
-use Rattle.tz_regs.specs.Slots.{ExceptionsValue}
-use Rattle.tz_regs.specs.State.{Bus, State, is_privileged_in, with_run}
+use Rattle.tz_state.specs.Slots.{ExceptionsValue}
+use Rattle.tz_state.specs.State.{Bus, State, is_privileged_in, with_run}
 use Rattle.tz_sem.specs.Exec.{released}
 use Rattle.tz_frames.specs.Machine.{Framed, framed}
 use Rattle.tz_frames.specs.declared.entering.Entered.{Entered}

@@ -10,8 +10,8 @@ ghost use Rattle.std.specs.Prelude.{◌≡◌, List, true};
 ghost use Rattle.tz_table.specs.declared.units.Side.TheVariants.{NonSecure};
 ghost use Rattle.tz_table.specs.declared.instruction.Insn.{Insn};
 ghost use Rattle.tz_model.specs.declared.report.ScriptEvent.{ScriptEvent};
-ghost use Rattle.tz_regs.specs.State.{State, with_exceptions};
-ghost use Rattle.tz_regs.specs.Due.{begun};
+ghost use Rattle.tz_state.specs.State.{State, with_exceptions};
+ghost use Rattle.tz_state.specs.Due.{begun};
 ghost use Rattle.tz_sem.specs.Exec.{executed};
 ghost use Rattle.tz_sem.specs.Step.{step};
 

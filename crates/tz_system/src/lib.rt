@@ -10,14 +10,15 @@ ghost use Rattle.std.specs.Prelude.{◌≡◌};
 ghost use Rattle.tz_table.specs.declared.instruction.Insn.TheVariants.{Barrier};
 ghost use Rattle.tz_regs.specs.Registers.{reg_of};
 ghost use Rattle.tz_regs.specs.Special.{named_of};
-ghost use Rattle.tz_regs.specs.Target.{target_word};
+ghost use Rattle.tz_state.specs.Target.{target_word};
 ghost use Rattle.tz_sem.specs.Exec.{cleared_by, system_over};
 ghost use Rattle.tz_sem.specs.Local.{finished_named};
 ghost use Rattle.tz_sem.specs.System.{passes, waits_for_event, finish_hint, finish_read, finish_write, asked, finish_test, finish_lazy};
 
 use tz_access::Bus;
 use tz_model::{Fault, Outcome};
-use tz_regs::{Core, Probe};
+use tz_regs::Core;
+use tz_state::Probe;
 use tz_table::{BarrierOp, Insn, Side};
 
 /// Goes on with nothing changed.

@@ -8,15 +8,15 @@ use Rattle.tz_model.specs.declared.report.Fault.TheVariants.{Unaligned, Violatio
 use Rattle.tz_model.specs.declared.report.Store as stored
 use Rattle.tz_model.specs.Ports.{Access, Load, Store, with_read, after_answer, answers, cut_to}
 use Rattle.tz_regs.specs.declared.parts.BusStatus.{BusStatus}
-use Rattle.tz_regs.specs.declared.asker.Asker.{Asker}
-use Rattle.tz_regs.specs.declared.request.Kind.{Kind}
-use Rattle.tz_regs.specs.declared.request.Kind.TheVariants.{Read, Write}
-use Rattle.tz_regs.specs.Memory.{Memory, every, with_value}
-use Rattle.tz_regs.specs.Attribution.{is_open}
-use Rattle.tz_regs.specs.Slots.{at}
-use Rattle.tz_regs.specs.SystemRegisters.{SystemState}
-use Rattle.tz_regs.specs.Views.{system_read, system_written}
-use Rattle.tz_regs.specs.Access.{Reached, is_private, may_touch, is_crooked, is_let, verdict, refused, loaded, stored_in, read_by, write_by, access}
+use Rattle.tz_state.specs.declared.asker.Asker.{Asker}
+use Rattle.tz_state.specs.declared.request.Kind.{Kind}
+use Rattle.tz_state.specs.declared.request.Kind.TheVariants.{Read, Write}
+use Rattle.tz_state.specs.Memory.{Memory, every, with_value}
+use Rattle.tz_state.specs.Attribution.{is_open}
+use Rattle.tz_state.specs.Slots.{at}
+use Rattle.tz_state.specs.SystemRegisters.{SystemState}
+use Rattle.tz_state.specs.Views.{system_read, system_written}
+use Rattle.tz_state.specs.Access.{Reached, is_private, may_touch, is_crooked, is_let, verdict, refused, loaded, stored_in, read_by, write_by, access}
 use Rattle.tz_twin.specs.Integrity.{KeepsBytes}
 use Rattle.tz_twin.proofs.Bytes.{value_same, write_same, write_kept, keeps_nothing_changed, keeps_then}
 use Rattle.tz_twin.proofs.Split.{Open, Rest, open_map, Same}

@@ -9,11 +9,11 @@ use Rattle.tz_model.specs.declared.report.Fault.{Fault}
 use Rattle.tz_model.specs.declared.report.Fault.TheVariants.{InvPc}
 use Rattle.tz_model.specs.declared.report.Slot.{Slot}
 use Rattle.tz_regs.specs.declared.parts.Core.{Core}
-use Rattle.tz_regs.specs.declared.slot.SlotState.{SlotState}
-use Rattle.tz_regs.specs.Slots.{ExceptionsValue, at, idle, places, index_of, system_side, side_at, slot_at}
-use Rattle.tz_regs.specs.SlotChanges.{activated}
-use Rattle.tz_regs.specs.Priority.{is_ready, rank_of, chosen_place, slot_found, chosen}
-use Rattle.tz_regs.specs.Execution.{takes_first}
+use Rattle.tz_state.specs.declared.slot.SlotState.{SlotState}
+use Rattle.tz_state.specs.Slots.{ExceptionsValue, at, idle, places, index_of, system_side, side_at, slot_at}
+use Rattle.tz_state.specs.SlotChanges.{activated}
+use Rattle.tz_state.specs.Priority.{is_ready, rank_of, chosen_place, slot_found, chosen}
+use Rattle.tz_state.specs.Execution.{takes_first}
 use Rattle.tz_frames.specs.Looks.{Vector}
 use Rattle.tz_frames.specs.Machine.{Framed, framed}
 use Rattle.tz_frames.specs.declared.frame.StackFault.{StackFault}

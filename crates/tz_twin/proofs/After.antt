@@ -9,8 +9,8 @@ use Rattle.tz_model.specs.declared.report.CrossKind.TheVariants.{Chain, Preempt}
 use Rattle.tz_model.specs.declared.report.Way.{Way}
 use Rattle.tz_model.specs.Words.{wrap, even_of}
 use Rattle.tz_regs.specs.declared.parts.Registers.{Registers}
-use Rattle.tz_regs.specs.Memory.{Memory, every, word_at}
-use Rattle.tz_regs.specs.Attribution.{MapState, is_open}
+use Rattle.tz_state.specs.Memory.{Memory, every, word_at}
+use Rattle.tz_state.specs.Attribution.{MapState, is_open}
 use Rattle.tz_frames.specs.Registers.{no_flags, saved_of, scratch_cleared, all_cleared}
 use Rattle.tz_sem.specs.declared.ending.Cause.TheVariants.{Taken}
 use Rattle.tz_sem.specs.Ended.{kind_of}

@@ -13,11 +13,11 @@ use Rattle.tz_regs.specs.declared.parts.Core.{Core}
 use Rattle.tz_regs.specs.declared.parts.Registers.{Registers}
 use Rattle.tz_regs.specs.declared.parts.Stacks.{Stacks}
 use Rattle.tz_regs.specs.Registers.{is_handler, sp_of, pointer_of}
-use Rattle.tz_regs.specs.declared.request.Kind.TheVariants.{Read}
-use Rattle.tz_regs.specs.Memory.{Memory, word_at}
-use Rattle.tz_regs.specs.Slots.{ExceptionsValue}
-use Rattle.tz_regs.specs.Execution.{takes_first}
-use Rattle.tz_regs.specs.State.{State, with_core, side_of}
+use Rattle.tz_state.specs.declared.request.Kind.TheVariants.{Read}
+use Rattle.tz_state.specs.Memory.{Memory, word_at}
+use Rattle.tz_state.specs.Slots.{ExceptionsValue}
+use Rattle.tz_state.specs.Execution.{takes_first}
+use Rattle.tz_state.specs.State.{State, with_core, side_of}
 use Rattle.tz_frames.specs.Machine.{Framed, frame_verdict, looked, framed}
 use Rattle.tz_frames.specs.declared.frame.StackFault.{StackFault}
 use Rattle.tz_frames.specs.declared.frame.StackFault.TheVariants.{Signature}

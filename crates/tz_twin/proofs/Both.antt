@@ -5,7 +5,7 @@ use Rattle.tz_model.specs.declared.report.Way.{Way}
 use Rattle.tz_model.specs.Words.{is_nonsecure_side}
 use Rattle.tz_regs.specs.declared.parts.Registers.{Registers}
 use Rattle.tz_regs.specs.Registers.{side_in, before_in}
-use Rattle.tz_regs.specs.State.{State, side_of}
+use Rattle.tz_state.specs.State.{State, side_of}
 use Rattle.tz_sem.specs.declared.ending.Cause.{Cause}
 use Rattle.tz_sem.specs.Ended.{Ended, way_by, kind_of}
 use Rattle.tz_sem.specs.Step.{stepped}

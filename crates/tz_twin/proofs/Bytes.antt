@@ -9,8 +9,8 @@ use Rattle.std.proofs.lemmas.Bool.Decides.{nat_tests}
 use Rattle.tz_table.specs.declared.units.Size.{Size}
 use Rattle.tz_table.specs.declared.units.Size.TheVariants.{Byte, Half, Word}
 use Rattle.tz_model.specs.Words.{wrap}
-use Rattle.tz_regs.specs.Memory.{Memory, every, byte_at, half_at, word_at, value_at, with_byte, with_half, with_word, with_value}
-use Rattle.tz_regs.specs.Attribution.{MapState, is_open}
+use Rattle.tz_state.specs.Memory.{Memory, every, byte_at, half_at, word_at, value_at, with_byte, with_half, with_word, with_value}
+use Rattle.tz_state.specs.Attribution.{MapState, is_open}
 use Rattle.tz_twin.specs.Seen.{open_bytes}
 use Rattle.tz_twin.specs.Integrity.{KeepsBytes}
 

@@ -11,11 +11,11 @@ use Rattle.tz_model.specs.declared.fetch.Fetched.{Fetched}
 use Rattle.tz_model.specs.Board.{is_callable}
 use Rattle.tz_model.specs.Words.{wrap}
 use Rattle.tz_regs.specs.Registers.{side_in}
-use Rattle.tz_regs.specs.declared.fetcher.Fetcher.{Fetcher}
-use Rattle.tz_regs.specs.Memory.{half_at}
-use Rattle.tz_regs.specs.Attribution.{fetch_attribution, attribution, side_told}
-use Rattle.tz_regs.specs.State.{Bus, State, map_in}
-use Rattle.tz_regs.specs.Fetch.{is_entry, is_runnable, is_half_mapped, sg_half, wide, gateway_fetch}
+use Rattle.tz_state.specs.declared.fetcher.Fetcher.{Fetcher}
+use Rattle.tz_state.specs.Memory.{half_at}
+use Rattle.tz_state.specs.Attribution.{fetch_attribution, attribution, side_told}
+use Rattle.tz_state.specs.State.{Bus, State, map_in}
+use Rattle.tz_state.specs.Fetch.{is_entry, is_runnable, is_half_mapped, sg_half, wide, gateway_fetch}
 use Rattle.tz_sem.specs.declared.ending.Course.{Course}
 use Rattle.tz_sem.specs.Ended.{with_stores}
 use Rattle.tz_sem.specs.Taking.{faults}

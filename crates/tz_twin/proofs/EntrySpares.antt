@@ -7,13 +7,13 @@ use Rattle.tz_model.specs.declared.report.Fault.{Fault}
 use Rattle.tz_model.specs.declared.report.Slot.{Slot}
 use Rattle.tz_model.specs.Words.{is_nonsecure_side}
 use Rattle.tz_regs.specs.declared.parts.Core.{Core}
-use Rattle.tz_regs.specs.Memory.{Memory}
-use Rattle.tz_regs.specs.Attribution.{MapState}
-use Rattle.tz_regs.specs.Slots.{ExceptionsValue, at, index_of}
-use Rattle.tz_regs.specs.SlotChanges.{activated}
-use Rattle.tz_regs.specs.Priority.{chosen}
-use Rattle.tz_regs.specs.Escalation.{hard_side}
-use Rattle.tz_regs.specs.State.{map_in}
+use Rattle.tz_state.specs.Memory.{Memory}
+use Rattle.tz_state.specs.Attribution.{MapState}
+use Rattle.tz_state.specs.Slots.{ExceptionsValue, at, index_of}
+use Rattle.tz_state.specs.SlotChanges.{activated}
+use Rattle.tz_state.specs.Priority.{chosen}
+use Rattle.tz_state.specs.Escalation.{hard_side}
+use Rattle.tz_state.specs.State.{map_in}
 use Rattle.tz_frames.specs.Looks.{Vector}
 use Rattle.tz_frames.specs.Machine.{Framed, framed}
 use Rattle.tz_frames.specs.declared.frame.StackFault.{StackFault}

@@ -14,13 +14,13 @@ use Rattle.tz_regs.specs.declared.parts.BusStatus.{BusStatus}
 use Rattle.tz_regs.specs.declared.parts.Core.{Core}
 use Rattle.tz_regs.specs.declared.parts.Stacks.{Stacks}
 use Rattle.tz_regs.specs.Registers.{is_privileged, uses_process, sp_of}
-use Rattle.tz_regs.specs.declared.request.Kind.TheVariants.{Write}
-use Rattle.tz_regs.specs.Memory.{Memory, every, word_at}
-use Rattle.tz_regs.specs.Attribution.{is_open}
-use Rattle.tz_regs.specs.Slots.{ExceptionsValue}
-use Rattle.tz_regs.specs.Priority.{chosen}
-use Rattle.tz_regs.specs.Access.{may_touch, is_let, verdict}
-use Rattle.tz_regs.specs.State.{Bus, State}
+use Rattle.tz_state.specs.declared.request.Kind.TheVariants.{Write}
+use Rattle.tz_state.specs.Memory.{Memory, every, word_at}
+use Rattle.tz_state.specs.Attribution.{is_open}
+use Rattle.tz_state.specs.Slots.{ExceptionsValue}
+use Rattle.tz_state.specs.Priority.{chosen}
+use Rattle.tz_state.specs.Access.{may_touch, is_let, verdict}
+use Rattle.tz_state.specs.State.{Bus, State}
 use Rattle.tz_frames.specs.Looks.{Vector}
 use Rattle.tz_frames.specs.Machine.{Framed, frame_verdict, vector_at, vector_verdict, looked, framed_write, framed}
 use Rattle.tz_frames.specs.declared.frame.StackFault.{StackFault}

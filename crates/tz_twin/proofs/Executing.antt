@@ -17,14 +17,14 @@ use Rattle.tz_model.specs.Ports.{answers}
 use Rattle.tz_regs.specs.declared.parts.BusStatus.{BusStatus}
 use Rattle.tz_regs.specs.declared.parts.Core.{Core}
 use Rattle.tz_regs.specs.Special.{Named, named_of}
-use Rattle.tz_regs.specs.declared.probe.Probe.{Probe}
+use Rattle.tz_state.specs.declared.probe.Probe.{Probe}
 use Rattle.tz_regs.specs.declared.parts.Registers.{Registers}
-use Rattle.tz_regs.specs.declared.request.Exclusive.{Exclusive}
-use Rattle.tz_regs.specs.Memory.{Memory}
-use Rattle.tz_regs.specs.Access.{is_aligned, Reached, reached_in}
-use Rattle.tz_regs.specs.State.{State, priority_in, asker_in, is_held}
-use Rattle.tz_regs.specs.declared.asker.Asker.{Asker}
-use Rattle.tz_regs.specs.Target.{target_word}
+use Rattle.tz_state.specs.declared.request.Exclusive.{Exclusive}
+use Rattle.tz_state.specs.Memory.{Memory}
+use Rattle.tz_state.specs.Access.{is_aligned, Reached, reached_in}
+use Rattle.tz_state.specs.State.{State, priority_in, asker_in, is_held}
+use Rattle.tz_state.specs.declared.asker.Asker.{Asker}
+use Rattle.tz_state.specs.Target.{target_word}
 use Rattle.tz_sem.specs.declared.family.Family.{Family}
 use Rattle.tz_sem.specs.declared.family.Family.TheVariants.{Alu, LoadStore, Branch, System}
 use Rattle.tz_sem.specs.Local.{Local, Finished, FinishedNamed, local_of, put, finished_in, finished_named}

@@ -7,11 +7,11 @@ use Rattle.tz_model.specs.declared.report.Fault.TheVariants.{InvPc, StackLimit, 
 use Rattle.tz_model.specs.declared.report.Slot.{Slot}
 use Rattle.tz_regs.specs.declared.parts.BusStatus.{BusStatus}
 use Rattle.tz_regs.specs.declared.parts.Status.{Status}
-use Rattle.tz_regs.specs.declared.taken.Taken.{Taken}
-use Rattle.tz_regs.specs.declared.taken.Taken.TheVariants.{AsIs, Hard, Lockup}
-use Rattle.tz_regs.specs.Slots.{ExceptionsValue}
-use Rattle.tz_regs.specs.SlotChanges.{pended}
-use Rattle.tz_regs.specs.Escalation.{escalated}
+use Rattle.tz_state.specs.declared.taken.Taken.{Taken}
+use Rattle.tz_state.specs.declared.taken.Taken.TheVariants.{AsIs, Hard, Lockup}
+use Rattle.tz_state.specs.Slots.{ExceptionsValue}
+use Rattle.tz_state.specs.SlotChanges.{pended}
+use Rattle.tz_state.specs.Escalation.{escalated}
 use Rattle.tz_frames.specs.declared.frame.StackFault.{StackFault}
 use Rattle.tz_frames.specs.declared.frame.StackFault.TheVariants.{Limit, Access, Signature as Unsigned}
 use Rattle.tz_frames.specs.Status.{with_hfsr, status_after, frame_bit, word_status, frame_status, slot, exception_of, frame_exception, with_status, raised_as, raised, faulted, frame_faulted}

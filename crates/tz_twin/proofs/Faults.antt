@@ -18,11 +18,11 @@ use Rattle.tz_model.specs.Ports.{Access, Load, Store, with_read, after_answer, a
 use Rattle.tz_regs.specs.Registers.{limit_of}
 use Rattle.tz_regs.specs.ItState.{condition_holds}
 use Rattle.tz_regs.specs.Special.{Named, is_below_limit}
-use Rattle.tz_regs.specs.declared.request.Kind.TheVariants.{Read, Write}
-use Rattle.tz_regs.specs.declared.request.Request.{Request}
-use Rattle.tz_regs.specs.State.{Bus, map_in}
-use Rattle.tz_regs.specs.Memory.{every}
-use Rattle.tz_regs.specs.Access.{Reached, is_crooked, may_touch, is_let, is_private, takes, verdict, request_by, loaded, read_by, write_by, access}
+use Rattle.tz_state.specs.declared.request.Kind.TheVariants.{Read, Write}
+use Rattle.tz_state.specs.declared.request.Request.{Request}
+use Rattle.tz_state.specs.State.{Bus, map_in}
+use Rattle.tz_state.specs.Memory.{every}
+use Rattle.tz_state.specs.Access.{Reached, is_crooked, may_touch, is_let, is_private, takes, verdict, request_by, loaded, read_by, write_by, access}
 use Rattle.tz_sem.specs.Operations.{computed}
 use Rattle.tz_sem.specs.Local.{Local, reg}
 use Rattle.tz_sem.specs.Alu.{constant_of, shifted_value, shifted_carry, flagged, is_comparison, is_limited, delivered, operated, is_width, is_field, traps_division, finish_alu}

@@ -8,11 +8,11 @@ use Rattle.tz_model.specs.declared.report.Fault.{Fault}
 use Rattle.tz_model.specs.declared.report.Fault.TheVariants.{EntryPoint, Exec, ExecBus}
 use Rattle.tz_model.specs.Words.{wrap}
 use Rattle.tz_model.specs.Board.{is_nonsecure}
-use Rattle.tz_regs.specs.declared.fetcher.Fetcher.{Fetcher}
-use Rattle.tz_regs.specs.Memory.{half_at}
-use Rattle.tz_regs.specs.State.{Bus, map_in}
-use Rattle.tz_regs.specs.Attribution.{MapState, mapped_side, fetch_attribution, data_attribution, is_open, is_exempt}
-use Rattle.tz_regs.specs.Fetch.{needs_second, lets_run, is_runnable, is_half_mapped, is_own_byte, is_own_fetch, wrong_side, half_verdict, narrow, with_second, with_first, own_fetch}
+use Rattle.tz_state.specs.declared.fetcher.Fetcher.{Fetcher}
+use Rattle.tz_state.specs.Memory.{half_at}
+use Rattle.tz_state.specs.State.{Bus, map_in}
+use Rattle.tz_state.specs.Attribution.{MapState, mapped_side, fetch_attribution, data_attribution, is_open, is_exempt}
+use Rattle.tz_state.specs.Fetch.{needs_second, lets_run, is_runnable, is_half_mapped, is_own_byte, is_own_fetch, wrong_side, half_verdict, narrow, with_second, with_first, own_fetch}
 use Rattle.tz_twin.proofs.Bytes.{SameOpen, and_first, and_second, half_same}
 use Rattle.tz_twin.proofs.Faults.{is_own, Own, OwnSome, own_cond, own_some}
 use Rattle.tz_twin.proofs.Split.{Open, Rest, open_map, join_bus}

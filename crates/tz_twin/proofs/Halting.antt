@@ -13,12 +13,12 @@ use Rattle.tz_model.specs.Words.{wrap, is_nonsecure_side}
 use Rattle.tz_regs.specs.declared.parts.Core.{Core}
 use Rattle.tz_regs.specs.declared.parts.Registers.{Registers}
 use Rattle.tz_regs.specs.Registers.{side_in}
-use Rattle.tz_regs.specs.declared.taken.Taken.{Taken}
-use Rattle.tz_regs.specs.declared.taken.Taken.TheVariants as becomes
-use Rattle.tz_regs.specs.Memory.{word_at}
-use Rattle.tz_regs.specs.Slots.{ExceptionsValue}
-use Rattle.tz_regs.specs.Escalation.{escalated}
-use Rattle.tz_regs.specs.State.{Bus, State, map_in, side_of, with_core}
+use Rattle.tz_state.specs.declared.taken.Taken.{Taken}
+use Rattle.tz_state.specs.declared.taken.Taken.TheVariants as becomes
+use Rattle.tz_state.specs.Memory.{word_at}
+use Rattle.tz_state.specs.Slots.{ExceptionsValue}
+use Rattle.tz_state.specs.Escalation.{escalated}
+use Rattle.tz_state.specs.State.{Bus, State, map_in, side_of, with_core}
 use Rattle.tz_frames.specs.Looks.{SecureLoad}
 use Rattle.tz_frames.specs.Machine.{Framed, framed}
 use Rattle.tz_frames.specs.declared.entering.Entered.{Entered}

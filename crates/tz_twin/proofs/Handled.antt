@@ -15,17 +15,17 @@ use Rattle.tz_regs.specs.declared.parts.Status.{Status}
 use Rattle.tz_regs.specs.Banks.{stacks_of}
 use Rattle.tz_regs.specs.Registers.{is_privileged, uses_process, sp_of}
 use Rattle.tz_regs.specs.Special.{number_of}
-use Rattle.tz_regs.specs.declared.request.Kind.TheVariants.{Write}
-use Rattle.tz_regs.specs.declared.taken.Taken.{Taken}
-use Rattle.tz_regs.specs.declared.taken.Taken.TheVariants.{AsIs, Hard, Lockup}
-use Rattle.tz_regs.specs.Memory.{every, word_at}
-use Rattle.tz_regs.specs.Attribution.{is_open}
-use Rattle.tz_regs.specs.Slots.{ExceptionsValue}
-use Rattle.tz_regs.specs.Priority.{chosen}
-use Rattle.tz_regs.specs.Execution.{takes_first}
-use Rattle.tz_regs.specs.Escalation.{escalated}
-use Rattle.tz_regs.specs.Access.{may_touch}
-use Rattle.tz_regs.specs.State.{Bus, map_in}
+use Rattle.tz_state.specs.declared.request.Kind.TheVariants.{Write}
+use Rattle.tz_state.specs.declared.taken.Taken.{Taken}
+use Rattle.tz_state.specs.declared.taken.Taken.TheVariants.{AsIs, Hard, Lockup}
+use Rattle.tz_state.specs.Memory.{every, word_at}
+use Rattle.tz_state.specs.Attribution.{is_open}
+use Rattle.tz_state.specs.Slots.{ExceptionsValue}
+use Rattle.tz_state.specs.Priority.{chosen}
+use Rattle.tz_state.specs.Execution.{takes_first}
+use Rattle.tz_state.specs.Escalation.{escalated}
+use Rattle.tz_state.specs.Access.{may_touch}
+use Rattle.tz_state.specs.State.{Bus, map_in}
 use Rattle.tz_frames.specs.Looks.{FrameStore}
 use Rattle.tz_frames.specs.Machine.{Framed, frame_verdict, vector_at, vector_verdict, looked, framed_write, framed}
 use Rattle.tz_frames.specs.declared.frame.StackFault.{StackFault}

@@ -11,11 +11,11 @@ use Rattle.tz_model.specs.Words.{wrap}
 use Rattle.tz_regs.specs.declared.parts.Core.{Core}
 use Rattle.tz_regs.specs.Banks.{stacks_of}
 use Rattle.tz_regs.specs.Registers.{is_privileged, uses_process, sp_of}
-use Rattle.tz_regs.specs.declared.request.Kind.TheVariants.{Write}
-use Rattle.tz_regs.specs.Slots.{ExceptionsValue}
-use Rattle.tz_regs.specs.Priority.{chosen}
-use Rattle.tz_regs.specs.Execution.{takes_first}
-use Rattle.tz_regs.specs.State.{Bus, with_memory}
+use Rattle.tz_state.specs.declared.request.Kind.TheVariants.{Write}
+use Rattle.tz_state.specs.Slots.{ExceptionsValue}
+use Rattle.tz_state.specs.Priority.{chosen}
+use Rattle.tz_state.specs.Execution.{takes_first}
+use Rattle.tz_state.specs.State.{Bus, with_memory}
 use Rattle.tz_frames.specs.Looks.{Look, Vector, SecureLoad, FrameLoad, FrameStore}
 use Rattle.tz_frames.specs.Machine.{Framed, frame_verdict, looked, framed_write, framed}
 use Rattle.tz_frames.specs.declared.frame.StackFault.{StackFault}

@@ -9,9 +9,9 @@ use Rattle.tz_model.specs.declared.report.Fault.TheVariants as faults_of
 use Rattle.tz_model.specs.Board.{BoardValue}
 use Rattle.tz_regs.specs.declared.parts.Core.{Core}
 use Rattle.tz_regs.specs.declared.parts.Stacks.{Stacks}
-use Rattle.tz_regs.specs.Memory.{Memory}
-use Rattle.tz_regs.specs.Slots.{ExceptionsValue}
-use Rattle.tz_regs.specs.State.{Bus, State, map_of, with_memory}
+use Rattle.tz_state.specs.Memory.{Memory}
+use Rattle.tz_state.specs.Slots.{ExceptionsValue}
+use Rattle.tz_state.specs.State.{Bus, State, map_of, with_memory}
 use Rattle.tz_frames.specs.Machine.{framed}
 use Rattle.tz_frames.specs.declared.entering.Entered.{Entered}
 use Rattle.tz_frames.specs.declared.entering.Entered.TheVariants as entered

@@ -13,7 +13,7 @@ use Rattle.tz_regs.specs.declared.parts.Core.{Core}
 use Rattle.tz_regs.specs.declared.parts.Registers.{Registers}
 use Rattle.tz_regs.specs.Registers.{is_handler}
 use Rattle.tz_regs.specs.ItState.{it_advanced}
-use Rattle.tz_regs.specs.Slots.{ExceptionsValue}
+use Rattle.tz_state.specs.Slots.{ExceptionsValue}
 use Rattle.tz_sem.specs.declared.ending.Ending.{Ending}
 use Rattle.tz_frames.specs.Gate.{is_fnc_return}
 use Rattle.tz_frames.specs.Leave.{is_exc_return}

@@ -15,12 +15,12 @@ use Rattle.tz_model.specs.declared.report.Fault.{Fault}
 use Rattle.tz_model.specs.declared.report.Outcome.{Outcome}
 use Rattle.tz_model.specs.Ports.{answers}
 use Rattle.tz_regs.specs.declared.parts.Registers.{Registers}
-use Rattle.tz_regs.specs.declared.request.Exclusive.{Exclusive}
+use Rattle.tz_state.specs.declared.request.Exclusive.{Exclusive}
 use Rattle.tz_regs.specs.ItState.{condition_holds}
 use Rattle.tz_regs.specs.Registers.{limit_of, with_reg}
 use Rattle.tz_regs.specs.Special.{Named, is_below_limit, named_of}
-use Rattle.tz_regs.specs.Access.{is_aligned, Reached, reached_in, access}
-use Rattle.tz_regs.specs.State.{State, priority_in, is_held}
+use Rattle.tz_state.specs.Access.{is_aligned, Reached, reached_in, access}
+use Rattle.tz_state.specs.State.{State, priority_in, is_held}
 use Rattle.tz_sem.specs.declared.family.Family.{Family}
 use Rattle.tz_sem.specs.declared.family.Family.TheVariants.{Alu, LoadStore, Branch, System}
 use Rattle.tz_sem.specs.Operations.{computed}

@@ -9,14 +9,14 @@ use Rattle.tz_model.specs.Words.{wrap}
 use Rattle.tz_regs.specs.declared.parts.Core.{Core}
 use Rattle.tz_regs.specs.Banks.{stacks_of}
 use Rattle.tz_regs.specs.Registers.{is_privileged, uses_process, sp_of}
-use Rattle.tz_regs.specs.declared.request.Kind.{Kind}
-use Rattle.tz_regs.specs.declared.request.Kind.TheVariants.{Read, Write}
-use Rattle.tz_regs.specs.declared.request.Request.{Request}
-use Rattle.tz_regs.specs.Memory.{every}
-use Rattle.tz_regs.specs.Attribution.{MapState, is_open}
-use Rattle.tz_regs.specs.Slots.{ExceptionsValue}
-use Rattle.tz_regs.specs.Access.{is_crooked, may_touch, is_let, is_private, takes, verdict, request_by}
-use Rattle.tz_regs.specs.State.{Bus, map_in}
+use Rattle.tz_state.specs.declared.request.Kind.{Kind}
+use Rattle.tz_state.specs.declared.request.Kind.TheVariants.{Read, Write}
+use Rattle.tz_state.specs.declared.request.Request.{Request}
+use Rattle.tz_state.specs.Memory.{every}
+use Rattle.tz_state.specs.Attribution.{MapState, is_open}
+use Rattle.tz_state.specs.Slots.{ExceptionsValue}
+use Rattle.tz_state.specs.Access.{is_crooked, may_touch, is_let, is_private, takes, verdict, request_by}
+use Rattle.tz_state.specs.State.{Bus, map_in}
 use Rattle.tz_frames.specs.Looks.{FrameStore}
 use Rattle.tz_frames.specs.Machine.{Framed, framer, in_map_alone, frame_verdict, looked, framed_write, framed}
 use Rattle.tz_frames.specs.declared.frame.StackFault.{StackFault}

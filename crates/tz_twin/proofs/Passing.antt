@@ -8,7 +8,7 @@ use Rattle.tz_model.specs.declared.report.Store.{Store}
 use Rattle.tz_regs.specs.declared.parts.Core.{Core}
 use Rattle.tz_regs.specs.declared.parts.Registers.{Registers}
 use Rattle.tz_regs.specs.ItState.{it_advanced}
-use Rattle.tz_regs.specs.State.{State, is_privileged_in}
+use Rattle.tz_state.specs.State.{State, is_privileged_in}
 use Rattle.tz_frames.specs.Machine.{Framed}
 use Rattle.tz_frames.specs.declared.entering.Entered.{Entered}
 use Rattle.tz_frames.specs.declared.entering.Entered.TheVariants as entered

@@ -6,24 +6,24 @@ use Rattle.tz_table.specs.declared.units.Size.TheVariants.{Byte, Half, Word}
 use Rattle.tz_model.specs.Board.{within}
 use Rattle.tz_regs.specs.declared.parts.SideStatus.{SideStatus}
 use Rattle.tz_regs.specs.declared.parts.BusStatus.{BusStatus}
-use Rattle.tz_regs.specs.declared.register.Register.{Register}
-use Rattle.tz_regs.specs.declared.register.Register.TheVariants.{Ictr, Stir, Timer, Bits, Priorities, Control, Fault, Mpu, Sau}
-use Rattle.tz_regs.specs.declared.register.ControlRegister.{ControlRegister}
-use Rattle.tz_regs.specs.declared.register.ControlRegister.TheVariants.{Cpuid, Icsr, Vtor, Aircr, Ccr, Shpr1, Shpr2, Shpr3, Shcsr}
-use Rattle.tz_regs.specs.declared.register.FaultRegister.{FaultRegister}
-use Rattle.tz_regs.specs.declared.register.FaultRegister.TheVariants.{Cfsr, Hfsr, Mmfar, Bfar, Sfsr, Sfar}
-use Rattle.tz_regs.specs.declared.register.Found.{Found}
-use Rattle.tz_regs.specs.declared.register.Narrow.{Narrow}
-use Rattle.tz_regs.specs.declared.register.Narrow.TheVariants.{Keeps, Zeros, Ignored}
-use Rattle.tz_regs.specs.Slots.{ExceptionsValue}
-use Rattle.tz_regs.specs.Protection.{MpuState}
-use Rattle.tz_regs.specs.NvicRegisters.{priorities_written}
-use Rattle.tz_regs.specs.ControlRegisters.{icsr_written, shpr_written, shcsr_written}
-use Rattle.tz_regs.specs.FaultRegisters.{if_bus, cfsr_of, fault_written}
-use Rattle.tz_regs.specs.RegisterTable.{register_at}
-use Rattle.tz_regs.specs.SystemRegisters.{SystemState, value_of, after_read, written}
-use Rattle.tz_regs.specs.Views.{found_by, found_at, part_of, with_part, narrow_of, narrow_written, sized_written, found_value, found_read, found_written, system_value, system_read, system_written}
-use Rattle.tz_regs.specs.Access.{system_in}
+use Rattle.tz_state.specs.declared.register.Register.{Register}
+use Rattle.tz_state.specs.declared.register.Register.TheVariants.{Ictr, Stir, Timer, Bits, Priorities, Control, Fault, Mpu, Sau}
+use Rattle.tz_state.specs.declared.register.ControlRegister.{ControlRegister}
+use Rattle.tz_state.specs.declared.register.ControlRegister.TheVariants.{Cpuid, Icsr, Vtor, Aircr, Ccr, Shpr1, Shpr2, Shpr3, Shcsr}
+use Rattle.tz_state.specs.declared.register.FaultRegister.{FaultRegister}
+use Rattle.tz_state.specs.declared.register.FaultRegister.TheVariants.{Cfsr, Hfsr, Mmfar, Bfar, Sfsr, Sfar}
+use Rattle.tz_state.specs.declared.register.Found.{Found}
+use Rattle.tz_state.specs.declared.register.Narrow.{Narrow}
+use Rattle.tz_state.specs.declared.register.Narrow.TheVariants.{Keeps, Zeros, Ignored}
+use Rattle.tz_state.specs.Slots.{ExceptionsValue}
+use Rattle.tz_state.specs.Protection.{MpuState}
+use Rattle.tz_state.specs.NvicRegisters.{priorities_written}
+use Rattle.tz_state.specs.ControlRegisters.{icsr_written, shpr_written, shcsr_written}
+use Rattle.tz_state.specs.FaultRegisters.{if_bus, cfsr_of, fault_written}
+use Rattle.tz_state.specs.RegisterTable.{register_at}
+use Rattle.tz_state.specs.SystemRegisters.{SystemState, value_of, after_read, written}
+use Rattle.tz_state.specs.Views.{found_by, found_at, part_of, with_part, narrow_of, narrow_written, sized_written, found_value, found_read, found_written, system_value, system_read, system_written}
+use Rattle.tz_state.specs.Access.{system_in}
 use Rattle.tz_twin.proofs.Split.{Open, Rest, join, Same}
 
 abbrev pub system_of : Open → Rest → SystemState

@@ -7,10 +7,10 @@ use Rattle.tz_model.specs.declared.report.Fault.{Fault}
 use Rattle.tz_model.specs.declared.report.Fault.TheVariants.{InvPc}
 use Rattle.tz_model.specs.declared.report.Slot.{Slot}
 use Rattle.tz_regs.specs.declared.parts.Core.{Core}
-use Rattle.tz_regs.specs.Slots.{ExceptionsValue, at, exists, index_of}
-use Rattle.tz_regs.specs.SlotChanges.{deactivated}
-use Rattle.tz_regs.specs.Execution.{raw_priority, takes_first}
-use Rattle.tz_regs.specs.State.{map_in}
+use Rattle.tz_state.specs.Slots.{ExceptionsValue, at, exists, index_of}
+use Rattle.tz_state.specs.SlotChanges.{deactivated}
+use Rattle.tz_state.specs.Execution.{raw_priority, takes_first}
+use Rattle.tz_state.specs.State.{map_in}
 use Rattle.tz_frames.specs.Machine.{Framed, framed}
 use Rattle.tz_frames.specs.declared.frame.StackFault.{StackFault}
 use Rattle.tz_frames.specs.declared.frame.Basic.{Basic}

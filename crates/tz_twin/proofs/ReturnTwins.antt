@@ -7,12 +7,12 @@ use Rattle.tz_model.specs.declared.board.Profile.{Profile}
 use Rattle.tz_model.specs.declared.report.Fault.{Fault}
 use Rattle.tz_model.specs.declared.report.Fault.TheVariants.{InvPc}
 use Rattle.tz_model.specs.Words.{wrap}
-use Rattle.tz_regs.specs.declared.request.Kind.TheVariants.{Read}
-use Rattle.tz_regs.specs.Memory.{every}
-use Rattle.tz_regs.specs.Attribution.{is_open}
-use Rattle.tz_regs.specs.Access.{is_let, verdict}
-use Rattle.tz_regs.specs.Execution.{takes_first}
-use Rattle.tz_regs.specs.State.{State}
+use Rattle.tz_state.specs.declared.request.Kind.TheVariants.{Read}
+use Rattle.tz_state.specs.Memory.{every}
+use Rattle.tz_state.specs.Attribution.{is_open}
+use Rattle.tz_state.specs.Access.{is_let, verdict}
+use Rattle.tz_state.specs.Execution.{takes_first}
+use Rattle.tz_state.specs.State.{State}
 use Rattle.tz_frames.specs.Machine.{Framed, frame_verdict, looked, framed}
 use Rattle.tz_frames.specs.declared.frame.StackFault.{StackFault}
 use Rattle.tz_frames.specs.declared.frame.Basic.{Basic}

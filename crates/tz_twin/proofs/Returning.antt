@@ -4,7 +4,7 @@ use Rattle.tz_table.specs.declared.units.Side.{Side}
 use Rattle.tz_table.specs.declared.units.Side.TheVariants.{Secure, NonSecure}
 use Rattle.tz_table.specs.declared.units.Code.{Code}
 use Rattle.tz_model.specs.declared.report.Store.{Store}
-use Rattle.tz_regs.specs.State.{State, with_run}
+use Rattle.tz_state.specs.State.{State, with_run}
 use Rattle.tz_regs.specs.Registers.{side_in}
 use Rattle.tz_frames.specs.Gate.{fnc_return}
 use Rattle.tz_sem.specs.declared.ending.Cause.TheVariants.{Returned, Called}

@@ -21,11 +21,11 @@ use Rattle.tz_model.specs.Codes.{meaning_of}
 use Rattle.tz_model.specs.Ports.{Access, Load, Store as Write, after_answer, answers}
 use Rattle.tz_regs.specs.ItState.{it_advanced}
 use Rattle.tz_regs.specs.Special.{named_of}
-use Rattle.tz_regs.specs.declared.request.Exclusive.{Exclusive}
+use Rattle.tz_state.specs.declared.request.Exclusive.{Exclusive}
 use Rattle.tz_regs.specs.declared.parts.Core.{Core}
-use Rattle.tz_regs.specs.State.{State, priority_in, is_negative_at, is_held, side_of, with_pc}
-use Rattle.tz_regs.specs.Access.{is_aligned, is_private, Reached, reached_in, loaded, read_by, stored_in, write_by, access}
-use Rattle.tz_regs.specs.Fetch.{fetch, own_fetch}
+use Rattle.tz_state.specs.State.{State, priority_in, is_negative_at, is_held, side_of, with_pc}
+use Rattle.tz_state.specs.Access.{is_aligned, is_private, Reached, reached_in, loaded, read_by, stored_in, write_by, access}
+use Rattle.tz_state.specs.Fetch.{fetch, own_fetch}
 use Rattle.tz_sem.specs.declared.family.Family.{Family}
 use Rattle.tz_sem.specs.declared.family.Family.TheVariants.{Alu, LoadStore, Branch, System}
 use Rattle.tz_sem.specs.Local.{Finished, FinishedNamed, local_of, finished_in, finished_named}
@@ -38,17 +38,17 @@ use Rattle.tz_sem.specs.Exec.{Ported, ported, unless_refused, after_accesses, pr
 use Rattle.tz_sem.specs.Ended.{Passed, Ended, with_stores}
 use Rattle.tz_regs.specs.declared.parts.Before.{Before}
 use Rattle.tz_regs.specs.Registers.{is_handler, limit_of, side_in, before_in}
-use Rattle.tz_regs.specs.Execution.{takes_first}
-use Rattle.tz_regs.specs.Protection.{MpuState}
-use Rattle.tz_regs.specs.State.{Bus, with_mpu}
-use Rattle.tz_regs.specs.declared.register.Register.{Register}
-use Rattle.tz_regs.specs.declared.register.Register.TheVariants.{Ictr, Control, Mpu}
-use Rattle.tz_regs.specs.declared.register.ControlRegister.TheVariants.{Cpuid}
-use Rattle.tz_regs.specs.declared.register.Found.{Found}
-use Rattle.tz_regs.specs.declared.register.Narrow.{Narrow}
-use Rattle.tz_regs.specs.declared.register.Narrow.TheVariants.{Keeps, Zeros, Ignored}
-use Rattle.tz_regs.specs.SystemRegisters.{SystemState, after_read, written}
-use Rattle.tz_regs.specs.Views.{narrow_of, narrow_written, sized_written, found_at, found_read, found_written}
+use Rattle.tz_state.specs.Execution.{takes_first}
+use Rattle.tz_state.specs.Protection.{MpuState}
+use Rattle.tz_state.specs.State.{Bus, with_mpu}
+use Rattle.tz_state.specs.declared.register.Register.{Register}
+use Rattle.tz_state.specs.declared.register.Register.TheVariants.{Ictr, Control, Mpu}
+use Rattle.tz_state.specs.declared.register.ControlRegister.TheVariants.{Cpuid}
+use Rattle.tz_state.specs.declared.register.Found.{Found}
+use Rattle.tz_state.specs.declared.register.Narrow.{Narrow}
+use Rattle.tz_state.specs.declared.register.Narrow.TheVariants.{Keeps, Zeros, Ignored}
+use Rattle.tz_state.specs.SystemRegisters.{SystemState, after_read, written}
+use Rattle.tz_state.specs.Views.{narrow_of, narrow_written, sized_written, found_at, found_read, found_written}
 use Rattle.tz_model.specs.declared.report.Sleep.{Sleep as Sleeping}
 use Rattle.tz_model.specs.declared.report.Sleep.TheVariants.{Awake, Wfi, Wfe}
 use Rattle.tz_frames.specs.Gate.{call_base, call_stores, called_ns, after_call, is_fnc_return}

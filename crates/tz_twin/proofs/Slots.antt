@@ -4,10 +4,10 @@ use Rattle.std.specs.Prelude.{slice_set, slice_index_or}
 use Rattle.std.proofs.lemmas.List.{get_or-set_other}
 use Rattle.tz_model.specs.declared.report.Slot.{Slot}
 use Rattle.tz_model.specs.declared.report.ScriptEvent.{ScriptEvent}
-use Rattle.tz_regs.specs.declared.slot.SlotState.{SlotState}
-use Rattle.tz_regs.specs.Slots.{ExceptionsValue, at, idle, with_slot, exists, index_of}
-use Rattle.tz_regs.specs.Timers.{runs_out, interrupts, ticked_s, ticked}
-use Rattle.tz_regs.specs.Due.{slot_of_event, slots_pended, slots_due, due, begun}
+use Rattle.tz_state.specs.declared.slot.SlotState.{SlotState}
+use Rattle.tz_state.specs.Slots.{ExceptionsValue, at, idle, with_slot, exists, index_of}
+use Rattle.tz_state.specs.Timers.{runs_out, interrupts, ticked_s, ticked}
+use Rattle.tz_state.specs.Due.{slot_of_event, slots_pended, slots_due, due, begun}
 use Rattle.tz_twin.specs.Integrity.{is_secure_at, KeepsExceptions}
 
 pub same_exceptions : (e : ExceptionsValue) → KeepsExceptions e e

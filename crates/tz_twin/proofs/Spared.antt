@@ -7,12 +7,12 @@ use Rattle.tz_model.specs.declared.report.Fault.TheVariants.{Undef, InvState, In
 use Rattle.tz_model.specs.declared.report.Slot.{Slot}
 use Rattle.tz_regs.specs.declared.parts.Core.{Core}
 use Rattle.tz_regs.specs.declared.parts.Status.{Status}
-use Rattle.tz_regs.specs.Memory.{Memory}
-use Rattle.tz_regs.specs.Attribution.{MapState}
-use Rattle.tz_regs.specs.declared.taken.Taken.{Taken}
-use Rattle.tz_regs.specs.declared.taken.Taken.TheVariants.{AsIs, Hard, Lockup}
-use Rattle.tz_regs.specs.Slots.{ExceptionsValue, at, with_slot, index_of}
-use Rattle.tz_regs.specs.Escalation.{escalated}
+use Rattle.tz_state.specs.Memory.{Memory}
+use Rattle.tz_state.specs.Attribution.{MapState}
+use Rattle.tz_state.specs.declared.taken.Taken.{Taken}
+use Rattle.tz_state.specs.declared.taken.Taken.TheVariants.{AsIs, Hard, Lockup}
+use Rattle.tz_state.specs.Slots.{ExceptionsValue, at, with_slot, index_of}
+use Rattle.tz_state.specs.Escalation.{escalated}
 use Rattle.tz_frames.specs.declared.frame.StackFault.{StackFault}
 use Rattle.tz_frames.specs.declared.frame.StackFault.TheVariants.{Limit, Access, Signature as Unsigned}
 use Rattle.tz_frames.specs.Status.{status_after, word_status, frame_status, slot, exception_of, frame_exception, with_status, raised_as, raised, faulted, frame_faulted}

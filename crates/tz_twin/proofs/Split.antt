@@ -13,12 +13,12 @@ use Rattle.tz_regs.specs.declared.parts.Masks.{Masks}
 use Rattle.tz_regs.specs.declared.parts.SideStatus.{SideStatus}
 use Rattle.tz_regs.specs.declared.parts.SecurityStatus.{SecurityStatus}
 use Rattle.tz_regs.specs.declared.parts.BusStatus.{BusStatus}
-use Rattle.tz_regs.specs.Memory.{Memory}
-use Rattle.tz_regs.specs.declared.request.Exclusive.{Exclusive}
-use Rattle.tz_regs.specs.Attribution.{SauState, MapState}
-use Rattle.tz_regs.specs.Protection.{MpuState}
-use Rattle.tz_regs.specs.Slots.{ExceptionsValue}
-use Rattle.tz_regs.specs.State.{Bus, State, map_of, side_of}
+use Rattle.tz_state.specs.Memory.{Memory}
+use Rattle.tz_state.specs.declared.request.Exclusive.{Exclusive}
+use Rattle.tz_state.specs.Attribution.{SauState, MapState}
+use Rattle.tz_state.specs.Protection.{MpuState}
+use Rattle.tz_state.specs.Slots.{ExceptionsValue}
+use Rattle.tz_state.specs.State.{Bus, State, map_of, side_of}
 use Rattle.tz_twin.specs.Seen.{public_of, open_bytes, open_bus, Seen, Hidden, Shown, seen}
 use Rattle.tz_twin.proofs.Bytes.{SameOpen}
 

@@ -8,13 +8,13 @@ use Rattle.tz_model.specs.declared.report.Sleep.{Sleep}
 use Rattle.tz_model.specs.declared.report.Sleep.TheVariants.{Awake, Wfi, Wfe}
 use Rattle.tz_model.specs.declared.fetch.Fetched.{Fetched}
 use Rattle.tz_model.specs.Words.{wrap}
-use Rattle.tz_regs.specs.declared.fetcher.Fetcher.{Fetcher}
+use Rattle.tz_state.specs.declared.fetcher.Fetcher.{Fetcher}
 use Rattle.tz_regs.specs.Registers.{before_in}
-use Rattle.tz_regs.specs.Memory.{half_at}
-use Rattle.tz_regs.specs.State.{Bus, State}
-use Rattle.tz_regs.specs.Fetch.{fetch, needs_second, half_verdict, with_second, with_first, own_fetch, gateway_fetch, is_own_fetch, own_touch, is_entry_fault}
-use Rattle.tz_regs.specs.Execution.{takes_first}
-use Rattle.tz_regs.specs.Due.{begun}
+use Rattle.tz_state.specs.Memory.{half_at}
+use Rattle.tz_state.specs.State.{Bus, State}
+use Rattle.tz_state.specs.Fetch.{fetch, needs_second, half_verdict, with_second, with_first, own_fetch, gateway_fetch, is_own_fetch, own_touch, is_entry_fault}
+use Rattle.tz_state.specs.Execution.{takes_first}
+use Rattle.tz_state.specs.Due.{begun}
 use Rattle.tz_model.specs.Codes.{meaning_of}
 use Rattle.tz_sem.specs.Ended.{Ended}
 use Rattle.tz_sem.specs.Step.{stepped, fetched, fetches, fetcher_in, fetch_in, looks, unready, instructs, course_in, takes, idles, is_woken, by_sleep, ended, started}

@@ -10,9 +10,9 @@ use Rattle.tz_model.specs.Board.{BoardValue}
 use Rattle.tz_model.specs.Image.{ImageValue}
 use Rattle.tz_model.specs.Words.{wrap, is_nonsecure_side}
 use Rattle.tz_regs.specs.declared.parts.Before.{Before}
-use Rattle.tz_regs.specs.Memory.{Memory, word_at}
+use Rattle.tz_state.specs.Memory.{Memory, word_at}
 use Rattle.tz_regs.specs.Registers.{before_in}
-use Rattle.tz_regs.specs.State.{State, side_of}
+use Rattle.tz_state.specs.State.{State, side_of}
 use Rattle.tz_sem.specs.Boot.{boot_memory, has_vectors, reset, boot}
 use Rattle.tz_sem.specs.Ended.{Ended, report_of}
 use Rattle.tz_sem.specs.Run.{Events}

@@ -2,9 +2,9 @@
 use Rattle.std.proofs.Common.{◌≡◌, Bool, true, false, List, refl}
 use Rattle.tz_model.specs.declared.report.ScriptEvent.{ScriptEvent}
 use Rattle.tz_model.specs.Words.{is_nonsecure_side}
-use Rattle.tz_regs.specs.Due.{begun}
+use Rattle.tz_state.specs.Due.{begun}
 use Rattle.tz_regs.specs.Registers.{before_in}
-use Rattle.tz_regs.specs.State.{State, side_of}
+use Rattle.tz_state.specs.State.{State, side_of}
 use Rattle.tz_sem.specs.Ended.{Ended}
 use Rattle.tz_sem.specs.Step.{ended, started, stepped, step}
 use Rattle.tz_twin.specs.Integrity.{Keeps, CountsAlone, WayIn}

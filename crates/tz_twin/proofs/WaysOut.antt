@@ -8,7 +8,7 @@ use Rattle.tz_model.specs.declared.report.CrossKind.{CrossKind}
 use Rattle.tz_model.specs.declared.report.ScriptEvent.{ScriptEvent}
 use Rattle.tz_model.specs.Words.{is_nonsecure_side}
 use Rattle.tz_regs.specs.Registers.{side_in}
-use Rattle.tz_regs.specs.State.{State, side_of}
+use Rattle.tz_state.specs.State.{State, side_of}
 use Rattle.tz_sem.specs.Ended.{Ended, crosses, way_by, kind_of}
 use Rattle.tz_sem.specs.Step.{step, started, ended}
 use Rattle.tz_twin.specs.Seen.{public_of, handed, Crossing, Seen, Shown, seen}

@@ -6,21 +6,21 @@ use Rattle.tz_table.specs.declared.units.Side.TheVariants.{Secure, NonSecure}
 use Rattle.tz_table.specs.declared.units.Size.{Size}
 use Rattle.tz_table.specs.declared.units.Size.TheVariants.{Byte, Half, Word}
 use Rattle.tz_model.specs.Words.{is_nonsecure_side}
-use Rattle.tz_regs.specs.declared.slot.SlotState.{SlotState}
-use Rattle.tz_regs.specs.declared.register.Register.{Register}
-use Rattle.tz_regs.specs.declared.register.Register.TheVariants.{Stir, Timer, Bits, Priorities, Control}
-use Rattle.tz_regs.specs.declared.register.Bank.{Bank}
-use Rattle.tz_regs.specs.declared.register.Bank.TheVariants.{Enable, Target}
-use Rattle.tz_regs.specs.declared.register.ControlRegister.{ControlRegister}
-use Rattle.tz_regs.specs.declared.register.ControlRegister.TheVariants.{Icsr, Aircr, Shpr1, Shpr2, Shpr3, Shcsr}
-use Rattle.tz_regs.specs.declared.register.Narrow.{Narrow}
-use Rattle.tz_regs.specs.declared.register.Narrow.TheVariants.{Keeps, Zeros, Ignored}
-use Rattle.tz_regs.specs.Slots.{ExceptionsValue, at}
-use Rattle.tz_regs.specs.Pieces.{is_bit}
-use Rattle.tz_regs.specs.NvicRegisters.{sees_interrupt, with_seen, shows_bank, bank_put, slots_put, bank_written, with_priority, priorities_written}
-use Rattle.tz_regs.specs.ControlRegisters.{sees_number, place_of, slot_seen, pends, icsr_written, has_byte, with_byte_seen, shpr_written, enables, shcsr_written}
-use Rattle.tz_regs.specs.SystemRegisters.{SystemState, value_of, after_read, written}
-use Rattle.tz_regs.specs.Views.{with_part, narrow_of, narrow_written, sized_written, found_read, found_written, system_read, system_written}
+use Rattle.tz_state.specs.declared.slot.SlotState.{SlotState}
+use Rattle.tz_state.specs.declared.register.Register.{Register}
+use Rattle.tz_state.specs.declared.register.Register.TheVariants.{Stir, Timer, Bits, Priorities, Control}
+use Rattle.tz_state.specs.declared.register.Bank.{Bank}
+use Rattle.tz_state.specs.declared.register.Bank.TheVariants.{Enable, Target}
+use Rattle.tz_state.specs.declared.register.ControlRegister.{ControlRegister}
+use Rattle.tz_state.specs.declared.register.ControlRegister.TheVariants.{Icsr, Aircr, Shpr1, Shpr2, Shpr3, Shcsr}
+use Rattle.tz_state.specs.declared.register.Narrow.{Narrow}
+use Rattle.tz_state.specs.declared.register.Narrow.TheVariants.{Keeps, Zeros, Ignored}
+use Rattle.tz_state.specs.Slots.{ExceptionsValue, at}
+use Rattle.tz_state.specs.Pieces.{is_bit}
+use Rattle.tz_state.specs.NvicRegisters.{sees_interrupt, with_seen, shows_bank, bank_put, slots_put, bank_written, with_priority, priorities_written}
+use Rattle.tz_state.specs.ControlRegisters.{sees_number, place_of, slot_seen, pends, icsr_written, has_byte, with_byte_seen, shpr_written, enables, shcsr_written}
+use Rattle.tz_state.specs.SystemRegisters.{SystemState, value_of, after_read, written}
+use Rattle.tz_state.specs.Views.{with_part, narrow_of, narrow_written, sized_written, found_read, found_written, system_read, system_written}
 use Rattle.tz_twin.specs.Integrity.{is_secure_at}
 use Rattle.tz_twin.proofs.Slots.{Quiet, quiet, quiet_then, slot_quiet}
 use Rattle.tz_twin.proofs.Registers.{at_address}

@@ -12,12 +12,12 @@ use Rattle.tz_regs.specs.declared.parts.Registers.{Registers}
 use Rattle.tz_regs.specs.declared.parts.Stacks.{Stacks}
 use Rattle.tz_regs.specs.Registers.{pointer_of, with_pointer}
 use Rattle.tz_regs.specs.Special.{apsr_from}
-use Rattle.tz_regs.specs.Memory.{Memory, half_at, word_at}
-use Rattle.tz_regs.specs.Attribution.{MapState, attribution, is_open}
-use Rattle.tz_regs.specs.Slots.{ExceptionsValue, at, index_of, side_at}
-use Rattle.tz_regs.specs.Timers.{counted_down}
-use Rattle.tz_regs.specs.State.{State, map_of, side_of, is_privileged_in, priority_in, is_negative_at}
-use Rattle.tz_regs.specs.Fetch.{is_runnable, is_half_mapped}
+use Rattle.tz_state.specs.Memory.{Memory, half_at, word_at}
+use Rattle.tz_state.specs.Attribution.{MapState, attribution, is_open}
+use Rattle.tz_state.specs.Slots.{ExceptionsValue, at, index_of, side_at}
+use Rattle.tz_state.specs.Timers.{counted_down}
+use Rattle.tz_state.specs.State.{State, map_of, side_of, is_privileged_in, priority_in, is_negative_at}
+use Rattle.tz_state.specs.Fetch.{is_runnable, is_half_mapped}
 use Rattle.tz_frames.specs.Stack.{signature}
 use Rattle.tz_sem.specs.declared.ending.Cause.{Cause}
 use Rattle.tz_sem.specs.declared.ending.Cause.TheVariants.{CameBack, Resumed, Taken}

@@ -12,12 +12,12 @@ use Rattle.tz_regs.specs.declared.parts.Stacks.{Stacks}
 use Rattle.tz_regs.specs.declared.parts.Masks.{Masks}
 use Rattle.tz_regs.specs.declared.parts.SideStatus.{SideStatus}
 use Rattle.tz_regs.specs.declared.parts.BusStatus.{BusStatus}
-use Rattle.tz_regs.specs.Memory.{Memory}
-use Rattle.tz_regs.specs.declared.request.Exclusive.{Exclusive}
-use Rattle.tz_regs.specs.Attribution.{SauState, MapState, is_open}
-use Rattle.tz_regs.specs.Protection.{MpuState}
-use Rattle.tz_regs.specs.Slots.{ExceptionsValue}
-use Rattle.tz_regs.specs.State.{State, map_of, side_of}
+use Rattle.tz_state.specs.Memory.{Memory}
+use Rattle.tz_state.specs.declared.request.Exclusive.{Exclusive}
+use Rattle.tz_state.specs.Attribution.{SauState, MapState, is_open}
+use Rattle.tz_state.specs.Protection.{MpuState}
+use Rattle.tz_state.specs.Slots.{ExceptionsValue}
+use Rattle.tz_state.specs.State.{State, map_of, side_of}
 use Rattle.tz_frames.specs.Gate.{fnc_return}
 use Rattle.tz_frames.specs.Registers.{saved_of}
 use Rattle.tz_sem.specs.Step.{Stepped, step}

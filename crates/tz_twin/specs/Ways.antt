@@ -1,7 +1,7 @@
 -- The way out of Secure state that a step tells.
 use Rattle.std.specs.Prelude.{◌≡◌, Bool, ◌&&◌, is_some}
 use Rattle.tz_model.specs.Words.{is_nonsecure_side}
-use Rattle.tz_regs.specs.State.{side_of}
+use Rattle.tz_state.specs.State.{side_of}
 use Rattle.tz_sem.specs.Step.{Stepped}
 
 -- the step looked at Secure state, and ends Non-secure

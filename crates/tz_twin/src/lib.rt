@@ -9,7 +9,7 @@ ghost use Rattle.tz_model.specs.declared.report.ScriptEvent.{ScriptEvent};
 ghost use Rattle.tz_model.specs.declared.report.View.TheVariants.{Ns};
 ghost use Rattle.tz_model.specs.Board.{BoardValue};
 ghost use Rattle.tz_model.specs.Image.{ImageValue};
-ghost use Rattle.tz_regs.specs.State.{State};
+ghost use Rattle.tz_state.specs.State.{State};
 ghost use Rattle.tz_sem.specs.Boot.{boot};
 ghost use Rattle.tz_sem.specs.Step.{step};
 ghost use Rattle.tz_sem.specs.Run.{Events};

@@ -1,5 +1,5 @@
 use Rattle.std.proofs.Common.{◌≡◌, Bool, true, false, cond, refl, sym, ap, ◌∙◌}
-use Rattle.tz_regs.specs.State.{State}
+use Rattle.tz_state.specs.State.{State}
 use Rattle.tz_sem.specs.Ended.{Ended}
 use Rattle.tz_sem.specs.Taking.{locks}
 use Rattle.tz_sem.specs.Step.{ended, started}

@@ -1,8 +1,8 @@
 //! What a step asks: numbers in turn, and words for all else, in any order.
 
 use tz_model::{Side, Size};
-use tz_regs::Kind;
 use tz_rows::{Row, number_of, place_of};
+use tz_state::Kind;
 
 /// What a step asks. What no word says is that which stands first here.
 #[derive(Clone, Copy)]

@@ -1,5 +1,5 @@
 use Rattle.std.proofs.Common.{◌≡◌, drop}
-use Rattle.tz_regs.specs.Access.{is_mapped}
+use Rattle.tz_state.specs.Access.{is_mapped}
 use Rattle.tz_access.proofs.units.is_mapped.Given as goal
 
 abbrev pub invariant-loop-region : goal.invariant-loop-region

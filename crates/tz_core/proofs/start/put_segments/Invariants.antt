@@ -1,6 +1,6 @@
 use Rattle.std.proofs.Common.{◌≡◌, drop}
 use Rattle.tz_sem.specs.Boot.{with_segments}
-use Rattle.tz_regs.specs.State.{with_memory}
+use Rattle.tz_state.specs.State.{with_memory}
 use Rattle.tz_core.proofs.start.put_segments.Given as goal
 
 abbrev pub invariant-loop-segment : goal.invariant-loop-segment

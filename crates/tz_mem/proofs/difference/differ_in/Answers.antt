@@ -3,7 +3,7 @@ use Rattle.std.specs.Prelude.{not, nat_eq}
 use Rattle.std.specs.List.{slice_range}
 use Rattle.std.specs.Cmp.Lexicographic.{pointwise}
 use Rattle.tz_model.specs.declared.board.Region.{Region}
-use Rattle.tz_regs.specs.Difference.{byte_differs}
+use Rattle.tz_state.specs.Difference.{byte_differs}
 use Rattle.tz_mem.specs.Blocks.{BlockValue, memory_of, region_of}
 use Rattle.tz_mem.specs.Difference.{some_from, region_at}
 use Rattle.tz_mem.proofs.Ranges.{region_there, same_length, ranges_differ}

@@ -1,5 +1,5 @@
 use Rattle.std.proofs.Common.{◌≡◌, ◌++◌, drop, map, take}
-use Rattle.tz_regs.specs.Zeros.{zero_entries}
+use Rattle.tz_state.specs.Zeros.{zero_entries}
 use Rattle.tz_mem.specs.Blocks.{region_of, entries_of}
 use Rattle.tz_mem.proofs.memory.zero_blocks.Given as goal
 

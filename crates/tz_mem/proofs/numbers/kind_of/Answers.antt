@@ -1,6 +1,6 @@
 -- The kind of the block that was found.
 use Rattle.std.proofs.Common.{arith, ap, sym, ◌∙◌, ◌<◌, length}
-use Rattle.tz_regs.specs.Access.{takes_writes}
+use Rattle.tz_state.specs.Access.{takes_writes}
 use Rattle.tz_mem.specs.Blocks.{BlockValue}
 use Rattle.tz_mem.proofs.Places.{place_at, place_none, index_of_place, mapped_of_place, writable_of_place, mapped_none, writable_none}
 use Rattle.tz_mem.proofs.numbers.kind_of.Goals as goal

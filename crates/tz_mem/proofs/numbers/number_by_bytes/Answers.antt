@@ -1,5 +1,5 @@
 use Rattle.std.proofs.Common.{arith}
-use Rattle.tz_regs.specs.Memory.{half_at, word_at}
+use Rattle.tz_state.specs.Memory.{half_at, word_at}
 use Rattle.tz_mem.proofs.Bytes.{get_memory_of}
 use Rattle.tz_mem.proofs.Places.{mapped_at}
 use Rattle.tz_mem.proofs.numbers.number_by_bytes.Goals as goal

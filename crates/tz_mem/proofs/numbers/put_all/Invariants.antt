@@ -1,5 +1,5 @@
 use Rattle.std.proofs.Common.{◌≡◌, drop}
-use Rattle.tz_regs.specs.Memory.{with_bytes}
+use Rattle.tz_state.specs.Memory.{with_bytes}
 use Rattle.tz_mem.specs.Blocks.{memory_of, view_of}
 use Rattle.tz_mem.specs.Values as values
 use Rattle.tz_mem.proofs.numbers.put_all.Given as goal

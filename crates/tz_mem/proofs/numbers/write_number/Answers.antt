@@ -1,6 +1,6 @@
 -- The block that holds the whole access decides, and its bytes are replaced.
 use Rattle.std.proofs.Common.{◌∙◌, ◌<◌, ap, sym, arith, length}
-use Rattle.tz_regs.specs.Access.{takes_writes}
+use Rattle.tz_state.specs.Access.{takes_writes}
 use Rattle.tz_mem.specs.Blocks.{BlockValue}
 use Rattle.tz_mem.proofs.Places.{index_of_run, end_of_run}
 use Rattle.tz_mem.proofs.Runs.{run_number, run_writable}

@@ -1,5 +1,5 @@
 use Rattle.std.proofs.Common.{◌≡◌, drop}
-use Rattle.tz_regs.specs.Regions.{holding}
+use Rattle.tz_state.specs.Regions.{holding}
 use Rattle.tz_mpu.specs.Found.{found_of}
 use Rattle.tz_mpu.proofs.Looks.{found_after}
 use Rattle.tz_mpu.proofs.found.look.Given as goal

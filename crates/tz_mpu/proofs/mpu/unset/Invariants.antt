@@ -1,5 +1,5 @@
 use Rattle.std.proofs.Common.{◌≡◌, replicate}
-use Rattle.tz_regs.specs.Regions.{no_bounds}
+use Rattle.tz_state.specs.Regions.{no_bounds}
 use Rattle.tz_mpu.proofs.mpu.unset.Given as goal
 
 abbrev pub invariant-loop : goal.invariant-loop

@@ -1,5 +1,5 @@
 use Rattle.std.proofs.Common.{◌≢◌, ℕ, sym, arith}
-use Rattle.tz_regs.specs.Priority.{is_ready, rank_of}
+use Rattle.tz_state.specs.Priority.{is_ready, rank_of}
 use Rattle.tz_nvic.proofs.Least.{least_found, least_is, none_below}
 use Rattle.tz_nvic.proofs.Rank.{rank_tells, told_by_rank}
 use Rattle.tz_nvic.proofs.laws.chosen_comes_first.Goals as goal

@@ -1,6 +1,6 @@
 use Rattle.std.proofs.Common.{◌≡◌, ◌-◌, ◌++◌, length, map, replicate, take}
-use Rattle.tz_regs.specs.Regions.{no_bounds}
-use Rattle.tz_regs.specs.UnitRegisters.{bounds_of}
+use Rattle.tz_state.specs.Regions.{no_bounds}
+use Rattle.tz_state.specs.UnitRegisters.{bounds_of}
 use Rattle.tz_sau.proofs.boot.first_bounds.Given as goal
 
 abbrev pub invariant-loop-region : goal.invariant-loop-region

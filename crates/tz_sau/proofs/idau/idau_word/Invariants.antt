@@ -1,5 +1,5 @@
 use Rattle.std.proofs.Common.{◌≡◌, drop}
-use Rattle.tz_regs.specs.Attribution.{idau_side, idau_region}
+use Rattle.tz_state.specs.Attribution.{idau_side, idau_region}
 use Rattle.tz_sau.proofs.idau.idau_word.Given as goal
 
 abbrev pub invariant-loop-index : goal.invariant-loop-index

@@ -1,6 +1,6 @@
 use Rattle.std.proofs.Common.{arith}
 use Rattle.std.proofs.lemmas.Grind.{common_steps}
-use Rattle.tz_regs.specs.Regions.{holding}
+use Rattle.tz_state.specs.Regions.{holding}
 use Rattle.tz_sau.proofs.scan.look.Goals as goal
 
 -- The call that closes each goal, by name: what is tried before it finds nothing, after long.

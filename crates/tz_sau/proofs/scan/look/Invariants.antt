@@ -1,5 +1,5 @@
 use Rattle.std.proofs.Common.{◌≡◌, drop}
-use Rattle.tz_regs.specs.Regions.{holding}
+use Rattle.tz_state.specs.Regions.{holding}
 use Rattle.tz_sau.specs.Holders.{holders_of}
 use Rattle.tz_sau.proofs.Looks.{holders_after}
 use Rattle.tz_sau.proofs.scan.look.Given as goal

@@ -1,5 +1,5 @@
 use Rattle.std.proofs.Common.{◌≡◌, ap, ◌∙◌, ℕ, arith}
-use Rattle.tz_regs.specs.NvicRegisters.{slots_put}
+use Rattle.tz_state.specs.NvicRegisters.{slots_put}
 use Rattle.tz_scs.proofs.interrupts.put_bits.Goals as goal
 
 pub returns : goal.returns

@@ -1,5 +1,5 @@
 use Rattle.std.proofs.Common.{◌≡◌}
-use Rattle.tz_regs.specs.NvicRegisters.{slots_put}
+use Rattle.tz_state.specs.NvicRegisters.{slots_put}
 use Rattle.tz_scs.proofs.interrupts.put_bits.Given as goal
 
 -- the slots of the bits so far are written

@@ -1,6 +1,6 @@
 use Rattle.std.proofs.Common.{◌≡◌, ap, ◌+◌, ◌∙◌, arith}
-use Rattle.tz_regs.specs.Pieces.{bits_below}
-use Rattle.tz_regs.specs.NvicRegisters.{seen_bit}
+use Rattle.tz_state.specs.Pieces.{bits_below}
+use Rattle.tz_state.specs.NvicRegisters.{seen_bit}
 use Rattle.tz_scs.proofs.interrupts.seen_bits.Goals as goal
 
 pub returns : goal.returns

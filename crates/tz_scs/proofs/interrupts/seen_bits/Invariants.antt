@@ -1,6 +1,6 @@
 use Rattle.std.proofs.Common.{◌≡◌, ◌+◌}
-use Rattle.tz_regs.specs.Pieces.{bits_below}
-use Rattle.tz_regs.specs.NvicRegisters.{seen_bit}
+use Rattle.tz_state.specs.Pieces.{bits_below}
+use Rattle.tz_state.specs.NvicRegisters.{seen_bit}
 use Rattle.tz_scs.proofs.interrupts.seen_bits.Given as goal
 
 -- the bits so far

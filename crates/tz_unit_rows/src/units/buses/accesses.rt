@@ -4,8 +4,8 @@ use crate::units::asked::Asked;
 use crate::units::faults::{tell_fault, tell_number};
 use tz_access::{Bus, Place};
 use tz_model::Fault;
-use tz_regs::{Asker, Request};
 use tz_rows::Row;
+use tz_state::{Asker, Request};
 
 /// Tells where an access goes, or its fault.
 fn tell_place(row: &mut Row<'_>, answer: &Result<Place, Fault>) {

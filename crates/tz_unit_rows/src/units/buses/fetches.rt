@@ -4,8 +4,8 @@ use crate::units::asked::Asked;
 use crate::units::faults::tell_fault;
 use tz_access::Bus;
 use tz_model::{Fault, Fetched};
-use tz_regs::Fetcher;
 use tz_rows::Row;
+use tz_state::Fetcher;
 
 /// Tells a fetched instruction, which is of one halfword or of two, or the gateway, and its halfwords, or its fault.
 fn tell(row: &mut Row<'_>, answer: &Result<Fetched, Fault>) {

@@ -3,8 +3,8 @@
 use crate::units::asked::Asked;
 use crate::units::faults::{tell_index, tell_region};
 use tz_access::Bus;
-use tz_regs::Kind;
 use tz_rows::{Row, side_word};
+use tz_state::Kind;
 
 /// RNR of the SAU; RBAR and RLAR stand behind it.
 const SAU_RNR: u32 = 0xe000_edd8;

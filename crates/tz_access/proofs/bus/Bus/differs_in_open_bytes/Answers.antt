@@ -1,5 +1,5 @@
 use Rattle.std.proofs.Common.{arith, sym}
-use Rattle.tz_regs.specs.Difference.{open_byte_differs}
+use Rattle.tz_state.specs.Difference.{open_byte_differs}
 use Rattle.tz_mem.specs.Difference.{region_at}
 use Rattle.tz_access.proofs.OpenBytes.{some_anywhere, none_anywhere, none_in_all}
 use Rattle.tz_access.proofs.bus.Bus.differs_in_open_bytes.Goals as goal

@@ -1,6 +1,6 @@
 use Rattle.std.proofs.Common.{◌≡◌, false, take}
 use Rattle.std.specs.List.{list_any}
-use Rattle.tz_regs.specs.Difference.{open_byte_differs}
+use Rattle.tz_state.specs.Difference.{open_byte_differs}
 use Rattle.tz_access.proofs.OpenBytes.{region_passes}
 use Rattle.tz_access.proofs.bus.Bus.differs_in_open_bytes.Given as goal
 

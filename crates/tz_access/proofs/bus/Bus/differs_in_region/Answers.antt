@@ -1,5 +1,5 @@
 use Rattle.std.proofs.Common.{◌+◌, ◌*◌, ◌≤◌, arith, sym}
-use Rattle.tz_regs.specs.Difference.{open_byte_differs}
+use Rattle.tz_state.specs.Difference.{open_byte_differs}
 use Rattle.tz_mem.specs.Difference.{region_at}
 use Rattle.tz_access.proofs.OpenBytes.{none_secure, none_whole, none_of_nothing, some_in_block, none_in_block}
 use Rattle.tz_access.proofs.bus.Bus.differs_in_region.Goals as goal

@@ -1,5 +1,5 @@
 use Rattle.std.proofs.Common.{◌≡◌, ◌*◌, false}
-use Rattle.tz_regs.specs.Difference.{open_byte_differs}
+use Rattle.tz_state.specs.Difference.{open_byte_differs}
 use Rattle.tz_mem.specs.Difference.{some_from, region_at}
 use Rattle.tz_access.proofs.bus.Bus.differs_in_region.Given as goal
 

@@ -1,7 +1,7 @@
 use Rattle.std.proofs.Common.{arith}
 use Rattle.std.proofs.lemmas.Grind.{common_steps}
-use Rattle.tz_regs.specs.Fetch.{is_entry}
-use Rattle.tz_regs.specs.State.{map_in}
+use Rattle.tz_state.specs.Fetch.{is_entry}
+use Rattle.tz_state.specs.State.{map_in}
 use Rattle.tz_access.specs.Checks.{IsByBlocks}
 use Rattle.tz_access.proofs.Blocks.{entry_by_blocks}
 use Rattle.tz_access.proofs.bus.Bus.is_second_entry.Goals as goal

@@ -1,6 +1,6 @@
 use Rattle.std.proofs.Common.{arith}
 use Rattle.std.proofs.lemmas.Grind.{common_steps}
-use Rattle.tz_regs.specs.Fetch.{is_runnable, lets_run}
+use Rattle.tz_state.specs.Fetch.{is_runnable, lets_run}
 use Rattle.tz_access.specs.Checks.{IsByBlocks}
 use Rattle.tz_access.proofs.Blocks.{runs_by_blocks, second_in_block}
 use Rattle.tz_access.proofs.bus.Bus.is_second_runnable.Goals as goal

@@ -1,6 +1,6 @@
 use Rattle.std.proofs.Common.{arith, rules, tests}
 use Rattle.std.proofs.lemmas.Grind.{common_steps, elements}
-use Rattle.tz_regs.specs.Access.{may_touch}
+use Rattle.tz_state.specs.Access.{may_touch}
 use Rattle.tz_access.proofs.bus.Bus.may_touch.Goals as goal
 
 -- What the tactics try, by name: a body that is refused is then told without a search for what to offer.

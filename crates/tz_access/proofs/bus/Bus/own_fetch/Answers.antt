@@ -1,7 +1,7 @@
 use Rattle.std.proofs.Common.{arith, rules, tests}
 use Rattle.std.proofs.lemmas.Grind.{common_steps, elements}
-use Rattle.tz_regs.specs.Fetch.{own_fetch}
-use Rattle.tz_regs.specs.Fetch.{half_verdict}
+use Rattle.tz_state.specs.Fetch.{own_fetch}
+use Rattle.tz_state.specs.Fetch.{half_verdict}
 use Rattle.tz_access.proofs.bus.Bus.own_fetch.Goals as goal
 
 -- What the tactics try, by name: a body that is refused is then told without a search for what to offer.

@@ -1,5 +1,5 @@
 use Rattle.std.proofs.Common.{arith}
-use Rattle.tz_regs.specs.Access.{access}
+use Rattle.tz_state.specs.Access.{access}
 use Rattle.tz_core.proofs.Private.{private_aligned}
 use Rattle.tz_core.proofs.port.CorePortPort.store.Goals as goal
 

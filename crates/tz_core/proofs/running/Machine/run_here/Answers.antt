@@ -1,5 +1,5 @@
 use Rattle.std.proofs.Common.{ap, sym, ◌∙◌}
-use Rattle.tz_regs.specs.State.{State}
+use Rattle.tz_state.specs.State.{State}
 use Rattle.tz_sem.specs.Exec.{Executed}
 use Rattle.tz_sem.specs.Step.{concludes, executes}
 use Rattle.tz_core.proofs.running.Machine.run_here.Goals as goal

@@ -1,7 +1,7 @@
 use Rattle.std.proofs.Common.{◌≡◌, ◌∙◌, ℤ, ap, arith, rules, sym}
 use Rattle.std.proofs.lemmas.Grind.{common_steps}
 use Rattle.tz_table.specs.declared.instruction.Insn.{Insn}
-use Rattle.tz_regs.specs.State.{State, Bus, priority_in}
+use Rattle.tz_state.specs.State.{State, Bus, priority_in}
 use Rattle.tz_sem.specs.Exec.{Ported, beside, system_over}
 use mir.Syntax.{w32}
 use mir.Val.{of_z, to_z}

@@ -1,6 +1,6 @@
 use Rattle.std.proofs.Common.{◌≡◌, ◌+◌}
-use Rattle.tz_regs.specs.Slots.{at}
-use Rattle.tz_regs.specs.Pieces.{any_below}
+use Rattle.tz_state.specs.Slots.{at}
+use Rattle.tz_state.specs.Pieces.{any_below}
 use Rattle.tz_nvic.proofs.exceptions.Exceptions.any_pending.Given as goal
 
 abbrev pub invariant-loop-n : goal.invariant-loop-n

@@ -1,7 +1,7 @@
 -- What is found below one more place; and no slot stands behind the last.
 use Rattle.std.proofs.Common.{◌≡◌, ◌+◌, ap, sym, ◌∙◌, add-one, arith}
-use Rattle.tz_regs.specs.Least.{least_below}
-use Rattle.tz_regs.specs.Priority.{is_ready, rank_of}
+use Rattle.tz_state.specs.Least.{least_below}
+use Rattle.tz_state.specs.Priority.{is_ready, rank_of}
 use Rattle.tz_nvic.proofs.Beyond.{chosen_below}
 use Rattle.tz_nvic.proofs.exceptions.Exceptions.chosen_place.Goals as goal
 

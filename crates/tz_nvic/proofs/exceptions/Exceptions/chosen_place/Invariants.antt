@@ -1,8 +1,8 @@
 use Rattle.std.proofs.Common.{◌≡◌, ◌<◌, ◌+◌, true}
 use Rattle.std.specs.Prelude.{IfSome}
-use Rattle.tz_regs.specs.Slots.{is_place}
-use Rattle.tz_regs.specs.Least.{least_below}
-use Rattle.tz_regs.specs.Priority.{is_ready, rank_of}
+use Rattle.tz_state.specs.Slots.{is_place}
+use Rattle.tz_state.specs.Least.{least_below}
+use Rattle.tz_state.specs.Priority.{is_ready, rank_of}
 use Rattle.tz_nvic.proofs.exceptions.Exceptions.chosen_place.Given as goal
 
 abbrev pub invariant-loop-index : goal.invariant-loop-index

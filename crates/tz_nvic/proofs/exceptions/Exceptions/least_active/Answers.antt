@@ -1,5 +1,5 @@
 use Rattle.std.proofs.Common.{◌≡◌, ◌+◌, ap, sym, ◌∙◌, arith}
-use Rattle.tz_regs.specs.Execution.{active_below}
+use Rattle.tz_state.specs.Execution.{active_below}
 use Rattle.tz_nvic.proofs.Beyond.{raw_below}
 use Rattle.tz_nvic.proofs.exceptions.Exceptions.least_active.Goals as goal
 

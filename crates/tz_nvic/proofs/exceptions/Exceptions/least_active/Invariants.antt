@@ -1,5 +1,5 @@
 use Rattle.std.proofs.Common.{◌≡◌, ◌≤◌}
-use Rattle.tz_regs.specs.Execution.{active_below}
+use Rattle.tz_state.specs.Execution.{active_below}
 use Rattle.tz_nvic.proofs.exceptions.Exceptions.least_active.Given as goal
 
 abbrev pub invariant-loop-index : goal.invariant-loop-index

@@ -1,5 +1,5 @@
 use Rattle.std.proofs.Common.{◌≡◌, drop}
-use Rattle.tz_regs.specs.Due.{due}
+use Rattle.tz_state.specs.Due.{due}
 use Rattle.tz_nvic.proofs.exceptions.Exceptions.pend_due.Given as goal
 
 abbrev pub invariant-loop-event : goal.invariant-loop-event

@@ -1,6 +1,6 @@
 use Rattle.std.proofs.Common.{arith, rules, tests}
 use Rattle.std.proofs.lemmas.Grind.{common_steps, elements}
-use Rattle.tz_regs.specs.UnitRegisters.{reset_sau}
+use Rattle.tz_state.specs.UnitRegisters.{reset_sau}
 use Rattle.tz_sau.proofs.unit.Sau.new.Goals as goal
 
 -- What the tactics try, by name: a body that is refused is then told without a search for what to offer.

@@ -1,5 +1,0 @@
-use Rattle.tz_regs.proofs.Faults.{fault_keeps}
-use Rattle.tz_regs.proofs.faulting_access_changes_nothing.Goals as goal
-
-pub returns : goal.returns
-returns c = λ r a. fault_keeps r a

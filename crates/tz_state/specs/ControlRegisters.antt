@@ -1,0 +1,188 @@
+-- The system control block but for the registers of faults: ICSR, AIRCR, VTOR, CCR, SHPR1 to 3 and SHCSR
+-- (DDI0553, chapter D1.2).
+use Rattle.std.specs.Prelude.{ℕ, ◌+◌, ◌*◌, ◌/◌, ◌%◌, ◌^◌, ◌==◌, Bool, true, false, ◌&&◌, ◌||◌, not, if◌then◌else◌, [], ◌∷◌, Option, Some, None, slice_index, slice_set, bit_and, bit_or}
+use Rattle.std.specs.Int.{w32, from_le_bytes, to_le_bytes}
+use Rattle.tz_table.specs.declared.units.Side.{Side}
+use Rattle.tz_table.specs.declared.units.Side.TheVariants.{Secure, NonSecure}
+use Rattle.tz_model.specs.declared.report.Slot.{Slot}
+use Rattle.tz_model.specs.Words.{is_nonsecure_side}
+use Rattle.tz_regs.specs.declared.parts.SideStatus.{SideStatus}
+use Rattle.tz_state.specs.declared.slot.SlotState.{SlotState}
+use Rattle.tz_state.specs.Slots.{ExceptionsValue, at, places, number_at, index_of}
+use Rattle.tz_state.specs.SlotChanges.{is_fault_side_held}
+use Rattle.tz_state.specs.Priority.{chosen}
+use Rattle.tz_state.specs.Execution.{is_active}
+use Rattle.tz_state.specs.Pieces.{is_bit, Bit, Field, word_of, any_below}
+
+-- ---- what a view shows of the numbers below 16
+
+-- NMI, BusFault and what goes with them: Non-secure code sees them while BFHFNMINS is 1
+abbrev pub sees_bus : Side → Bool → Bool
+sees_bus Secure bfhfnmins = true
+sees_bus NonSecure bfhfnmins = bfhfnmins
+
+-- what Secure code alone sees
+abbrev pub sees_secure : Side → Bool
+sees_secure Secure = true
+sees_secure NonSecure = false
+
+abbrev pub sees_number : Side → ExceptionsValue → ℕ → Bool
+sees_number side e n =
+    if n == 7 then sees_secure side else if n == 2 || n == 5 then sees_bus side e.bfhfnmins else true
+
+-- the place of a number below 16 in the view of a side
+abbrev pub place_of : Side → ℕ → ℕ
+place_of side n = index_of (record { number = n; side = side })
+
+abbrev pub slot_seen : Side → ExceptionsValue → ℕ → SlotState
+slot_seen side e n = at e (place_of side n)
+
+abbrev pub shows_active : Side → ExceptionsValue → ℕ → Bool
+shows_active side e n = sees_number side e n && (slot_seen side e n).active
+
+abbrev pub shows_pending : Side → ExceptionsValue → ℕ → Bool
+shows_pending side e n = sees_number side e n && (slot_seen side e n).pending
+
+abbrev pub shows_enabled : Side → ExceptionsValue → ℕ → Bool
+shows_enabled side e n = sees_number side e n && (slot_seen side e n).enabled
+
+-- the slot of a number replaced, where that may be
+abbrev pub with_number : Side → ExceptionsValue → ℕ → Bool → SlotState → ExceptionsValue
+with_number side e n may slot = record e { slots = if may then slice_set e.slots (place_of side n) slot else e.slots }
+
+-- ---- ICSR
+
+-- VECTPENDING: the number of the exception that comes first; Non-secure code learns of a Secure one that there
+-- is one, which counts as number 1
+abbrev pub pending_number : Side → Option Slot → ℕ
+pending_number Secure None = 0
+pending_number Secure (Some slot) = slot.number
+pending_number NonSecure None = 0
+pending_number NonSecure (Some slot) = if is_nonsecure_side slot.side then slot.number else 1
+
+-- ISRPENDING: an interrupt of either side is pending, enabled or not
+abbrev pub is_interrupt_pending : ExceptionsValue → Bool
+is_interrupt_pending e = any_below (λ n. (at e (32 + n)).pending) e.interrupts
+
+-- a slot is active at a place beside the one that is handled: of another number, or the second that is active
+abbrev pub is_other_active : ExceptionsValue → ℕ → ℕ → Bool
+is_other_active e ipsr i = is_active e i && (not (number_at i == ipsr) || any_below (is_active e) i)
+
+-- RETTOBASE: an exception is handled, and no slot is active but one of its number
+abbrev pub returns_to_base : ExceptionsValue → ℕ → Bool
+returns_to_base e ipsr = not (ipsr == 0) && not (any_below (is_other_active e ipsr) places)
+
+abbrev pub icsr_value : Side → ExceptionsValue → ℕ → ℕ
+icsr_value side e ipsr =
+    word_of (
+    Field 0 ipsr
+    ∷ Bit 11 (returns_to_base e ipsr)
+    ∷ Field 12 (pending_number side (chosen e))
+    ∷ Bit 22 (is_interrupt_pending e)
+    ∷ Bit 26 (shows_pending side e 15)
+    ∷ Bit 28 (shows_pending side e 14)
+    ∷ Bit 31 (shows_pending side e 2)
+    ∷ [])
+
+-- a number that the view shows is pended, or made not pending; (own) to do both pends it
+abbrev pub pends : Side → ExceptionsValue → ℕ → Bool → Bool → ExceptionsValue
+pends side e n set clear =
+    with_number side e n (sees_number side e n) (record (slot_seen side e n) { pending = set || (not clear && (slot_seen side e n).pending) })
+
+unfoldable pub icsr_written : Side → ExceptionsValue → ℕ → ExceptionsValue
+icsr_written side e value =
+    let systick = pends side e 15 (is_bit value 26) (is_bit value 25) in
+    let pendsv = pends side systick 14 (is_bit value 28) (is_bit value 27) in
+    pends side pendsv 2 (is_bit value 31) (is_bit value 30)
+
+-- ---- AIRCR
+
+abbrev pub aircr_value : Side → ExceptionsValue → ℕ
+aircr_value Secure e = word_of (Field 16 0xFA05 ∷ Bit 14 e.pris ∷ Bit 13 e.bfhfnmins ∷ Field 8 e.prigroup_s ∷ [])
+aircr_value NonSecure e = word_of (Field 16 0xFA05 ∷ Bit 13 e.bfhfnmins ∷ Field 8 e.prigroup_ns ∷ [])
+
+-- a write without the key does nothing
+abbrev pub has_key : ℕ → Bool
+has_key value = value / 2 ^ 16 == 0x05FA
+
+abbrev pub aircr_written : Side → ExceptionsValue → ℕ → ExceptionsValue
+aircr_written Secure e value =
+    record e {
+      prigroup_s = if has_key value then value / 2 ^ 8 % 8 else e.prigroup_s;
+      pris = if has_key value then is_bit value 14 else e.pris;
+      bfhfnmins = if has_key value && not (is_fault_side_held e) then is_bit value 13 else e.bfhfnmins;
+    }
+aircr_written NonSecure e value = record e { prigroup_ns = if has_key value then value / 2 ^ 8 % 8 else e.prigroup_ns }
+
+-- ---- VTOR and CCR
+
+abbrev pub vtor_written : SideStatus → ℕ → SideStatus
+vtor_written c value = record c { vtor = value / 2 ^ 7 * 2 ^ 7 }
+
+-- bit 9 reads as 1
+abbrev pub ccr_value : SideStatus → ℕ
+ccr_value c = bit_or c.ccr 0x200
+
+abbrev pub ccr_written : SideStatus → ℕ → SideStatus
+ccr_written c value = record c { ccr = bit_and value 0x18 }
+
+-- ---- SHPR1 to SHPR3: a byte for each number, from 4, 8 and 12 on
+
+-- the numbers with a priority that can be written
+abbrev pub has_byte : ℕ → Bool
+has_byte n = n == 4 || (n == 5 || (n == 6 || (n == 7 || (n == 11 || (n == 14 || n == 15)))))
+
+abbrev pub byte_seen : Side → ExceptionsValue → ℕ → ℕ
+byte_seen side e n = if has_byte n && sees_number side e n then (slot_seen side e n).priority else 0
+
+abbrev pub with_byte_seen : Side → ExceptionsValue → ℕ → ℕ → ExceptionsValue
+with_byte_seen side e n byte = with_number side e n (has_byte n && sees_number side e n) (record (slot_seen side e n) { priority = byte })
+
+abbrev pub shpr_value : Side → ExceptionsValue → ℕ → ℕ
+shpr_value side e n =
+    from_le_bytes w32 (byte_seen side e n ∷ byte_seen side e (n + 1) ∷ byte_seen side e (n + 2) ∷ byte_seen side e (n + 3) ∷ [])
+
+unfoldable pub shpr_written : Side → ExceptionsValue → ℕ → ℕ → ExceptionsValue
+shpr_written side e n value =
+    let bytes = to_le_bytes w32 value in
+    let first = with_byte_seen side e n (slice_index bytes 0) in
+    let second = with_byte_seen side first (n + 1) (slice_index bytes 1) in
+    let third = with_byte_seen side second (n + 2) (slice_index bytes 2) in
+    with_byte_seen side third (n + 3) (slice_index bytes 3)
+
+-- ---- SHCSR
+
+abbrev pub shcsr_value : Side → ExceptionsValue → ℕ
+shcsr_value side e =
+    word_of (
+    Bit 0 (shows_active side e 4)
+    ∷ Bit 1 (shows_active side e 5)
+    ∷ Bit 2 (shows_active side e 3)
+    ∷ Bit 3 (shows_active side e 6)
+    ∷ Bit 4 (shows_active side e 7)
+    ∷ Bit 5 (shows_active side e 2)
+    ∷ Bit 7 (shows_active side e 11)
+    ∷ Bit 10 (shows_active side e 14)
+    ∷ Bit 11 (shows_active side e 15)
+    ∷ Bit 12 (shows_pending side e 6)
+    ∷ Bit 13 (shows_pending side e 4)
+    ∷ Bit 14 (shows_pending side e 5)
+    ∷ Bit 15 (shows_pending side e 11)
+    ∷ Bit 16 (shows_enabled side e 4)
+    ∷ Bit 17 (shows_enabled side e 5)
+    ∷ Bit 18 (shows_enabled side e 6)
+    ∷ Bit 19 (shows_enabled side e 7)
+    ∷ Bit 20 (shows_pending side e 7)
+    ∷ Bit 21 (shows_pending side e 3)
+    ∷ [])
+
+-- (own) a write changes what is enabled, and nothing else
+abbrev pub enables : Side → ExceptionsValue → ℕ → Bool → ExceptionsValue
+enables side e n on = with_number side e n (sees_number side e n) (record (slot_seen side e n) { enabled = on })
+
+unfoldable pub shcsr_written : Side → ExceptionsValue → ℕ → ExceptionsValue
+shcsr_written side e value =
+    let memory = enables side e 4 (is_bit value 16) in
+    let bus = enables side memory 5 (is_bit value 17) in
+    let usage = enables side bus 6 (is_bit value 18) in
+    enables side usage 7 (is_bit value 19)

@@ -1,0 +1,60 @@
+-- Priorities of exceptions, and the choice among them (DDI0553, `ExceptionPriority`, `PendingExceptionDetails`).
+-- They count four above the manual's, so that none is negative; a lower number is more urgent.
+use Rattle.std.specs.Prelude.{ℕ, ◌+◌, ◌*◌, ◌/◌, ◌%◌, ◌^◌, ◌==◌, Bool, ◌&&◌, if◌then◌else◌, Option, Some, None}
+use Rattle.tz_table.specs.declared.units.Side.{Side}
+use Rattle.tz_table.specs.declared.units.Side.TheVariants.{Secure, NonSecure}
+use Rattle.tz_model.specs.declared.report.Slot.{Slot}
+use Rattle.tz_state.specs.Slots.{ExceptionsValue, at, places, is_place, number_at, side_at, slot_at, is_enabled, is_fixed, prigroup_of}
+use Rattle.tz_state.specs.Least.{least_below}
+
+-- PRIGROUP n splits a byte of a side above bit n
+abbrev pub group_size : ExceptionsValue → Side → ℕ
+group_size e side = 2 ^ (prigroup_of e side + 1)
+
+-- the byte with bits n:0 cleared
+abbrev pub group_of : ExceptionsValue → Side → ℕ → ℕ
+group_of e side byte = byte / group_size e side * group_size e side
+
+-- bits n:0 of it
+abbrev pub subgroup_of : ExceptionsValue → Side → ℕ → ℕ
+subgroup_of e side byte = byte % group_size e side
+
+-- with PRIS, Non-secure groups count in the upper half
+abbrev pub counted : ExceptionsValue → Side → ℕ → ℕ
+counted e Secure group = group
+counted e NonSecure group = if e.pris then 128 + group / 2 else group
+
+-- HardFault counts as -1, but that of the Secure side as -3 while BFHFNMINS is 1
+abbrev pub hard_priority : ExceptionsValue → Side → ℕ
+hard_priority e Secure = if e.bfhfnmins then 1 else 3
+hard_priority e NonSecure = 3
+
+-- the group priority of the slot at a place; NMI has -2
+unfoldable pub priority_of : ExceptionsValue → ℕ → ℕ
+priority_of e i =
+    if number_at i == 2 then 2
+    else if number_at i == 3 then hard_priority e (side_at e i)
+    else 4 + counted e (side_at e i) (group_of e (side_at e i) (at e i).priority)
+
+-- what decides among equal group priorities
+unfoldable pub subpriority_of : ExceptionsValue → ℕ → ℕ
+subpriority_of e i = if is_fixed (number_at i) then 0 else subgroup_of e (side_at e i) (at e i).priority
+
+-- by group priority, then subpriority, then number, then Secure before Non-secure, as places are
+unfoldable pub rank_of : ExceptionsValue → ℕ → ℕ
+rank_of e i = (priority_of e i * 256 + subpriority_of e i) * 512 + i
+
+-- a slot stands here that is pending and enabled
+abbrev pub is_ready : ExceptionsValue → ℕ → Bool
+is_ready e i = is_place e i && ((at e i).pending && is_enabled e i)
+
+abbrev pub chosen_place : ExceptionsValue → Option ℕ
+chosen_place e = least_below (is_ready e) (rank_of e) places
+
+abbrev pub slot_found : ExceptionsValue → Option ℕ → Option Slot
+slot_found e None = None
+slot_found e (Some i) = Some (slot_at e i)
+
+-- the ready slot that comes first
+abbrev pub chosen : ExceptionsValue → Option Slot
+chosen e = slot_found e (chosen_place e)

@@ -1,0 +1,95 @@
+-- Where the system registers stand: by their offsets from 0xE000E000 (DDI0553, chapter D1.2).
+use Rattle.std.specs.Prelude.{ℕ, ◌+◌, ◌/◌, ◌%◌, ◌==◌, nat_lt, if◌then◌else◌, List, [], ◌∷◌, Option, Some, None}
+use Rattle.tz_state.specs.declared.register.Register.{Register}
+use Rattle.tz_state.specs.declared.register.Register.TheVariants.{Ictr, Stir, Timer, Bits, Priorities, Control, Fault, Mpu, Sau}
+use Rattle.tz_state.specs.declared.register.TimerRegister.TheVariants as syst
+use Rattle.tz_state.specs.declared.register.Bank.TheVariants as nvic
+use Rattle.tz_state.specs.declared.register.ControlRegister.TheVariants as scb
+use Rattle.tz_state.specs.declared.register.FaultRegister.TheVariants as fault
+use Rattle.tz_state.specs.declared.units.MpuRegister.TheVariants as mpu
+use Rattle.tz_state.specs.declared.units.SauRegister.TheVariants as sau
+
+-- an offset and the register there
+abbrev pub Row : Type 0
+Row = ℕ × Register
+
+abbrev pub row_at : List Row → ℕ → Option Register
+row_at [] a = None
+row_at (row ∷ rows) a = if a == row.0 then Some row.1 else row_at rows a
+
+abbrev pub timer_rows : List Row
+timer_rows =
+    (0x004, Ictr)
+    ∷ (0x010, Timer syst.Csr)
+    ∷ (0x014, Timer syst.Rvr)
+    ∷ (0x018, Timer syst.Cvr)
+    ∷ (0x01C, Timer syst.Calib)
+    ∷ []
+
+-- the arrays of the NVIC by blocks of 128 bytes, of which each word has its number
+abbrev pub nvic_rows : ℕ → List Row
+nvic_rows word =
+    (2, Bits nvic.Enable word)
+    ∷ (3, Bits nvic.Disable word)
+    ∷ (4, Bits nvic.Pend word)
+    ∷ (5, Bits nvic.Unpend word)
+    ∷ (6, Bits nvic.Active word)
+    ∷ (7, Bits nvic.Target word)
+    ∷ (8, Priorities word)
+    ∷ (9, Priorities (32 + word))
+    ∷ []
+
+abbrev pub control_rows : List Row
+control_rows =
+    (0xD00, Control scb.Cpuid)
+    ∷ (0xD04, Control scb.Icsr)
+    ∷ (0xD08, Control scb.Vtor)
+    ∷ (0xD0C, Control scb.Aircr)
+    ∷ (0xD14, Control scb.Ccr)
+    ∷ (0xD18, Control scb.Shpr1)
+    ∷ (0xD1C, Control scb.Shpr2)
+    ∷ (0xD20, Control scb.Shpr3)
+    ∷ (0xD24, Control scb.Shcsr)
+    ∷ (0xD28, Fault fault.Cfsr)
+    ∷ (0xD2C, Fault fault.Hfsr)
+    ∷ (0xD34, Fault fault.Mmfar)
+    ∷ (0xD38, Fault fault.Bfar)
+    ∷ []
+
+abbrev pub mpu_rows : List Row
+mpu_rows =
+    (0xD90, Mpu mpu.Type)
+    ∷ (0xD94, Mpu mpu.Ctrl)
+    ∷ (0xD98, Mpu mpu.Rnr)
+    ∷ (0xD9C, Mpu (mpu.Rbar 0))
+    ∷ (0xDA0, Mpu (mpu.Rlar 0))
+    ∷ (0xDA4, Mpu (mpu.Rbar 1))
+    ∷ (0xDA8, Mpu (mpu.Rlar 1))
+    ∷ (0xDAC, Mpu (mpu.Rbar 2))
+    ∷ (0xDB0, Mpu (mpu.Rlar 2))
+    ∷ (0xDB4, Mpu (mpu.Rbar 3))
+    ∷ (0xDB8, Mpu (mpu.Rlar 3))
+    ∷ (0xDC0, Mpu mpu.Mair0)
+    ∷ (0xDC4, Mpu mpu.Mair1)
+    ∷ []
+
+abbrev pub sau_rows : List Row
+sau_rows =
+    (0xDD0, Sau sau.Ctrl)
+    ∷ (0xDD4, Sau sau.Type)
+    ∷ (0xDD8, Sau sau.Rnr)
+    ∷ (0xDDC, Sau sau.Rbar)
+    ∷ (0xDE0, Sau sau.Rlar)
+    ∷ (0xDE4, Fault fault.Sfsr)
+    ∷ (0xDE8, Fault fault.Sfar)
+    ∷ (0xF00, Stir)
+    ∷ []
+
+-- the register whose word has an offset
+abbrev pub register_at : ℕ → Option Register
+register_at a =
+    if nat_lt a 0x100 then row_at timer_rows a
+    else if nat_lt a 0xD00 then row_at (nvic_rows (a % 128 / 4)) (a / 128)
+    else if nat_lt a 0xD90 then row_at control_rows a
+    else if nat_lt a 0xDD0 then row_at mpu_rows a
+    else row_at sau_rows a

@@ -1,0 +1,116 @@
+-- Exceptions as values: what is kept of each, and where it stands (DDI0553, `ExceptionTargetsSecure`).
+use Rattle.std.specs.Prelude.{ℕ, ◌+◌, ◌-◌, ◌*◌, ◌/◌, ◌%◌, ◌==◌, nat_le, nat_lt, Bool, false, ◌&&◌, ◌||◌, if◌then◌else◌, List, slice_index_or, slice_set, replicate}
+use Rattle.tz_table.specs.declared.units.Side.{Side}
+use Rattle.tz_table.specs.declared.units.Side.TheVariants.{Secure, NonSecure}
+use Rattle.tz_model.specs.declared.report.Slot.{Slot}
+use Rattle.tz_state.specs.declared.slot.SlotState.{SlotState}
+use Rattle.tz_state.specs.declared.slot.Timer.{Timer}
+
+-- all exceptions: a place for each slot, by `index_of`, and what both sides choose of them
+pub record ExceptionsValue : Type 0 where
+  pub slots : List SlotState
+  pub interrupts : ℕ
+  pub prigroup_s : ℕ
+  pub prigroup_ns : ℕ
+  pub pris : Bool
+  pub bfhfnmins : Bool
+  pub timer_s : Timer
+  pub timer_ns : Timer
+
+-- neither pending nor active nor enabled, of priority 0
+abbrev pub idle : SlotState
+idle = record { pending = false; active = false; enabled = false; priority = 0; target = Secure }
+
+-- how many places there are
+abbrev pub places : ℕ
+places = 272
+
+abbrev pub at : ExceptionsValue → ℕ → SlotState
+at e i = slice_index_or e.slots i idle
+
+abbrev pub with_slot : ExceptionsValue → ℕ → SlotState → ExceptionsValue
+with_slot e i slot = record e { slots = slice_set e.slots i slot }
+
+-- HardFault, MemManage, UsageFault, SVCall, PendSV and SysTick have a slot on each side
+abbrev pub is_banked : ℕ → Bool
+is_banked n = n == 3 || (n == 4 || (n == 6 || (n == 11 || (n == 14 || n == 15))))
+
+-- the numbers of the system: NMI, BusFault and SecureFault beside the banked ones
+abbrev pub is_system : ℕ → Bool
+is_system n = n == 2 || (n == 5 || (n == 7 || is_banked n))
+
+-- the numbers of external interrupts
+abbrev pub is_external : ExceptionsValue → ℕ → Bool
+is_external e n = nat_le 16 n && nat_lt n (e.interrupts + 16)
+
+abbrev pub has_number : ExceptionsValue → ℕ → Bool
+has_number e n = is_system n || is_external e n
+
+-- a slot exists where its number does; the side tells the two slots of a banked number apart, and no others
+abbrev pub exists : ExceptionsValue → Slot → Bool
+exists e slot = has_number e slot.number
+
+-- 1 for the Non-secure slot of a banked number, which stands behind the Secure one
+abbrev pub bank_of : ℕ → Side → ℕ
+bank_of n Secure = 0
+bank_of n NonSecure = if is_banked n then 1 else 0
+
+-- the place of a slot; places ascend with the number, Secure before Non-secure
+abbrev pub index_of : Slot → ℕ
+index_of slot = if nat_lt slot.number 16 then 2 * slot.number + bank_of slot.number slot.side else slot.number + 16
+
+-- the number whose slot stands at a place
+abbrev pub number_at : ℕ → ℕ
+number_at i = if nat_lt i 32 then i / 2 else i - 16
+
+-- a slot stands at this place
+abbrev pub is_place : ExceptionsValue → ℕ → Bool
+is_place e i = if nat_lt i 32 then (if i % 2 == 1 then is_banked (i / 2) else is_system (i / 2)) else nat_lt i (e.interrupts + 32)
+
+-- the side of a number below 16 that isn't banked: NMI and BusFault follow BFHFNMINS, SecureFault is Secure
+abbrev pub system_side : ExceptionsValue → ℕ → Side
+system_side e n = if (n == 2 || n == 5) && e.bfhfnmins then NonSecure else Secure
+
+-- the side of the slot at a place
+abbrev pub side_at : ExceptionsValue → ℕ → Side
+side_at e i = if nat_lt i 32 then (if i % 2 == 1 then NonSecure else system_side e (i / 2)) else (at e i).target
+
+-- the slot at a place
+abbrev pub slot_at : ExceptionsValue → ℕ → Slot
+slot_at e i = record { number = number_at i; side = side_at e i }
+
+-- NMI, HardFault, SVCall, PendSV and SysTick can't be disabled
+abbrev pub is_always_enabled : ℕ → Bool
+is_always_enabled n = n == 2 || (n == 3 || (n == 11 || (n == 14 || n == 15)))
+
+abbrev pub is_enabled : ExceptionsValue → ℕ → Bool
+is_enabled e i = is_always_enabled (number_at i) || (at e i).enabled
+
+-- NMI and HardFault have fixed priorities
+abbrev pub is_fixed : ℕ → Bool
+is_fixed n = n == 2 || n == 3
+
+abbrev pub prigroup_of : ExceptionsValue → Side → ℕ
+prigroup_of e Secure = e.prigroup_s
+prigroup_of e NonSecure = e.prigroup_ns
+
+abbrev pub timer_of : ExceptionsValue → Side → Timer
+timer_of e Secure = e.timer_s
+timer_of e NonSecure = e.timer_ns
+
+abbrev pub no_timer : Timer
+no_timer = record { csr = 0; rvr = 0; cvr = 0 }
+
+-- the exceptions after a reset of a core with so many interrupts
+abbrev pub reset_exceptions : ℕ → ExceptionsValue
+reset_exceptions interrupts =
+    record {
+      slots = replicate places idle;
+      interrupts = interrupts;
+      prigroup_s = 0;
+      prigroup_ns = 0;
+      pris = false;
+      bfhfnmins = false;
+      timer_s = no_timer;
+      timer_ns = no_timer;
+    }
