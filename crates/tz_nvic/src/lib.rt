@@ -2,7 +2,7 @@
 //! both SysTick timers, and which exception comes first (DDI0553, chapter B3, and the registers of NVIC and SysTick).
 //!
 //! A slot is a number with its side. All slots stand in one table by `index_of`; the definitions, in
-//! `tz_regs`, speak of that table and of the fields beside it. Nothing here knows the masks of the core.
+//! `tz_state`, speak of that table and of the fields beside it. Nothing here knows the masks of the core.
 #![tactic(auto)]
 
 mod active;
