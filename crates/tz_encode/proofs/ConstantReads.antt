@@ -1,5 +1,5 @@
 -- The rows of 32 bits of data instructions with constants and of fields of bits.
-use Rattle.std.proofs.Common.{◌≡◌, ℕ, ◌+◌, ◌-◌, ◌<◌, Bool, true, not, ◌&&◌, [], ◌∷◌, refl, ◌∙◌, ap, arith}
+use Rattle.std.proofs.Common.{◌≡◌, ℕ, ◌+◌, ◌-◌, ◌*◌, ◌<◌, Bool, true, not, ◌&&◌, [], ◌∷◌, refl, ◌∙◌, ap, arith}
 use Rattle.std.specs.Prelude.{pos, nat_abs, nat_le, ◌==◌}
 use Rattle.std.specs.Ordering.{int_eq}
 use Rattle.std.proofs.lemmas.Bool.{le-leb, agree_below_at}
@@ -62,8 +62,12 @@ adr_after_reads = read_alone adr_after 34 (shape 133) (λ f s. refl) (λ f s. on
 pub adr_before_reads : Reads adr_before 34 (shape 134)
 adr_before_reads = read_alone adr_before 34 (shape 134) (λ f s. refl) (λ f s. one (plain (bits s 8 4))) refl
 
+-- the four parts of the constant in one sum
+joined : (j i k n : ℕ) → j * 4096 + (i * 2048 + k * 256 + n) ≡ j * 4096 + i * 2048 + k * 256 + n
+joined j i k n = omega arith
+
 pub movw_reads : Reads movw 35 (shape 135)
-movw_reads = read_alone movw 35 (shape 135) (λ f s. at_1 (bool_word f 7) ∙ at_6 (omega arith)) (λ f s. one (plain (bits s 8 4))) refl
+movw_reads = read_alone movw 35 (shape 135) (λ f s. at_1 (bool_word f 7) ∙ at_6 (joined (bits f 0 4) (bits f 10 1) (bits s 12 3) (bits s 0 8))) (λ f s. one (plain (bits s 8 4))) refl
 
 -- ---- saturation and fields of bits
 

@@ -1,53 +1,51 @@
 -- The rows of 32 bits for branches, special registers, hints and barriers.
-use Rattle.std.specs.Prelude.{◌+◌, ◌*◌, [], ◌∷◌}
-use Rattle.tz_table.specs.Fields.{bits}
-use Rattle.tz_table.specs.Patterns.{first}
-use Rattle.tz_table.specs.Rows.{TableRow, wide, always}
-use Rattle.tz_table.specs.Terms.{signed_by, far_offset, condition_offset}
+use Rattle.std.specs.Prelude.{[], ◌∷◌}
+use Rattle.tz_table.specs.Rows.{TableRow, row, row_but, any}
+use Rattle.tz_table.specs.Terms.{signed_by, far_by}
 use Rattle.tz_table.specs.Limits.{can_name}
 use Rattle.tz_table.specs.declared.instruction.Insn.TheVariants as insns
 use Rattle.tz_table.specs.declared.instruction.BarrierOp.TheVariants as barriers
 
--- 11110 s cccc iiiiii | 10 j 0 k iiiiiiiiiii: beq.w target ..; c up to 13
+-- beq.w target ..; c up to 13
 abbrev pub bcond_w : TableRow
-bcond_w = wide 0xf800 0xf000 0xd000 0x8000 ((first 6 4 14 ∷ []) ∷ (first 6 4 15 ∷ []) ∷ []) always (λ f s. insns.BranchIf (bits f 6 4) (signed_by 1048576 (condition_offset f s)))
+bcond_w = row_but "1111 0scc ccii iiii | 10j0 kiii iiii iiii" (λ x. (x "c" 14 ∷ []) ∷ (x "c" 15 ∷ []) ∷ []) any (λ v. insns.BranchIf (v "c") (signed_by 1048576 (v "skji0")))
 
--- 11110 s iiiiiiiiii | 10 j 1 k iiiiiiiiiii: b.w target
+-- b.w target
 abbrev pub branch_w : TableRow
-branch_w = wide 0xf800 0xf000 0xd000 0x9000 [] always (λ f s. insns.Branch (signed_by 16777216 (far_offset f s)))
+branch_w = row "1111 0shh hhhh hhhh | 10j1 kiii iiii iiii" any (λ v. insns.Branch (signed_by 16777216 (far_by (v "s") (v "j") (v "k") (v "h") (v "i"))))
 
--- 11110 s iiiiiiiiii | 11 j 1 k iiiiiiiiiii: bl target
+-- bl target
 abbrev pub bl : TableRow
-bl = wide 0xf800 0xf000 0xd000 0xd000 [] always (λ f s. insns.BranchLink (signed_by 16777216 (far_offset f s)))
+bl = row "1111 0shh hhhh hhhh | 11j1 kiii iiii iiii" any (λ v. insns.BranchLink (signed_by 16777216 (far_by (v "s") (v "j") (v "k") (v "h") (v "i"))))
 
--- 111100111000 nnnn | 10001000 yyyyyyyy: msr special, rn
+-- msr special, rn
 abbrev pub msr : TableRow
-msr = wide 0xfff0 0xf380 0xff00 0x8800 [] (λ f s. can_name (bits f 0 4) (bits s 0 8)) (λ f s. insns.WriteSpecial (bits f 0 4) (bits s 0 8))
+msr = row "1111 0011 1000 nnnn | 1000 1000 yyyy yyyy" (λ v. can_name (v "n") (v "y")) (λ v. insns.WriteSpecial (v "n") (v "y"))
 
--- 1111001111101111 | 1000 dddd yyyyyyyy: mrs rd, special
+-- mrs rd, special
 abbrev pub mrs : TableRow
-mrs = wide 0xffff 0xf3ef 0xf000 0x8000 [] (λ f s. can_name (bits s 8 4) (bits s 0 8)) (λ f s. insns.ReadSpecial (bits s 8 4) (bits s 0 8))
+mrs = row "1111 0011 1110 1111 | 1000 dddd yyyy yyyy" (λ v. can_name (v "d") (v "y")) (λ v. insns.ReadSpecial (v "d") (v "y"))
 
--- 1111001110101111 | 10000000 oooooooo: nop.w, yield.w, wfe.w, wfi.w, sev.w, hint.w #o
+-- nop.w, yield.w, wfe.w, wfi.w, sev.w, hint.w #o
 abbrev pub hint_w : TableRow
-hint_w = wide 0xffff 0xf3af 0xff00 0x8000 [] always (λ f s. insns.Hint (bits s 0 8))
+hint_w = row "1111 0011 1010 1111 | 1000 0000 oooo oooo" any (λ v. insns.Hint (v "o"))
 
--- 1111001110111111 | 10001111 0010 1111: clrex
+-- clrex
 abbrev pub clrex : TableRow
-clrex = wide 0xffff 0xf3bf 0xffff 0x8f2f [] always (λ f s. insns.Barrier barriers.Clrex 15)
+clrex = row "1111 0011 1011 1111 | 1000 1111 0010 1111" any (λ v. insns.Barrier barriers.Clrex 15)
 
--- 1111001110111111 | 10001111 0100 xxxx: dsb #x
+-- dsb #x
 abbrev pub dsb : TableRow
-dsb = wide 0xffff 0xf3bf 0xfff0 0x8f40 [] always (λ f s. insns.Barrier barriers.Dsb (bits s 0 4))
+dsb = row "1111 0011 1011 1111 | 1000 1111 0100 xxxx" any (λ v. insns.Barrier barriers.Dsb (v "x"))
 
--- 1111001110111111 | 10001111 0101 xxxx: dmb #x
+-- dmb #x
 abbrev pub dmb : TableRow
-dmb = wide 0xffff 0xf3bf 0xfff0 0x8f50 [] always (λ f s. insns.Barrier barriers.Dmb (bits s 0 4))
+dmb = row "1111 0011 1011 1111 | 1000 1111 0101 xxxx" any (λ v. insns.Barrier barriers.Dmb (v "x"))
 
--- 1111001110111111 | 10001111 0110 xxxx: isb #x
+-- isb #x
 abbrev pub isb : TableRow
-isb = wide 0xffff 0xf3bf 0xfff0 0x8f60 [] always (λ f s. insns.Barrier barriers.Isb (bits s 0 4))
+isb = row "1111 0011 1011 1111 | 1000 1111 0110 xxxx" any (λ v. insns.Barrier barriers.Isb (v "x"))
 
--- 111101111111 iiii | 1010 iiiiiiiiiiii: udf.w #i
+-- udf.w #i
 abbrev pub udf_w : TableRow
-udf_w = wide 0xfff0 0xf7f0 0xf000 0xa000 [] always (λ f s. insns.Undefined (bits f 0 4 * 4096 + bits s 0 12))
+udf_w = row "1111 0111 1111 iiii | 1010 iiii iiii iiii" any (λ v. insns.Undefined (v "i"))

@@ -1,184 +1,182 @@
 -- The rows of 32 bits that process data: shifted registers, constants, wide constants, saturation and bit
 -- fields.
 use Rattle.std.specs.Prelude.{◌+◌, ◌-◌, ◌*◌, true, false, [], ◌∷◌, pos, neg_ℤ}
-use Rattle.tz_table.specs.Fields.{bits}
-use Rattle.tz_table.specs.Patterns.{first, second}
-use Rattle.tz_table.specs.Rows.{TableRow, wide}
-use Rattle.tz_table.specs.Terms.{is_one, flags_of, imm_shift_of, imm_amount_of, imm12_of, imm5_of}
+use Rattle.tz_table.specs.Rows.{TableRow, row, row_but}
+use Rattle.tz_table.specs.Terms.{is_one, flags_of, imm_shift_of, imm_amount_of}
 use Rattle.tz_table.specs.Limits.{plain, plain2, plain3, plain_base, can_add, can_add_register, can_move, can_add_constant, can_set, can_set_from, can_compare, can_saturate, can_extract, can_insert, can_clear}
 use Rattle.tz_table.specs.declared.instruction.Insn.TheVariants as insns
 use Rattle.tz_table.specs.declared.instruction.DataOp.TheVariants as ops
 use Rattle.tz_table.specs.declared.instruction.FieldOp.TheVariants as fields
 use Rattle.tz_table.specs.declared.instruction.Flags.TheVariants as flags
 
--- 1110101 0000 s nnnn | 0 iii dddd ii tt mmmm: and.w rd, rn, rm, shift; with s ands.w
+-- and.w rd, rn, rm, shift; with s ands.w
 abbrev pub and_reg_w : TableRow
-and_reg_w = wide 0xffe0 0xea00 0x8000 0x0000 ((second 8 4 15 ∷ []) ∷ []) (λ f s. plain3 (bits s 8 4) (bits f 0 4) (bits s 0 4)) (λ f s. insns.DataReg ops.And (flags_of (bits f 4 1)) (bits s 8 4) (bits f 0 4) (bits s 0 4) (imm_shift_of (bits s 4 2) (imm5_of s)) (imm_amount_of (bits s 4 2) (imm5_of s)))
+and_reg_w = row_but "1110 1010 000s nnnn | 0iii dddd iitt mmmm" (λ x. (x "d" 15 ∷ []) ∷ []) (λ v. plain3 (v "d") (v "n") (v "m")) (λ v. insns.DataReg ops.And (flags_of (v "s")) (v "d") (v "n") (v "m") (imm_shift_of (v "t") (v "i")) (imm_amount_of (v "t") (v "i")))
 
--- 1110101 0000 1 nnnn | 0 iii 1111 ii tt mmmm: tst.w rn, rm, shift
+-- tst.w rn, rm, shift
 abbrev pub tst_reg_w : TableRow
-tst_reg_w = wide 0xfff0 0xea10 0x8f00 0x0f00 [] (λ f s. plain2 (bits f 0 4) (bits s 0 4)) (λ f s. insns.DataReg ops.Tst flags.Always 0 (bits f 0 4) (bits s 0 4) (imm_shift_of (bits s 4 2) (imm5_of s)) (imm_amount_of (bits s 4 2) (imm5_of s)))
+tst_reg_w = row "1110 1010 0001 nnnn | 0iii 1111 iitt mmmm" (λ v. plain2 (v "n") (v "m")) (λ v. insns.DataReg ops.Tst flags.Always 0 (v "n") (v "m") (imm_shift_of (v "t") (v "i")) (imm_amount_of (v "t") (v "i")))
 
--- 1110101 0001 s nnnn | 0 iii dddd ii tt mmmm: bic.w rd, rn, rm, shift; with s bics.w
+-- bic.w rd, rn, rm, shift; with s bics.w
 abbrev pub bic_reg_w : TableRow
-bic_reg_w = wide 0xffe0 0xea20 0x8000 0x0000 [] (λ f s. plain3 (bits s 8 4) (bits f 0 4) (bits s 0 4)) (λ f s. insns.DataReg ops.Bic (flags_of (bits f 4 1)) (bits s 8 4) (bits f 0 4) (bits s 0 4) (imm_shift_of (bits s 4 2) (imm5_of s)) (imm_amount_of (bits s 4 2) (imm5_of s)))
+bic_reg_w = row "1110 1010 001s nnnn | 0iii dddd iitt mmmm" (λ v. plain3 (v "d") (v "n") (v "m")) (λ v. insns.DataReg ops.Bic (flags_of (v "s")) (v "d") (v "n") (v "m") (imm_shift_of (v "t") (v "i")) (imm_amount_of (v "t") (v "i")))
 
--- 1110101 0010 s nnnn | 0 iii dddd ii tt mmmm: orr.w rd, rn, rm, shift; with s orrs.w
+-- orr.w rd, rn, rm, shift; with s orrs.w
 abbrev pub orr_reg_w : TableRow
-orr_reg_w = wide 0xffe0 0xea40 0x8000 0x0000 ((first 0 4 15 ∷ []) ∷ []) (λ f s. plain3 (bits s 8 4) (bits f 0 4) (bits s 0 4)) (λ f s. insns.DataReg ops.Orr (flags_of (bits f 4 1)) (bits s 8 4) (bits f 0 4) (bits s 0 4) (imm_shift_of (bits s 4 2) (imm5_of s)) (imm_amount_of (bits s 4 2) (imm5_of s)))
+orr_reg_w = row_but "1110 1010 010s nnnn | 0iii dddd iitt mmmm" (λ x. (x "n" 15 ∷ []) ∷ []) (λ v. plain3 (v "d") (v "n") (v "m")) (λ v. insns.DataReg ops.Orr (flags_of (v "s")) (v "d") (v "n") (v "m") (imm_shift_of (v "t") (v "i")) (imm_amount_of (v "t") (v "i")))
 
--- 1110101 0010 s 1111 | 0 iii dddd ii tt mmmm: mov.w rd, rm, shift; with s movs.w
+-- mov.w rd, rm, shift; with s movs.w
 abbrev pub mov_reg_w : TableRow
-mov_reg_w = wide 0xffef 0xea4f 0x8000 0x0000 [] (λ f s. can_move (bits f 4 1) (bits s 8 4) (bits s 0 4) (bits s 4 2) (imm5_of s)) (λ f s. insns.DataReg ops.Mov (flags_of (bits f 4 1)) (bits s 8 4) 0 (bits s 0 4) (imm_shift_of (bits s 4 2) (imm5_of s)) (imm_amount_of (bits s 4 2) (imm5_of s)))
+mov_reg_w = row "1110 1010 010s 1111 | 0iii dddd iitt mmmm" (λ v. can_move (v "s") (v "d") (v "m") (v "t") (v "i")) (λ v. insns.DataReg ops.Mov (flags_of (v "s")) (v "d") 0 (v "m") (imm_shift_of (v "t") (v "i")) (imm_amount_of (v "t") (v "i")))
 
--- 1110101 0011 s nnnn | 0 iii dddd ii tt mmmm: orn.w rd, rn, rm, shift; with s orns.w
+-- orn.w rd, rn, rm, shift; with s orns.w
 abbrev pub orn_reg_w : TableRow
-orn_reg_w = wide 0xffe0 0xea60 0x8000 0x0000 ((first 0 4 15 ∷ []) ∷ []) (λ f s. plain3 (bits s 8 4) (bits f 0 4) (bits s 0 4)) (λ f s. insns.DataReg ops.Orn (flags_of (bits f 4 1)) (bits s 8 4) (bits f 0 4) (bits s 0 4) (imm_shift_of (bits s 4 2) (imm5_of s)) (imm_amount_of (bits s 4 2) (imm5_of s)))
+orn_reg_w = row_but "1110 1010 011s nnnn | 0iii dddd iitt mmmm" (λ x. (x "n" 15 ∷ []) ∷ []) (λ v. plain3 (v "d") (v "n") (v "m")) (λ v. insns.DataReg ops.Orn (flags_of (v "s")) (v "d") (v "n") (v "m") (imm_shift_of (v "t") (v "i")) (imm_amount_of (v "t") (v "i")))
 
--- 1110101 0011 s 1111 | 0 iii dddd ii tt mmmm: mvn.w rd, rm, shift; with s mvns.w
+-- mvn.w rd, rm, shift; with s mvns.w
 abbrev pub mvn_reg_w : TableRow
-mvn_reg_w = wide 0xffef 0xea6f 0x8000 0x0000 [] (λ f s. plain2 (bits s 8 4) (bits s 0 4)) (λ f s. insns.DataReg ops.Mvn (flags_of (bits f 4 1)) (bits s 8 4) 0 (bits s 0 4) (imm_shift_of (bits s 4 2) (imm5_of s)) (imm_amount_of (bits s 4 2) (imm5_of s)))
+mvn_reg_w = row "1110 1010 011s 1111 | 0iii dddd iitt mmmm" (λ v. plain2 (v "d") (v "m")) (λ v. insns.DataReg ops.Mvn (flags_of (v "s")) (v "d") 0 (v "m") (imm_shift_of (v "t") (v "i")) (imm_amount_of (v "t") (v "i")))
 
--- 1110101 0100 s nnnn | 0 iii dddd ii tt mmmm: eor.w rd, rn, rm, shift; with s eors.w
+-- eor.w rd, rn, rm, shift; with s eors.w
 abbrev pub eor_reg_w : TableRow
-eor_reg_w = wide 0xffe0 0xea80 0x8000 0x0000 ((second 8 4 15 ∷ []) ∷ []) (λ f s. plain3 (bits s 8 4) (bits f 0 4) (bits s 0 4)) (λ f s. insns.DataReg ops.Eor (flags_of (bits f 4 1)) (bits s 8 4) (bits f 0 4) (bits s 0 4) (imm_shift_of (bits s 4 2) (imm5_of s)) (imm_amount_of (bits s 4 2) (imm5_of s)))
+eor_reg_w = row_but "1110 1010 100s nnnn | 0iii dddd iitt mmmm" (λ x. (x "d" 15 ∷ []) ∷ []) (λ v. plain3 (v "d") (v "n") (v "m")) (λ v. insns.DataReg ops.Eor (flags_of (v "s")) (v "d") (v "n") (v "m") (imm_shift_of (v "t") (v "i")) (imm_amount_of (v "t") (v "i")))
 
--- 1110101 0100 1 nnnn | 0 iii 1111 ii tt mmmm: teq.w rn, rm, shift
+-- teq.w rn, rm, shift
 abbrev pub teq_reg_w : TableRow
-teq_reg_w = wide 0xfff0 0xea90 0x8f00 0x0f00 [] (λ f s. plain2 (bits f 0 4) (bits s 0 4)) (λ f s. insns.DataReg ops.Teq flags.Always 0 (bits f 0 4) (bits s 0 4) (imm_shift_of (bits s 4 2) (imm5_of s)) (imm_amount_of (bits s 4 2) (imm5_of s)))
+teq_reg_w = row "1110 1010 1001 nnnn | 0iii 1111 iitt mmmm" (λ v. plain2 (v "n") (v "m")) (λ v. insns.DataReg ops.Teq flags.Always 0 (v "n") (v "m") (imm_shift_of (v "t") (v "i")) (imm_amount_of (v "t") (v "i")))
 
--- 1110101 1000 s nnnn | 0 iii dddd ii tt mmmm: add.w rd, rn, rm, shift; with s adds.w
+-- add.w rd, rn, rm, shift; with s adds.w
 abbrev pub add_reg_w : TableRow
-add_reg_w = wide 0xffe0 0xeb00 0x8000 0x0000 ((second 8 4 15 ∷ []) ∷ []) (λ f s. can_add_register (bits s 8 4) (bits f 0 4) (bits s 0 4) (bits s 4 2) (imm5_of s)) (λ f s. insns.DataReg ops.Add (flags_of (bits f 4 1)) (bits s 8 4) (bits f 0 4) (bits s 0 4) (imm_shift_of (bits s 4 2) (imm5_of s)) (imm_amount_of (bits s 4 2) (imm5_of s)))
+add_reg_w = row_but "1110 1011 000s nnnn | 0iii dddd iitt mmmm" (λ x. (x "d" 15 ∷ []) ∷ []) (λ v. can_add_register (v "d") (v "n") (v "m") (v "t") (v "i")) (λ v. insns.DataReg ops.Add (flags_of (v "s")) (v "d") (v "n") (v "m") (imm_shift_of (v "t") (v "i")) (imm_amount_of (v "t") (v "i")))
 
--- 1110101 1000 1 nnnn | 0 iii 1111 ii tt mmmm: cmn.w rn, rm, shift
+-- cmn.w rn, rm, shift
 abbrev pub cmn_reg_w : TableRow
-cmn_reg_w = wide 0xfff0 0xeb10 0x8f00 0x0f00 [] (λ f s. plain_base (bits s 0 4) (bits f 0 4)) (λ f s. insns.DataReg ops.Cmn flags.Always 0 (bits f 0 4) (bits s 0 4) (imm_shift_of (bits s 4 2) (imm5_of s)) (imm_amount_of (bits s 4 2) (imm5_of s)))
+cmn_reg_w = row "1110 1011 0001 nnnn | 0iii 1111 iitt mmmm" (λ v. plain_base (v "m") (v "n")) (λ v. insns.DataReg ops.Cmn flags.Always 0 (v "n") (v "m") (imm_shift_of (v "t") (v "i")) (imm_amount_of (v "t") (v "i")))
 
--- 1110101 1010 s nnnn | 0 iii dddd ii tt mmmm: adc.w rd, rn, rm, shift; with s adcs.w
+-- adc.w rd, rn, rm, shift; with s adcs.w
 abbrev pub adc_reg_w : TableRow
-adc_reg_w = wide 0xffe0 0xeb40 0x8000 0x0000 [] (λ f s. plain3 (bits s 8 4) (bits f 0 4) (bits s 0 4)) (λ f s. insns.DataReg ops.Adc (flags_of (bits f 4 1)) (bits s 8 4) (bits f 0 4) (bits s 0 4) (imm_shift_of (bits s 4 2) (imm5_of s)) (imm_amount_of (bits s 4 2) (imm5_of s)))
+adc_reg_w = row "1110 1011 010s nnnn | 0iii dddd iitt mmmm" (λ v. plain3 (v "d") (v "n") (v "m")) (λ v. insns.DataReg ops.Adc (flags_of (v "s")) (v "d") (v "n") (v "m") (imm_shift_of (v "t") (v "i")) (imm_amount_of (v "t") (v "i")))
 
--- 1110101 1011 s nnnn | 0 iii dddd ii tt mmmm: sbc.w rd, rn, rm, shift; with s sbcs.w
+-- sbc.w rd, rn, rm, shift; with s sbcs.w
 abbrev pub sbc_reg_w : TableRow
-sbc_reg_w = wide 0xffe0 0xeb60 0x8000 0x0000 [] (λ f s. plain3 (bits s 8 4) (bits f 0 4) (bits s 0 4)) (λ f s. insns.DataReg ops.Sbc (flags_of (bits f 4 1)) (bits s 8 4) (bits f 0 4) (bits s 0 4) (imm_shift_of (bits s 4 2) (imm5_of s)) (imm_amount_of (bits s 4 2) (imm5_of s)))
+sbc_reg_w = row "1110 1011 011s nnnn | 0iii dddd iitt mmmm" (λ v. plain3 (v "d") (v "n") (v "m")) (λ v. insns.DataReg ops.Sbc (flags_of (v "s")) (v "d") (v "n") (v "m") (imm_shift_of (v "t") (v "i")) (imm_amount_of (v "t") (v "i")))
 
--- 1110101 1101 s nnnn | 0 iii dddd ii tt mmmm: sub.w rd, rn, rm, shift; with s subs.w
+-- sub.w rd, rn, rm, shift; with s subs.w
 abbrev pub sub_reg_w : TableRow
-sub_reg_w = wide 0xffe0 0xeba0 0x8000 0x0000 ((second 8 4 15 ∷ []) ∷ []) (λ f s. can_add_register (bits s 8 4) (bits f 0 4) (bits s 0 4) (bits s 4 2) (imm5_of s)) (λ f s. insns.DataReg ops.Sub (flags_of (bits f 4 1)) (bits s 8 4) (bits f 0 4) (bits s 0 4) (imm_shift_of (bits s 4 2) (imm5_of s)) (imm_amount_of (bits s 4 2) (imm5_of s)))
+sub_reg_w = row_but "1110 1011 101s nnnn | 0iii dddd iitt mmmm" (λ x. (x "d" 15 ∷ []) ∷ []) (λ v. can_add_register (v "d") (v "n") (v "m") (v "t") (v "i")) (λ v. insns.DataReg ops.Sub (flags_of (v "s")) (v "d") (v "n") (v "m") (imm_shift_of (v "t") (v "i")) (imm_amount_of (v "t") (v "i")))
 
--- 1110101 1101 1 nnnn | 0 iii 1111 ii tt mmmm: cmp.w rn, rm, shift
+-- cmp.w rn, rm, shift
 abbrev pub cmp_reg_w : TableRow
-cmp_reg_w = wide 0xfff0 0xebb0 0x8f00 0x0f00 [] (λ f s. plain_base (bits s 0 4) (bits f 0 4)) (λ f s. insns.DataReg ops.Cmp flags.Always 0 (bits f 0 4) (bits s 0 4) (imm_shift_of (bits s 4 2) (imm5_of s)) (imm_amount_of (bits s 4 2) (imm5_of s)))
+cmp_reg_w = row "1110 1011 1011 nnnn | 0iii 1111 iitt mmmm" (λ v. plain_base (v "m") (v "n")) (λ v. insns.DataReg ops.Cmp flags.Always 0 (v "n") (v "m") (imm_shift_of (v "t") (v "i")) (imm_amount_of (v "t") (v "i")))
 
--- 1110101 1110 s nnnn | 0 iii dddd ii tt mmmm: rsb.w rd, rn, rm, shift; with s rsbs.w
+-- rsb.w rd, rn, rm, shift; with s rsbs.w
 abbrev pub rsb_reg_w : TableRow
-rsb_reg_w = wide 0xffe0 0xebc0 0x8000 0x0000 [] (λ f s. plain3 (bits s 8 4) (bits f 0 4) (bits s 0 4)) (λ f s. insns.DataReg ops.Rsb (flags_of (bits f 4 1)) (bits s 8 4) (bits f 0 4) (bits s 0 4) (imm_shift_of (bits s 4 2) (imm5_of s)) (imm_amount_of (bits s 4 2) (imm5_of s)))
+rsb_reg_w = row "1110 1011 110s nnnn | 0iii dddd iitt mmmm" (λ v. plain3 (v "d") (v "n") (v "m")) (λ v. insns.DataReg ops.Rsb (flags_of (v "s")) (v "d") (v "n") (v "m") (imm_shift_of (v "t") (v "i")) (imm_amount_of (v "t") (v "i")))
 
--- 11110 i 0 0000 s nnnn | 0 iii dddd iiiiiiii: and.w rd, rn, #i; with s ands.w
+-- and.w rd, rn, #i; with s ands.w
 abbrev pub and_imm_w : TableRow
-and_imm_w = wide 0xfbe0 0xf000 0x8000 0x0000 ((second 8 4 15 ∷ []) ∷ []) (λ f s. can_set_from (bits s 8 4) (bits f 0 4) (imm12_of f s)) (λ f s. insns.DataImm ops.And (flags_of (bits f 4 1)) (bits s 8 4) (bits f 0 4) (imm12_of f s))
+and_imm_w = row_but "1111 0i00 000s nnnn | 0iii dddd iiii iiii" (λ x. (x "d" 15 ∷ []) ∷ []) (λ v. can_set_from (v "d") (v "n") (v "i")) (λ v. insns.DataImm ops.And (flags_of (v "s")) (v "d") (v "n") (v "i"))
 
--- 11110 i 0 0000 1 nnnn | 0 iii 1111 iiiiiiii: tst.w rn, #i
+-- tst.w rn, #i
 abbrev pub tst_imm_w : TableRow
-tst_imm_w = wide 0xfbf0 0xf010 0x8f00 0x0f00 [] (λ f s. can_set (bits f 0 4) (imm12_of f s)) (λ f s. insns.DataImm ops.Tst flags.Always 0 (bits f 0 4) (imm12_of f s))
+tst_imm_w = row "1111 0i00 0001 nnnn | 0iii 1111 iiii iiii" (λ v. can_set (v "n") (v "i")) (λ v. insns.DataImm ops.Tst flags.Always 0 (v "n") (v "i"))
 
--- 11110 i 0 0001 s nnnn | 0 iii dddd iiiiiiii: bic.w rd, rn, #i; with s bics.w
+-- bic.w rd, rn, #i; with s bics.w
 abbrev pub bic_imm_w : TableRow
-bic_imm_w = wide 0xfbe0 0xf020 0x8000 0x0000 [] (λ f s. can_set_from (bits s 8 4) (bits f 0 4) (imm12_of f s)) (λ f s. insns.DataImm ops.Bic (flags_of (bits f 4 1)) (bits s 8 4) (bits f 0 4) (imm12_of f s))
+bic_imm_w = row "1111 0i00 001s nnnn | 0iii dddd iiii iiii" (λ v. can_set_from (v "d") (v "n") (v "i")) (λ v. insns.DataImm ops.Bic (flags_of (v "s")) (v "d") (v "n") (v "i"))
 
--- 11110 i 0 0010 s nnnn | 0 iii dddd iiiiiiii: orr.w rd, rn, #i; with s orrs.w
+-- orr.w rd, rn, #i; with s orrs.w
 abbrev pub orr_imm_w : TableRow
-orr_imm_w = wide 0xfbe0 0xf040 0x8000 0x0000 ((first 0 4 15 ∷ []) ∷ []) (λ f s. can_set_from (bits s 8 4) (bits f 0 4) (imm12_of f s)) (λ f s. insns.DataImm ops.Orr (flags_of (bits f 4 1)) (bits s 8 4) (bits f 0 4) (imm12_of f s))
+orr_imm_w = row_but "1111 0i00 010s nnnn | 0iii dddd iiii iiii" (λ x. (x "n" 15 ∷ []) ∷ []) (λ v. can_set_from (v "d") (v "n") (v "i")) (λ v. insns.DataImm ops.Orr (flags_of (v "s")) (v "d") (v "n") (v "i"))
 
--- 11110 i 0 0010 s 1111 | 0 iii dddd iiiiiiii: mov.w rd, #i; with s movs.w
+-- mov.w rd, #i; with s movs.w
 abbrev pub mov_imm_w : TableRow
-mov_imm_w = wide 0xfbef 0xf04f 0x8000 0x0000 [] (λ f s. can_set (bits s 8 4) (imm12_of f s)) (λ f s. insns.DataImm ops.Mov (flags_of (bits f 4 1)) (bits s 8 4) 0 (imm12_of f s))
+mov_imm_w = row "1111 0i00 010s 1111 | 0iii dddd iiii iiii" (λ v. can_set (v "d") (v "i")) (λ v. insns.DataImm ops.Mov (flags_of (v "s")) (v "d") 0 (v "i"))
 
--- 11110 i 0 0011 s nnnn | 0 iii dddd iiiiiiii: orn.w rd, rn, #i; with s orns.w
+-- orn.w rd, rn, #i; with s orns.w
 abbrev pub orn_imm_w : TableRow
-orn_imm_w = wide 0xfbe0 0xf060 0x8000 0x0000 ((first 0 4 15 ∷ []) ∷ []) (λ f s. can_set_from (bits s 8 4) (bits f 0 4) (imm12_of f s)) (λ f s. insns.DataImm ops.Orn (flags_of (bits f 4 1)) (bits s 8 4) (bits f 0 4) (imm12_of f s))
+orn_imm_w = row_but "1111 0i00 011s nnnn | 0iii dddd iiii iiii" (λ x. (x "n" 15 ∷ []) ∷ []) (λ v. can_set_from (v "d") (v "n") (v "i")) (λ v. insns.DataImm ops.Orn (flags_of (v "s")) (v "d") (v "n") (v "i"))
 
--- 11110 i 0 0011 s 1111 | 0 iii dddd iiiiiiii: mvn.w rd, #i; with s mvns.w
+-- mvn.w rd, #i; with s mvns.w
 abbrev pub mvn_imm_w : TableRow
-mvn_imm_w = wide 0xfbef 0xf06f 0x8000 0x0000 [] (λ f s. can_set (bits s 8 4) (imm12_of f s)) (λ f s. insns.DataImm ops.Mvn (flags_of (bits f 4 1)) (bits s 8 4) 0 (imm12_of f s))
+mvn_imm_w = row "1111 0i00 011s 1111 | 0iii dddd iiii iiii" (λ v. can_set (v "d") (v "i")) (λ v. insns.DataImm ops.Mvn (flags_of (v "s")) (v "d") 0 (v "i"))
 
--- 11110 i 0 0100 s nnnn | 0 iii dddd iiiiiiii: eor.w rd, rn, #i; with s eors.w
+-- eor.w rd, rn, #i; with s eors.w
 abbrev pub eor_imm_w : TableRow
-eor_imm_w = wide 0xfbe0 0xf080 0x8000 0x0000 ((second 8 4 15 ∷ []) ∷ []) (λ f s. can_set_from (bits s 8 4) (bits f 0 4) (imm12_of f s)) (λ f s. insns.DataImm ops.Eor (flags_of (bits f 4 1)) (bits s 8 4) (bits f 0 4) (imm12_of f s))
+eor_imm_w = row_but "1111 0i00 100s nnnn | 0iii dddd iiii iiii" (λ x. (x "d" 15 ∷ []) ∷ []) (λ v. can_set_from (v "d") (v "n") (v "i")) (λ v. insns.DataImm ops.Eor (flags_of (v "s")) (v "d") (v "n") (v "i"))
 
--- 11110 i 0 0100 1 nnnn | 0 iii 1111 iiiiiiii: teq.w rn, #i
+-- teq.w rn, #i
 abbrev pub teq_imm_w : TableRow
-teq_imm_w = wide 0xfbf0 0xf090 0x8f00 0x0f00 [] (λ f s. can_set (bits f 0 4) (imm12_of f s)) (λ f s. insns.DataImm ops.Teq flags.Always 0 (bits f 0 4) (imm12_of f s))
+teq_imm_w = row "1111 0i00 1001 nnnn | 0iii 1111 iiii iiii" (λ v. can_set (v "n") (v "i")) (λ v. insns.DataImm ops.Teq flags.Always 0 (v "n") (v "i"))
 
--- 11110 i 0 1000 s nnnn | 0 iii dddd iiiiiiii: add.w rd, rn, #i; with s adds.w
+-- add.w rd, rn, #i; with s adds.w
 abbrev pub add_imm_w : TableRow
-add_imm_w = wide 0xfbe0 0xf100 0x8000 0x0000 ((second 8 4 15 ∷ []) ∷ []) (λ f s. can_add_constant (bits s 8 4) (bits f 0 4) (imm12_of f s)) (λ f s. insns.DataImm ops.Add (flags_of (bits f 4 1)) (bits s 8 4) (bits f 0 4) (imm12_of f s))
+add_imm_w = row_but "1111 0i01 000s nnnn | 0iii dddd iiii iiii" (λ x. (x "d" 15 ∷ []) ∷ []) (λ v. can_add_constant (v "d") (v "n") (v "i")) (λ v. insns.DataImm ops.Add (flags_of (v "s")) (v "d") (v "n") (v "i"))
 
--- 11110 i 0 1000 1 nnnn | 0 iii 1111 iiiiiiii: cmn.w rn, #i
+-- cmn.w rn, #i
 abbrev pub cmn_imm_w : TableRow
-cmn_imm_w = wide 0xfbf0 0xf110 0x8f00 0x0f00 [] (λ f s. can_compare (bits f 0 4) (imm12_of f s)) (λ f s. insns.DataImm ops.Cmn flags.Always 0 (bits f 0 4) (imm12_of f s))
+cmn_imm_w = row "1111 0i01 0001 nnnn | 0iii 1111 iiii iiii" (λ v. can_compare (v "n") (v "i")) (λ v. insns.DataImm ops.Cmn flags.Always 0 (v "n") (v "i"))
 
--- 11110 i 0 1010 s nnnn | 0 iii dddd iiiiiiii: adc.w rd, rn, #i; with s adcs.w
+-- adc.w rd, rn, #i; with s adcs.w
 abbrev pub adc_imm_w : TableRow
-adc_imm_w = wide 0xfbe0 0xf140 0x8000 0x0000 [] (λ f s. can_set_from (bits s 8 4) (bits f 0 4) (imm12_of f s)) (λ f s. insns.DataImm ops.Adc (flags_of (bits f 4 1)) (bits s 8 4) (bits f 0 4) (imm12_of f s))
+adc_imm_w = row "1111 0i01 010s nnnn | 0iii dddd iiii iiii" (λ v. can_set_from (v "d") (v "n") (v "i")) (λ v. insns.DataImm ops.Adc (flags_of (v "s")) (v "d") (v "n") (v "i"))
 
--- 11110 i 0 1011 s nnnn | 0 iii dddd iiiiiiii: sbc.w rd, rn, #i; with s sbcs.w
+-- sbc.w rd, rn, #i; with s sbcs.w
 abbrev pub sbc_imm_w : TableRow
-sbc_imm_w = wide 0xfbe0 0xf160 0x8000 0x0000 [] (λ f s. can_set_from (bits s 8 4) (bits f 0 4) (imm12_of f s)) (λ f s. insns.DataImm ops.Sbc (flags_of (bits f 4 1)) (bits s 8 4) (bits f 0 4) (imm12_of f s))
+sbc_imm_w = row "1111 0i01 011s nnnn | 0iii dddd iiii iiii" (λ v. can_set_from (v "d") (v "n") (v "i")) (λ v. insns.DataImm ops.Sbc (flags_of (v "s")) (v "d") (v "n") (v "i"))
 
--- 11110 i 0 1101 s nnnn | 0 iii dddd iiiiiiii: sub.w rd, rn, #i; with s subs.w
+-- sub.w rd, rn, #i; with s subs.w
 abbrev pub sub_imm_w : TableRow
-sub_imm_w = wide 0xfbe0 0xf1a0 0x8000 0x0000 ((second 8 4 15 ∷ []) ∷ []) (λ f s. can_add_constant (bits s 8 4) (bits f 0 4) (imm12_of f s)) (λ f s. insns.DataImm ops.Sub (flags_of (bits f 4 1)) (bits s 8 4) (bits f 0 4) (imm12_of f s))
+sub_imm_w = row_but "1111 0i01 101s nnnn | 0iii dddd iiii iiii" (λ x. (x "d" 15 ∷ []) ∷ []) (λ v. can_add_constant (v "d") (v "n") (v "i")) (λ v. insns.DataImm ops.Sub (flags_of (v "s")) (v "d") (v "n") (v "i"))
 
--- 11110 i 0 1101 1 nnnn | 0 iii 1111 iiiiiiii: cmp.w rn, #i
+-- cmp.w rn, #i
 abbrev pub cmp_imm_w : TableRow
-cmp_imm_w = wide 0xfbf0 0xf1b0 0x8f00 0x0f00 [] (λ f s. can_compare (bits f 0 4) (imm12_of f s)) (λ f s. insns.DataImm ops.Cmp flags.Always 0 (bits f 0 4) (imm12_of f s))
+cmp_imm_w = row "1111 0i01 1011 nnnn | 0iii 1111 iiii iiii" (λ v. can_compare (v "n") (v "i")) (λ v. insns.DataImm ops.Cmp flags.Always 0 (v "n") (v "i"))
 
--- 11110 i 0 1110 s nnnn | 0 iii dddd iiiiiiii: rsb.w rd, rn, #i; with s rsbs.w
+-- rsb.w rd, rn, #i; with s rsbs.w
 abbrev pub rsb_imm_w : TableRow
-rsb_imm_w = wide 0xfbe0 0xf1c0 0x8000 0x0000 [] (λ f s. can_set_from (bits s 8 4) (bits f 0 4) (imm12_of f s)) (λ f s. insns.DataImm ops.Rsb (flags_of (bits f 4 1)) (bits s 8 4) (bits f 0 4) (imm12_of f s))
+rsb_imm_w = row "1111 0i01 110s nnnn | 0iii dddd iiii iiii" (λ v. can_set_from (v "d") (v "n") (v "i")) (λ v. insns.DataImm ops.Rsb (flags_of (v "s")) (v "d") (v "n") (v "i"))
 
--- 11110 i 10 0000 nnnn | 0 iii dddd iiiiiiii: addw rd, rn, #i
+-- addw rd, rn, #i
 abbrev pub addw : TableRow
-addw = wide 0xfbf0 0xf200 0x8000 0x0000 ((first 0 4 15 ∷ []) ∷ []) (λ f s. can_add (bits s 8 4) (bits f 0 4)) (λ f s. insns.AddWide false (bits s 8 4) (bits f 0 4) (imm12_of f s))
+addw = row_but "1111 0i10 0000 nnnn | 0iii dddd iiii iiii" (λ x. (x "n" 15 ∷ []) ∷ []) (λ v. can_add (v "d") (v "n")) (λ v. insns.AddWide false (v "d") (v "n") (v "i"))
 
--- 11110 i 10 1010 nnnn | 0 iii dddd iiiiiiii: subw rd, rn, #i
+-- subw rd, rn, #i
 abbrev pub subw : TableRow
-subw = wide 0xfbf0 0xf2a0 0x8000 0x0000 ((first 0 4 15 ∷ []) ∷ []) (λ f s. can_add (bits s 8 4) (bits f 0 4)) (λ f s. insns.AddWide true (bits s 8 4) (bits f 0 4) (imm12_of f s))
+subw = row_but "1111 0i10 1010 nnnn | 0iii dddd iiii iiii" (λ x. (x "n" 15 ∷ []) ∷ []) (λ v. can_add (v "d") (v "n")) (λ v. insns.AddWide true (v "d") (v "n") (v "i"))
 
--- 11110 i 10 0000 1111 | 0 iii dddd iiiiiiii: adr.w rd, target, after the instruction
+-- adr.w rd, target, after the instruction
 abbrev pub adr_after : TableRow
-adr_after = wide 0xfbff 0xf20f 0x8000 0x0000 [] (λ f s. plain (bits s 8 4)) (λ f s. insns.Adr (bits s 8 4) (pos (imm12_of f s)))
+adr_after = row "1111 0i10 0000 1111 | 0iii dddd iiii iiii" (λ v. plain (v "d")) (λ v. insns.Adr (v "d") (pos (v "i")))
 
--- 11110 i 10 1010 1111 | 0 iii dddd iiiiiiii: adr.w rd, target, before the instruction
+-- adr.w rd, target, before the instruction
 abbrev pub adr_before : TableRow
-adr_before = wide 0xfbff 0xf2af 0x8000 0x0000 [] (λ f s. plain (bits s 8 4)) (λ f s. insns.Adr (bits s 8 4) (neg_ℤ (pos (imm12_of f s))))
+adr_before = row "1111 0i10 1010 1111 | 0iii dddd iiii iiii" (λ v. plain (v "d")) (λ v. insns.Adr (v "d") (neg_ℤ (pos (v "i"))))
 
--- 11110 i 10 t100 jjjj | 0 iii dddd iiiiiiii: movw rd, #j:i; movt
+-- movw rd, #j:i; movt
 abbrev pub movw : TableRow
-movw = wide 0xfb70 0xf240 0x8000 0x0000 [] (λ f s. plain (bits s 8 4)) (λ f s. insns.MovWide (is_one (bits f 7 1)) (bits s 8 4) (bits f 0 4 * 4096 + imm12_of f s))
+movw = row "1111 0i10 t100 jjjj | 0iii dddd iiii iiii" (λ v. plain (v "d")) (λ v. insns.MovWide (is_one (v "t")) (v "d") (v "j" * 4096 + v "i"))
 
--- 11110011 00 s0 nnnn | 0 iii dddd ii 0 bbbbb: ssat rd, #b + 1, rn, shift; asr by 0 is no code
+-- ssat rd, #b + 1, rn, shift; asr by 0 is no code
 abbrev pub ssat : TableRow
-ssat = wide 0xffd0 0xf300 0x8020 0x0000 [] (λ f s. can_saturate (bits s 8 4) (bits f 0 4) (bits f 5 1) (imm5_of s)) (λ f s. insns.Saturate true (bits s 8 4) (bits f 0 4) (bits s 0 5 + 1) (is_one (bits f 5 1)) (imm5_of s))
+ssat = row "1111 0011 00s0 nnnn | 0iii dddd ii0b bbbb" (λ v. can_saturate (v "d") (v "n") (v "s") (v "i")) (λ v. insns.Saturate true (v "d") (v "n") (v "b" + 1) (is_one (v "s")) (v "i"))
 
--- 11110011 10 s0 nnnn | 0 iii dddd ii 0 bbbbb: usat rd, #b, rn, shift; asr by 0 is no code
+-- usat rd, #b, rn, shift; asr by 0 is no code
 abbrev pub usat : TableRow
-usat = wide 0xffd0 0xf380 0x8020 0x0000 [] (λ f s. can_saturate (bits s 8 4) (bits f 0 4) (bits f 5 1) (imm5_of s)) (λ f s. insns.Saturate false (bits s 8 4) (bits f 0 4) (bits s 0 5) (is_one (bits f 5 1)) (imm5_of s))
+usat = row "1111 0011 10s0 nnnn | 0iii dddd ii0b bbbb" (λ v. can_saturate (v "d") (v "n") (v "s") (v "i")) (λ v. insns.Saturate false (v "d") (v "n") (v "b") (is_one (v "s")) (v "i"))
 
--- 11110011 0100 nnnn | 0 iii dddd ii 0 wwwww: sbfx rd, rn, #i, #w + 1; together at most 32
+-- sbfx rd, rn, #i, #w + 1; together at most 32
 abbrev pub sbfx : TableRow
-sbfx = wide 0xfff0 0xf340 0x8020 0x0000 [] (λ f s. can_extract (bits s 8 4) (bits f 0 4) (imm5_of s) (bits s 0 5)) (λ f s. insns.BitField fields.Sbfx (bits s 8 4) (bits f 0 4) (imm5_of s) (bits s 0 5 + 1))
+sbfx = row "1111 0011 0100 nnnn | 0iii dddd ii0w wwww" (λ v. can_extract (v "d") (v "n") (v "i") (v "w")) (λ v. insns.BitField fields.Sbfx (v "d") (v "n") (v "i") (v "w" + 1))
 
--- 11110011 1100 nnnn | 0 iii dddd ii 0 wwwww: ubfx rd, rn, #i, #w + 1; together at most 32
+-- ubfx rd, rn, #i, #w + 1; together at most 32
 abbrev pub ubfx : TableRow
-ubfx = wide 0xfff0 0xf3c0 0x8020 0x0000 [] (λ f s. can_extract (bits s 8 4) (bits f 0 4) (imm5_of s) (bits s 0 5)) (λ f s. insns.BitField fields.Ubfx (bits s 8 4) (bits f 0 4) (imm5_of s) (bits s 0 5 + 1))
+ubfx = row "1111 0011 1100 nnnn | 0iii dddd ii0w wwww" (λ v. can_extract (v "d") (v "n") (v "i") (v "w")) (λ v. insns.BitField fields.Ubfx (v "d") (v "n") (v "i") (v "w" + 1))
 
--- 111100110110 nnnn | 0 iii dddd ii 0 mmmmm: bfi rd, rn, #i, #m - i + 1
+-- bfi rd, rn, #i, #m - i + 1
 abbrev pub bfi : TableRow
-bfi = wide 0xfff0 0xf360 0x8020 0x0000 ((first 0 4 15 ∷ []) ∷ []) (λ f s. can_insert (bits s 8 4) (bits f 0 4) (imm5_of s) (bits s 0 5)) (λ f s. insns.BitField fields.Bfi (bits s 8 4) (bits f 0 4) (imm5_of s) (bits s 0 5 + 1 - imm5_of s))
+bfi = row_but "1111 0011 0110 nnnn | 0iii dddd ii0m mmmm" (λ x. (x "n" 15 ∷ []) ∷ []) (λ v. can_insert (v "d") (v "n") (v "i") (v "m")) (λ v. insns.BitField fields.Bfi (v "d") (v "n") (v "i") (v "m" + 1 - v "i"))
 
--- 111100110110 1111 | 0 iii dddd ii 0 mmmmm: bfc rd, #i, #m - i + 1
+-- bfc rd, #i, #m - i + 1
 abbrev pub bfc : TableRow
-bfc = wide 0xffff 0xf36f 0x8020 0x0000 [] (λ f s. can_clear (bits s 8 4) (imm5_of s) (bits s 0 5)) (λ f s. insns.BitField fields.Bfc (bits s 8 4) 0 (imm5_of s) (bits s 0 5 + 1 - imm5_of s))
+bfc = row "1111 0011 0110 1111 | 0iii dddd ii0m mmmm" (λ v. can_clear (v "d") (v "i") (v "m")) (λ v. insns.BitField fields.Bfc (v "d") 0 (v "i") (v "m" + 1 - v "i"))

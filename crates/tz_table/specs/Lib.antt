@@ -1,5 +1,6 @@
 pub mod Fields
 pub mod Patterns
+pub mod PatternTexts
 pub mod Forms
 pub mod Rows
 pub mod Terms

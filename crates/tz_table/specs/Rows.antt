@@ -1,6 +1,8 @@
 -- A row of the instruction table, what it holds, and how a code is looked up.
-use Rattle.std.specs.Prelude.{ℕ, zero, suc, Bool, true, false, ◌==◌, ◌&&◌, List, [], ◌∷◌, if◌then◌else◌}
+use Rattle.std.specs.Prelude.{ℕ, zero, suc, Bool, true, false, ◌==◌, ◌&&◌, List, [], ◌∷◌, codes, length, if◌then◌else◌}
+use Prim.Native.String.{String}
 use Rattle.tz_table.specs.Patterns.{Cube, Field, Pattern, fits, has_any, in_cube}
+use Rattle.tz_table.specs.PatternTexts.{bits_in, cube_of, has_value, number_in}
 use Rattle.tz_table.specs.Forms.{form_of}
 use Rattle.tz_table.specs.declared.rows.Row.{Row}
 use Rattle.tz_table.specs.declared.units.Width.{Width}
@@ -37,20 +39,30 @@ scan rs (r ∷ rest) f s = if holds r f s then One (r.insn f s) r.width else sca
 
 -- ---- how rows are written
 
-abbrev pub cube : ℕ → ℕ → ℕ → ℕ → Cube
-cube a b c d = record { first_mask = a; first_value = b; second_mask = c; second_value = d }
-
--- a row of 16 bits: mask, value, values of other rows, limits, instruction
-abbrev pub narrow : ℕ → ℕ → List (List Field) → (ℕ → Bool) → (ℕ → Insn) → TableRow
-narrow mask value others limits insn = record { pattern = record { cube = cube mask value 0 0; excepts = others }; width = Narrow; limits = λ f s. limits f; insn = λ f s. insn f }
-
--- a row of 32 bits: mask and value of either halfword, and the same
-abbrev pub wide : ℕ → ℕ → ℕ → ℕ → List (List Field) → (ℕ → ℕ → Bool) → (ℕ → ℕ → Insn) → TableRow
-wide mask value mask2 value2 others limits insn = record { pattern = record { cube = cube mask value mask2 value2; excepts = others }; width = Wide; limits = limits; insn = insn }
-
 -- no limit
-abbrev pub always : ℕ → ℕ → Bool
-always f s = true
+abbrev pub any : (String → ℕ) → Bool
+any v = true
+
+-- a row by the bits of its pattern, the fields that other rows have, its limits and its instruction
+abbrev pub table_row : List ℕ → List (List Field) → (ℕ → ℕ → Bool) → (ℕ → ℕ → Insn) → TableRow
+table_row p others limits insn = record { pattern = record { cube = cube_of p; excepts = others }; width = if length p == 16 then Narrow else Wide; limits = limits; insn = insn }
+
+-- the text of a pattern, the limits and the instruction: `v "d"` is the number in the bits of the letter d, and that
+-- of several letters has their bits one after the other, as `v "i00"` is four times that of i
+abbrev pub row : String → ((String → ℕ) → Bool) → ((String → ℕ) → Insn) → TableRow
+row pattern limits insn = let p = bits_in (codes pattern) in table_row p [] (λ f s. limits (number_in p f s)) (λ f s. insn (number_in p f s))
+
+-- a row without the codes of other rows, told by values of fields: `x "n" 15` is a 15 in the bits of the letter n
+abbrev pub row_but : String → ((String → ℕ → Field) → List (List Field)) → ((String → ℕ) → Bool) → ((String → ℕ) → Insn) → TableRow
+row_but pattern others limits insn = let p = bits_in (codes pattern) in table_row p (others (has_value p)) (λ f s. limits (number_in p f s)) (λ f s. insn (number_in p f s))
+
+-- a row whose limits or instruction speak of the halfwords themselves
+abbrev pub row_at : String → ((String → ℕ) → ℕ → ℕ → Bool) → ((String → ℕ) → ℕ → ℕ → Insn) → TableRow
+row_at pattern limits insn = let p = bits_in (codes pattern) in table_row p [] (λ f s. limits (number_in p f s) f s) (λ f s. insn (number_in p f s) f s)
+
+-- codes that no row holds, by the text of their pattern
+abbrev pub refusal : String → Decoded → RefusedCodes
+refusal pattern answer = record { cube = cube_of (bits_in (codes pattern)); answer = answer }
 
 -- ---- rows as data
 

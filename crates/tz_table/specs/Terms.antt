@@ -55,8 +55,12 @@ abbrev pub indexed : ℕ → ℕ → ℕ → ℤ → Address
 indexed p w rn offset = if w == 1 then (if p == 1 then addresses.Pre rn offset else addresses.Post rn offset) else addresses.Offset rn offset
 
 -- 25 bits: the sign, J and K, each inverted where the sign is 0, ten bits, eleven bits, and a 0
+abbrev pub far_by : (s j k h i : ℕ) → ℕ
+far_by s j k h i = s * 2 ^ 24 + (1 - (j + s) % 2) * 2 ^ 23 + (1 - (k + s) % 2) * 2 ^ 22 + h * 2 ^ 12 + i * 2
+
+-- that of a wide B or BL
 abbrev pub far_offset : ℕ → ℕ → ℕ
-far_offset f s = bits f 10 1 * 2 ^ 24 + (1 - (bits s 13 1 + bits f 10 1) % 2) * 2 ^ 23 + (1 - (bits s 11 1 + bits f 10 1) % 2) * 2 ^ 22 + bits f 0 10 * 2 ^ 12 + bits s 0 11 * 2
+far_offset f s = far_by (bits f 10 1) (bits s 13 1) (bits s 11 1) (bits f 0 10) (bits s 0 11)
 
 -- S:K:J:i6:i11:0, 21 bits
 abbrev pub condition_offset : ℕ → ℕ → ℕ

@@ -1,12 +1,17 @@
 -- The instructions of the rows of 32 bits that branch or work on the system have a text.
-use Rattle.std.proofs.Common.{arith, refl}
+use Rattle.std.proofs.Common.{ℕ, ◌<◌, arith, refl}
+use Rattle.tz_table.specs.Fields.{bits}
 use Rattle.tz_table.specs.BranchRows as rows
 use Rattle.tz_table.specs.declared.units.Width.TheVariants.{Wide}
 use Rattle.tz_text.proofs.TextForms.{excepts_from, wide_branch_if_text, wide_hint_text}
 use Rattle.tz_text.proofs.TextGroups.{IsSpelled, in_branches, in_system}
 
+-- a condition has four bits
+condition_below : (f : ℕ) → bits f 6 4 < 16
+condition_below f = omega arith
+
 pub bcond_w : IsSpelled rows.bcond_w
-bcond_w f s h = wide_branch_if_text _ _ (omega arith) (excepts_from rows.bcond_w f s h)
+bcond_w f s h = wide_branch_if_text (bits f 6 4) _ (condition_below f) (excepts_from rows.bcond_w f s h)
 
 pub branch_w : IsSpelled rows.branch_w
 branch_w f s _ = in_branches (rows.branch_w.insn f s) Wide refl
