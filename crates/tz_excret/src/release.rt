@@ -10,9 +10,10 @@ use tz_frames::Returning;
 use tz_model::{Side, Slot};
 use tz_nvic::Exceptions;
 use tz_regs::{Core, Masks};
+use tz_state::exception::{HARD_FAULT, NMI};
 
 const HARD_S: Slot = Slot {
-    number: 3,
+    number: HARD_FAULT,
     side: Side::Secure,
 };
 
@@ -30,7 +31,7 @@ fn urgent_slot(exceptions: &Exceptions, raw: u32) -> Slot
 {
     if raw == 2 {
         Slot {
-            number: 2,
+            number: NMI,
             side: Side::Secure,
         }
     } else if raw == 1 {
@@ -39,7 +40,7 @@ fn urgent_slot(exceptions: &Exceptions, raw: u32) -> Slot
         HARD_S
     } else {
         Slot {
-            number: 3,
+            number: HARD_FAULT,
             side: Side::NonSecure,
         }
     }
@@ -62,7 +63,7 @@ pub(crate) fn free(exceptions: &mut Exceptions, slot: Slot)
 fn keeps_faultmask(core: &Core, exceptions: &Exceptions) -> bool
     ensures { result ≡ keeps_faultmask core.now exceptions.now }
 {
-    core.registers.ipsr == 2 || is_urgent(exceptions)
+    core.registers.ipsr == NMI || is_urgent(exceptions)
 }
 
 /// Clears FAULTMASK of a side, unless it stays.

@@ -1,6 +1,7 @@
 //! The vector of an exception, and the core that handles it (DDI0553, `ExceptionTaken`).
 
 ghost use Rattle.std.specs.Prelude.{◌≡◌, true, ◌==◌, ◌||◌, nat_lt};
+ghost use Rattle.tz_state.specs.ExceptionNumbers.{hard_fault};
 ghost use Rattle.tz_state.specs.Slots.{exists};
 ghost use Rattle.tz_state.specs.SlotChanges.{pended};
 ghost use Rattle.tz_state.specs.Escalation.{hard_side};
@@ -18,6 +19,7 @@ use tz_model::{Profile, Side, Slot};
 use tz_nvic::Exceptions;
 use tz_prio::can_take;
 use tz_regs::{Apsr, Core, Registers};
+use tz_state::exception::{HARD_FAULT, NMI};
 
 const NO_FLAGS: Apsr = Apsr {
     n: false,
@@ -115,7 +117,7 @@ fn can_take_hard(core: &Core, exceptions: &Exceptions, side: Side) -> bool
             core,
             exceptions,
             Slot {
-                number: 3,
+                number: HARD_FAULT,
                 side: Side::Secure,
             },
         ),
@@ -123,7 +125,7 @@ fn can_take_hard(core: &Core, exceptions: &Exceptions, side: Side) -> bool
             core,
             exceptions,
             Slot {
-                number: 3,
+                number: HARD_FAULT,
                 side: Side::NonSecure,
             },
         ),
@@ -134,7 +136,7 @@ fn can_take_hard(core: &Core, exceptions: &Exceptions, side: Side) -> bool
 fn is_last_resort(slot: Slot) -> bool
     ensures { result ≡ is_last_resort slot }
 {
-    slot.number == 2 || slot.number == 3
+    slot.number == NMI || slot.number == HARD_FAULT
 }
 
 /// Whether HardFault can be taken in place of an exception whose vector can't be read.
@@ -147,13 +149,16 @@ fn can_harden(core: &Core, exceptions: &Exceptions, slot: Slot) -> bool
 /// A vector can't be read: HFSR.VECTTBL is set, and HardFault pends.
 fn fail_vector(core: &mut Core, exceptions: &mut Exceptions, slot: Slot) -> Choice
     ensures core { core.new ≡ with_status core.old (with_hfsr 2 core.old.status) }
-    ensures exceptions { exceptions.new ≡ pended exceptions.old (slot_of 3 (hard_side exceptions.old slot.side)) }
+    ensures exceptions { exceptions.new ≡ pended exceptions.old (slot_of hard_fault (hard_side exceptions.old slot.side)) }
     ensures result { result ≡ vector_choice (can_harden core.old exceptions.old slot) }
 {
     let taken = can_harden(core, exceptions, slot);
     let side = hard_side(exceptions, slot.side);
     set_hfsr(&mut core.status, 0x2);
-    exceptions.pend(Slot { number: 3, side });
+    exceptions.pend(Slot {
+        number: HARD_FAULT,
+        side,
+    });
     if taken { Choice::Again } else { Choice::Lockup }
 }
 

@@ -12,6 +12,7 @@ use Rattle.tz_regs.specs.declared.parts.Stacks.{Stacks}
 use Rattle.tz_regs.specs.Banks.{stacks_of, with_stacks}
 use Rattle.tz_regs.specs.Registers.{is_handler}
 use Rattle.tz_regs.specs.Special.{number_of}
+use Rattle.tz_state.specs.ExceptionNumbers.{nmi, hard_fault}
 use Rattle.tz_state.specs.Slots.{ExceptionsValue}
 use Rattle.tz_state.specs.SlotChanges.{pended, activated}
 use Rattle.tz_state.specs.Priority.{hard_priority, chosen}
@@ -74,7 +75,7 @@ handling profile c x given vector =
 
 -- NMI and HardFault
 abbrev pub is_last_resort : Slot → Bool
-is_last_resort given = given.number == 2 || given.number == 3
+is_last_resort given = given.number == nmi || given.number == hard_fault
 
 -- where a vector fails: the choice is made again where HardFault can be taken in its place
 abbrev pub vector_choice : Bool → Choice
@@ -89,7 +90,7 @@ vector_failed w given =
     record {
       work = record w {
         core = with_status w.core (with_hfsr (2 ^ 1) w.core.status);
-        exceptions = pended w.exceptions (slot 3 (hard_side w.exceptions given.side));
+        exceptions = pended w.exceptions (slot hard_fault (hard_side w.exceptions given.side));
       };
       choice = vector_choice (can_harden w.core w.exceptions given);
     }

@@ -13,6 +13,7 @@ use Rattle.tz_regs.specs.declared.parts.Masks.{Masks}
 use Rattle.tz_regs.specs.declared.parts.Stacks.{Stacks}
 use Rattle.tz_regs.specs.Banks.{of_side, stacks_of, with_stacks, masks_of, with_masks}
 use Rattle.tz_regs.specs.Registers.{sp_of}
+use Rattle.tz_state.specs.ExceptionNumbers.{nmi, hard_fault}
 use Rattle.tz_state.specs.Slots.{ExceptionsValue, at, exists, index_of, side_at, is_banked}
 use Rattle.tz_state.specs.SlotChanges.{deactivated}
 use Rattle.tz_state.specs.Execution.{raw_priority, takes_first}
@@ -95,10 +96,10 @@ is_urgent e = nat_lt (raw_priority e) 4
 -- (own) the one that gives a raw priority; where both HardFaults do, the Secure one
 abbrev pub urgent_slot : ExceptionsValue → ℕ → Slot
 urgent_slot e raw =
-    if raw == 2 then slot 2 Secure
-    else if raw == 1 then slot 3 Secure
-    else if not e.bfhfnmins && (at e (index_of (slot 3 Secure))).active then slot 3 Secure
-    else slot 3 NonSecure
+    if raw == 2 then slot nmi Secure
+    else if raw == 1 then slot hard_fault Secure
+    else if not e.bfhfnmins && (at e (index_of (slot hard_fault Secure))).active then slot hard_fault Secure
+    else slot hard_fault NonSecure
 
 -- a number that has no slot leaves all as it was
 abbrev pub freed : ExceptionsValue → Slot → ExceptionsValue
@@ -109,7 +110,7 @@ freed e given =
 
 -- FAULTMASK of the side of ES is cleared, unless NMI returns or the raw priority was negative
 abbrev pub keeps_faultmask : Core → ExceptionsValue → Bool
-keeps_faultmask c e = c.registers.ipsr == 2 || is_urgent e
+keeps_faultmask c e = c.registers.ipsr == nmi || is_urgent e
 
 abbrev pub unmasked : Bool → Side → Masks → Masks
 unmasked keeps side m = with_masks side m (record (masks_of side m) { faultmask = keeps && (masks_of side m).faultmask })

@@ -6,6 +6,7 @@ ghost use Rattle.tz_state.specs.Priority.{group_size, group_of, counted, hard_pr
 use crate::exceptions::Exceptions;
 use crate::place::number_at;
 use tz_model::Side;
+use tz_state::exception::{HARD_FAULT, NMI};
 
 /// Two to the power n + 1, the size of a group under PRIGROUP n.
 fn power(n: u8) -> u32
@@ -77,9 +78,9 @@ impl Exceptions {
     {
         let number = number_at(index);
         let side = self.side_at(index);
-        if number == 2 {
+        if number == NMI {
             2
-        } else if number == 3 {
+        } else if number == HARD_FAULT {
             self.hard_priority(side)
         } else {
             let group = self.group_of(side, self.slots[index].priority);
@@ -96,7 +97,7 @@ impl Exceptions {
     {
         let number = number_at(index);
         let side = self.side_at(index);
-        if number == 2 || number == 3 {
+        if number == NMI || number == HARD_FAULT {
             0
         } else {
             u32::from(self.slots[index].priority) % self.group_size(side)

@@ -15,6 +15,9 @@ use tz_nvic::Exceptions;
 use tz_ready::Steps;
 use tz_regs::SideStatus;
 use tz_state::SlotState;
+use tz_state::exception::{
+    BUS_FAULT, HARD_FAULT, MEM_MANAGE, NMI, PEND_SV, SECURE_FAULT, SV_CALL, SYS_TICK, USAGE_FAULT,
+};
 
 /// The bit that tells a number of the system active.
 fn active_flag(exceptions: &Exceptions, side: Side, number: u16, bit: u32) -> u32
@@ -88,9 +91,9 @@ pub(crate) fn icsr_value(exceptions: &Exceptions, side: Side, ipsr: u16) -> u32
         | flag(exceptions.returns_to_base(ipsr), 11)
         | pending_number(side, first) * 0x1000
         | flag(exceptions.is_interrupt_pending(), 22)
-        | pending_flag(exceptions, side, 15, 26)
-        | pending_flag(exceptions, side, 14, 28)
-        | pending_flag(exceptions, side, 2, 31)
+        | pending_flag(exceptions, side, SYS_TICK, 26)
+        | pending_flag(exceptions, side, PEND_SV, 28)
+        | pending_flag(exceptions, side, NMI, 31)
 }
 
 /// Pends a number of the system, or makes it not pending, where the view shows it; to do both pends it.
@@ -110,9 +113,9 @@ fn move_pending(exceptions: &mut Exceptions, side: Side, number: u16, set: bool,
 pub(crate) fn write_icsr(exceptions: &mut Exceptions, side: Side, value: u32)
     ensures { exceptions.new ≡ icsr_written side exceptions.old value }
 {
-    move_pending(exceptions, side, 15, is_bit(value, 26), is_bit(value, 25));
-    move_pending(exceptions, side, 14, is_bit(value, 28), is_bit(value, 27));
-    move_pending(exceptions, side, 2, is_bit(value, 31), is_bit(value, 30));
+    move_pending(exceptions, side, SYS_TICK, is_bit(value, 26), is_bit(value, 25));
+    move_pending(exceptions, side, PEND_SV, is_bit(value, 28), is_bit(value, 27));
+    move_pending(exceptions, side, NMI, is_bit(value, 31), is_bit(value, 30));
 }
 
 /// What AIRCR shows; PRIS is Secure alone.
@@ -183,25 +186,25 @@ pub(crate) fn ccr_written(own: SideStatus, value: u32) -> SideStatus
 pub(crate) fn shcsr_value(exceptions: &Exceptions, side: Side) -> u32
     ensures { result ≡ shcsr_value side exceptions.now }
 {
-    active_flag(exceptions, side, 4, 0)
-        | active_flag(exceptions, side, 5, 1)
-        | active_flag(exceptions, side, 3, 2)
-        | active_flag(exceptions, side, 6, 3)
-        | active_flag(exceptions, side, 7, 4)
-        | active_flag(exceptions, side, 2, 5)
-        | active_flag(exceptions, side, 11, 7)
-        | active_flag(exceptions, side, 14, 10)
-        | active_flag(exceptions, side, 15, 11)
-        | pending_flag(exceptions, side, 6, 12)
-        | pending_flag(exceptions, side, 4, 13)
-        | pending_flag(exceptions, side, 5, 14)
-        | pending_flag(exceptions, side, 11, 15)
-        | enabled_flag(exceptions, side, 4, 16)
-        | enabled_flag(exceptions, side, 5, 17)
-        | enabled_flag(exceptions, side, 6, 18)
-        | enabled_flag(exceptions, side, 7, 19)
-        | pending_flag(exceptions, side, 7, 20)
-        | pending_flag(exceptions, side, 3, 21)
+    active_flag(exceptions, side, MEM_MANAGE, 0)
+        | active_flag(exceptions, side, BUS_FAULT, 1)
+        | active_flag(exceptions, side, HARD_FAULT, 2)
+        | active_flag(exceptions, side, USAGE_FAULT, 3)
+        | active_flag(exceptions, side, SECURE_FAULT, 4)
+        | active_flag(exceptions, side, NMI, 5)
+        | active_flag(exceptions, side, SV_CALL, 7)
+        | active_flag(exceptions, side, PEND_SV, 10)
+        | active_flag(exceptions, side, SYS_TICK, 11)
+        | pending_flag(exceptions, side, USAGE_FAULT, 12)
+        | pending_flag(exceptions, side, MEM_MANAGE, 13)
+        | pending_flag(exceptions, side, BUS_FAULT, 14)
+        | pending_flag(exceptions, side, SV_CALL, 15)
+        | enabled_flag(exceptions, side, MEM_MANAGE, 16)
+        | enabled_flag(exceptions, side, BUS_FAULT, 17)
+        | enabled_flag(exceptions, side, USAGE_FAULT, 18)
+        | enabled_flag(exceptions, side, SECURE_FAULT, 19)
+        | pending_flag(exceptions, side, SECURE_FAULT, 20)
+        | pending_flag(exceptions, side, HARD_FAULT, 21)
 }
 
 /// Enables or disables a number of the system, where the view shows it.
@@ -228,8 +231,8 @@ fn enable(exceptions: &mut Exceptions, side: Side, number: u16, on: bool)
 pub(crate) fn write_shcsr(exceptions: &mut Exceptions, side: Side, value: u32)
     ensures { exceptions.new ≡ shcsr_written side exceptions.old value }
 {
-    enable(exceptions, side, 4, is_bit(value, 16));
-    enable(exceptions, side, 5, is_bit(value, 17));
-    enable(exceptions, side, 6, is_bit(value, 18));
-    enable(exceptions, side, 7, is_bit(value, 19));
+    enable(exceptions, side, MEM_MANAGE, is_bit(value, 16));
+    enable(exceptions, side, BUS_FAULT, is_bit(value, 17));
+    enable(exceptions, side, USAGE_FAULT, is_bit(value, 18));
+    enable(exceptions, side, SECURE_FAULT, is_bit(value, 19));
 }

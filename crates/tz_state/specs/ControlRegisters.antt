@@ -8,6 +8,7 @@ use Rattle.tz_model.specs.declared.report.Slot.{Slot}
 use Rattle.tz_model.specs.Words.{is_nonsecure_side}
 use Rattle.tz_regs.specs.declared.parts.SideStatus.{SideStatus}
 use Rattle.tz_state.specs.declared.slot.SlotState.{SlotState}
+use Rattle.tz_state.specs.ExceptionNumbers.{nmi, hard_fault, mem_manage, bus_fault, usage_fault, secure_fault, sv_call, pend_sv, sys_tick}
 use Rattle.tz_state.specs.Slots.{ExceptionsValue, at, places, number_at, index_of}
 use Rattle.tz_state.specs.SlotChanges.{is_fault_side_held}
 use Rattle.tz_state.specs.Priority.{chosen}
@@ -28,7 +29,7 @@ sees_secure NonSecure = false
 
 abbrev pub sees_number : Side → ExceptionsValue → ℕ → Bool
 sees_number side e n =
-    if n == 7 then sees_secure side else if n == 2 || n == 5 then sees_bus side e.bfhfnmins else true
+    if n == secure_fault then sees_secure side else if n == nmi || n == bus_fault then sees_bus side e.bfhfnmins else true
 
 -- the place of a number below 16 in the view of a side
 abbrev pub place_of : Side → ℕ → ℕ
@@ -79,9 +80,9 @@ icsr_value side e ipsr =
     ∷ Bit 11 (returns_to_base e ipsr)
     ∷ Field 12 (pending_number side (chosen e))
     ∷ Bit 22 (is_interrupt_pending e)
-    ∷ Bit 26 (shows_pending side e 15)
-    ∷ Bit 28 (shows_pending side e 14)
-    ∷ Bit 31 (shows_pending side e 2)
+    ∷ Bit 26 (shows_pending side e sys_tick)
+    ∷ Bit 28 (shows_pending side e pend_sv)
+    ∷ Bit 31 (shows_pending side e nmi)
     ∷ [])
 
 -- a number that the view shows is pended, or made not pending; (own) to do both pends it
@@ -91,9 +92,9 @@ pends side e n set clear =
 
 unfoldable pub icsr_written : Side → ExceptionsValue → ℕ → ExceptionsValue
 icsr_written side e value =
-    let systick = pends side e 15 (is_bit value 26) (is_bit value 25) in
-    let pendsv = pends side systick 14 (is_bit value 28) (is_bit value 27) in
-    pends side pendsv 2 (is_bit value 31) (is_bit value 30)
+    let systick = pends side e sys_tick (is_bit value 26) (is_bit value 25) in
+    let pendsv = pends side systick pend_sv (is_bit value 28) (is_bit value 27) in
+    pends side pendsv nmi (is_bit value 31) (is_bit value 30)
 
 -- ---- AIRCR
 
@@ -130,7 +131,9 @@ ccr_written c value = record c { ccr = bit_and value 0x18 }
 
 -- the numbers with a priority that can be written
 abbrev pub has_byte : ℕ → Bool
-has_byte n = n == 4 || (n == 5 || (n == 6 || (n == 7 || (n == 11 || (n == 14 || n == 15)))))
+has_byte n =
+    n == mem_manage
+    || (n == bus_fault || (n == usage_fault || (n == secure_fault || (n == sv_call || (n == pend_sv || n == sys_tick)))))
 
 abbrev pub byte_seen : Side → ExceptionsValue → ℕ → ℕ
 byte_seen side e n = if has_byte n && sees_number side e n then (slot_seen side e n).priority else 0
@@ -155,25 +158,25 @@ shpr_written side e n value =
 abbrev pub shcsr_value : Side → ExceptionsValue → ℕ
 shcsr_value side e =
     word_of (
-    Bit 0 (shows_active side e 4)
-    ∷ Bit 1 (shows_active side e 5)
-    ∷ Bit 2 (shows_active side e 3)
-    ∷ Bit 3 (shows_active side e 6)
-    ∷ Bit 4 (shows_active side e 7)
-    ∷ Bit 5 (shows_active side e 2)
-    ∷ Bit 7 (shows_active side e 11)
-    ∷ Bit 10 (shows_active side e 14)
-    ∷ Bit 11 (shows_active side e 15)
-    ∷ Bit 12 (shows_pending side e 6)
-    ∷ Bit 13 (shows_pending side e 4)
-    ∷ Bit 14 (shows_pending side e 5)
-    ∷ Bit 15 (shows_pending side e 11)
-    ∷ Bit 16 (shows_enabled side e 4)
-    ∷ Bit 17 (shows_enabled side e 5)
-    ∷ Bit 18 (shows_enabled side e 6)
-    ∷ Bit 19 (shows_enabled side e 7)
-    ∷ Bit 20 (shows_pending side e 7)
-    ∷ Bit 21 (shows_pending side e 3)
+    Bit 0 (shows_active side e mem_manage)
+    ∷ Bit 1 (shows_active side e bus_fault)
+    ∷ Bit 2 (shows_active side e hard_fault)
+    ∷ Bit 3 (shows_active side e usage_fault)
+    ∷ Bit 4 (shows_active side e secure_fault)
+    ∷ Bit 5 (shows_active side e nmi)
+    ∷ Bit 7 (shows_active side e sv_call)
+    ∷ Bit 10 (shows_active side e pend_sv)
+    ∷ Bit 11 (shows_active side e sys_tick)
+    ∷ Bit 12 (shows_pending side e usage_fault)
+    ∷ Bit 13 (shows_pending side e mem_manage)
+    ∷ Bit 14 (shows_pending side e bus_fault)
+    ∷ Bit 15 (shows_pending side e sv_call)
+    ∷ Bit 16 (shows_enabled side e mem_manage)
+    ∷ Bit 17 (shows_enabled side e bus_fault)
+    ∷ Bit 18 (shows_enabled side e usage_fault)
+    ∷ Bit 19 (shows_enabled side e secure_fault)
+    ∷ Bit 20 (shows_pending side e secure_fault)
+    ∷ Bit 21 (shows_pending side e hard_fault)
     ∷ [])
 
 -- (own) a write changes what is enabled, and nothing else
@@ -182,7 +185,7 @@ enables side e n on = with_number side e n (sees_number side e n) (record (slot_
 
 unfoldable pub shcsr_written : Side → ExceptionsValue → ℕ → ExceptionsValue
 shcsr_written side e value =
-    let memory = enables side e 4 (is_bit value 16) in
-    let bus = enables side memory 5 (is_bit value 17) in
-    let usage = enables side bus 6 (is_bit value 18) in
-    enables side usage 7 (is_bit value 19)
+    let memory = enables side e mem_manage (is_bit value 16) in
+    let bus = enables side memory bus_fault (is_bit value 17) in
+    let usage = enables side bus usage_fault (is_bit value 18) in
+    enables side usage secure_fault (is_bit value 19)

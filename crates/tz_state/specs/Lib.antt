@@ -3,6 +3,7 @@ pub mod Zeros
 pub mod Regions
 pub mod Attribution
 pub mod Protection
+pub mod ExceptionNumbers
 pub mod Slots
 pub mod SlotChanges
 pub mod Timers

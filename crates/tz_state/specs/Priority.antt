@@ -4,6 +4,7 @@ use Rattle.std.specs.Prelude.{ℕ, ◌+◌, ◌*◌, ◌/◌, ◌%◌, ◌^◌, 
 use Rattle.tz_table.specs.declared.units.Side.{Side}
 use Rattle.tz_table.specs.declared.units.Side.TheVariants.{Secure, NonSecure}
 use Rattle.tz_model.specs.declared.report.Slot.{Slot}
+use Rattle.tz_state.specs.ExceptionNumbers.{nmi, hard_fault}
 use Rattle.tz_state.specs.Slots.{ExceptionsValue, at, places, is_place, number_at, side_at, slot_at, is_enabled, is_fixed, prigroup_of}
 use Rattle.tz_state.specs.Least.{least_below}
 
@@ -32,8 +33,8 @@ hard_priority e NonSecure = 3
 -- the group priority of the slot at a place; NMI has -2
 unfoldable pub priority_of : ExceptionsValue → ℕ → ℕ
 priority_of e i =
-    if number_at i == 2 then 2
-    else if number_at i == 3 then hard_priority e (side_at e i)
+    if number_at i == nmi then 2
+    else if number_at i == hard_fault then hard_priority e (side_at e i)
     else 4 + counted e (side_at e i) (group_of e (side_at e i) (at e i).priority)
 
 -- what decides among equal group priorities
