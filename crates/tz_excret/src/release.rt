@@ -10,7 +10,9 @@ use tz_frames::Returning;
 use tz_model::{Side, Slot};
 use tz_nvic::Exceptions;
 use tz_regs::{Core, Masks};
-use tz_state::exception::{HARD_FAULT, NMI};
+use tz_state::exception::{
+    HARD_FAULT, NMI, NMI_PRIORITY, SECURE_HARD_FAULT_PRIORITY, ZERO_PRIORITY,
+};
 
 const HARD_S: Slot = Slot {
     number: HARD_FAULT,
@@ -21,7 +23,7 @@ const HARD_S: Slot = Slot {
 fn is_urgent(exceptions: &Exceptions) -> bool
     ensures { result ≡ is_urgent exceptions.now }
 {
-    exceptions.raw_priority() < 4
+    exceptions.raw_priority() < ZERO_PRIORITY
 }
 
 /// The one of NMI and the HardFaults that gives a raw priority; where both HardFaults do, the Secure one.
@@ -29,12 +31,12 @@ fn urgent_slot(exceptions: &Exceptions, raw: u32) -> Slot
     ensures is { result ≡ urgent_slot exceptions.now raw }
     ensures exists { exists exceptions.now result ≡ true }
 {
-    if raw == 2 {
+    if raw == NMI_PRIORITY {
         Slot {
             number: NMI,
             side: Side::Secure,
         }
-    } else if raw == 1 {
+    } else if raw == SECURE_HARD_FAULT_PRIORITY {
         HARD_S
     } else if !exceptions.fault_side() && exceptions.active(HARD_S) {
         HARD_S
@@ -52,7 +54,7 @@ pub(crate) fn free(exceptions: &mut Exceptions, slot: Slot)
     ensures { exceptions.new ≡ freed exceptions.old slot }
 {
     let raw = exceptions.raw_priority();
-    if raw < 4 {
+    if raw < ZERO_PRIORITY {
         exceptions.deactivate(urgent_slot(exceptions, raw));
     } else if exceptions.exists(slot) {
         exceptions.deactivate(slot);

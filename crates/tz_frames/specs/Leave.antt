@@ -16,6 +16,7 @@ use Rattle.tz_regs.specs.Registers.{sp_of}
 use Rattle.tz_state.specs.ExceptionNumbers.{nmi, hard_fault}
 use Rattle.tz_state.specs.Slots.{ExceptionsValue, at, exists, index_of, side_at, is_banked}
 use Rattle.tz_state.specs.SlotChanges.{deactivated}
+use Rattle.tz_state.specs.Priority.{zero_priority, nmi_priority, secure_hard_fault_priority}
 use Rattle.tz_state.specs.Execution.{raw_priority, takes_first}
 use Rattle.tz_frames.specs.Looks.{Looking}
 use Rattle.tz_frames.specs.declared.frame.StackFault.{StackFault}
@@ -91,13 +92,13 @@ noted c e value =
 
 -- the raw priority is negative: NMI or a HardFault is active
 abbrev pub is_urgent : ExceptionsValue → Bool
-is_urgent e = nat_lt (raw_priority e) 4
+is_urgent e = nat_lt (raw_priority e) zero_priority
 
 -- (own) the one that gives a raw priority; where both HardFaults do, the Secure one
 abbrev pub urgent_slot : ExceptionsValue → ℕ → Slot
 urgent_slot e raw =
-    if raw == 2 then slot nmi Secure
-    else if raw == 1 then slot hard_fault Secure
+    if raw == nmi_priority then slot nmi Secure
+    else if raw == secure_hard_fault_priority then slot hard_fault Secure
     else if not e.bfhfnmins && (at e (index_of (slot hard_fault Secure))).active then slot hard_fault Secure
     else slot hard_fault NonSecure
 
