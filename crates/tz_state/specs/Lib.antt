@@ -18,6 +18,7 @@ pub mod UnitRegisters
 pub mod Pieces
 pub mod TimerRegisters
 pub mod NvicRegisters
+pub mod ControlBits
 pub mod ControlRegisters
 pub mod FaultRegisters
 pub mod SystemRegisters
