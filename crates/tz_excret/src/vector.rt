@@ -14,6 +14,10 @@ ghost use Rattle.tz_frames.specs.Enter.{Work, exc_return, dcrs_of, handling, is_
 use crate::raise::hard_side;
 use crate::sides::{is_secure, set_spsel};
 use crate::status::set_hfsr;
+use tz_frames::return_bits::{
+    EXC_RETURN_DCRS, EXC_RETURN_FTYPE, EXC_RETURN_MODE, EXC_RETURN_ONES, EXC_RETURN_S,
+    EXC_RETURN_SPSEL,
+};
 use tz_frames::{Choice, Entering, Frames};
 use tz_model::{Profile, Side, Slot};
 use tz_nvic::Exceptions;
@@ -82,12 +86,12 @@ fn dcrs_of(entry: &Entering, side: Side) -> bool
 fn exc_return(entry: &Entering, spsel: bool, side: Side) -> u32
     ensures { result ≡ exc_return entry.now spsel side }
 {
-    0xFFFF_FF80
-        + 0x40 * u32::from(entry.secure)
-        + 0x20 * u32::from(dcrs_of(entry, side))
-        + 0x10
-        + 0x8 * u32::from(entry.thread)
-        + 0x4 * u32::from(spsel)
+    EXC_RETURN_ONES
+        + EXC_RETURN_S * u32::from(entry.secure)
+        + EXC_RETURN_DCRS * u32::from(dcrs_of(entry, side))
+        + EXC_RETURN_FTYPE
+        + EXC_RETURN_MODE * u32::from(entry.thread)
+        + EXC_RETURN_SPSEL * u32::from(spsel)
         + u32::from(is_secure(side))
 }
 

@@ -18,6 +18,7 @@ use Rattle.tz_state.specs.SlotChanges.{pended, activated}
 use Rattle.tz_state.specs.Priority.{hard_priority, chosen}
 use Rattle.tz_state.specs.Execution.{execution}
 use Rattle.tz_state.specs.Escalation.{hard_side}
+use Rattle.tz_frames.specs.ReturnBits.{exc_return_ones, exc_return_spsel, exc_return_mode, exc_return_ftype, exc_return_dcrs, exc_return_s}
 use Rattle.tz_frames.specs.Looks.{Looking, Vector}
 use Rattle.tz_frames.specs.declared.frame.StackFault.{StackFault}
 use Rattle.tz_frames.specs.declared.entering.Entering.{Entering}
@@ -53,8 +54,8 @@ dcrs_of x side = if x.fell then is_nonsecure_side side else x.dcrs
 -- EXC_RETURN: ones from bit 7 up, S, DCRS, FType 1, Mode, SPSEL, and ES
 abbrev pub exc_return : Entering → Bool → Side → ℕ
 exc_return x spsel side =
-    0xFFFFFF80 + 2 ^ 6 * number_of x.secure + 2 ^ 5 * number_of (dcrs_of x side) + 2 ^ 4 + 2 ^ 3 * number_of x.thread + 2 ^ 2 * number_of spsel
-    + number_of (is_secure side)
+    exc_return_ones + 2 ^ exc_return_s * number_of x.secure + 2 ^ exc_return_dcrs * number_of (dcrs_of x side) + 2 ^ exc_return_ftype
+    + 2 ^ exc_return_mode * number_of x.thread + 2 ^ exc_return_spsel * number_of spsel + number_of (is_secure side)
 
 -- the core that handles an exception, from its vector
 abbrev pub handling : Profile → Core → Entering → Slot → ℕ → Core
