@@ -26,5 +26,6 @@ pub mod RegisterTable
 pub mod Views
 pub mod Access
 pub mod Fetch
+pub mod TargetBits
 pub mod Target
 pub mod Difference
