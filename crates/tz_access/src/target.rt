@@ -4,10 +4,23 @@ ghost use Rattle.std.specs.Prelude.{◌≡◌, ◌*◌, ◌+◌, ◌<◌, ◌≤
 ghost use Rattle.tz_regs.specs.Special.{number_of};
 ghost use Rattle.tz_state.specs.Target.{examined, learns, may, told_at, mregion, common_part, sregion, is_open_to, secure_part, target_word};
 ghost use Rattle.tz_state.specs.Attribution.{idau_region};
+ghost use Rattle.tz_state.specs.TargetBits.{tt_mregion, tt_mrvalid, tt_sregion, tt_srvalid, tt_iregion, tt_irvalid};
 
 use crate::bus::Bus;
 use tz_model::Side;
 use tz_state::{Kind, Probe};
+
+// The bits of the word, each as the word that has it alone; a field is told by its lowest bit.
+const TT_SREGION: u32 = 1 << 8;
+const TT_MRVALID: u32 = 1 << 16;
+const TT_SRVALID: u32 = 1 << 17;
+const TT_R: u32 = 1 << 18;
+const TT_RW: u32 = 1 << 19;
+const TT_NSR: u32 = 1 << 20;
+const TT_NSRW: u32 = 1 << 21;
+const TT_S: u32 = 1 << 22;
+const TT_IRVALID: u32 = 1 << 23;
+const TT_IREGION: u32 = 1 << 24;
 
 /// What the SAU and the board tell of an address.
 #[derive(Clone, Copy)]
@@ -25,36 +38,36 @@ fn flag(bit: u32, on: bool) -> u32
     if on { bit } else { 0 }
 }
 
-/// MREGION in bits 7:0 and MRVALID in bit 16.
+/// MREGION, the lowest field, and MRVALID.
 fn mregion_bits(region: Option<u8>) -> u32
-    ensures value { result ≡ told_at 0 16 region }
+    ensures value { result ≡ told_at tt_mregion tt_mrvalid region }
     ensures fits { result ≤ 0x100FF }
 {
     match region {
         None => 0,
-        Some(number) => u32::from(number) + 0x1_0000,
+        Some(number) => u32::from(number) + TT_MRVALID,
     }
 }
 
-/// SREGION in bits 15:8 and SRVALID in bit 17.
+/// SREGION and SRVALID.
 fn sregion_bits(region: Option<u8>) -> u32
-    ensures value { result ≡ told_at 8 17 region }
+    ensures value { result ≡ told_at tt_sregion tt_srvalid region }
     ensures fits { result ≤ 0x2FF00 }
 {
     match region {
         None => 0,
-        Some(number) => u32::from(number) * 0x100 + 0x2_0000,
+        Some(number) => u32::from(number) * TT_SREGION + TT_SRVALID,
     }
 }
 
-/// IREGION in bits 31:24 and IRVALID in bit 23.
+/// IREGION and IRVALID.
 fn iregion_bits(region: Option<u8>) -> u32
-    ensures value { result ≡ told_at 24 23 region }
+    ensures value { result ≡ told_at tt_iregion tt_irvalid region }
     ensures fits { result ≤ 0xFF800000 }
 {
     match region {
         None => 0,
-        Some(number) => u32::from(number) * 0x100_0000 + 0x80_0000,
+        Some(number) => u32::from(number) * TT_IREGION + TT_IRVALID,
     }
 }
 
@@ -114,8 +127,8 @@ impl Bus {
         ensures fits { result ≤ 0xD00FF }
     {
         mregion_bits(self.mregion(probe))
-            + flag(0x4_0000, self.may(probe, Kind::Read))
-            + flag(0x8_0000, self.may(probe, Kind::Write))
+            + flag(TT_R, self.may(probe, Kind::Read))
+            + flag(TT_RW, self.may(probe, Kind::Write))
     }
 
     /// What the SAU and the board tell: SREGION, IREGION, and whether the address is Non-secure.
@@ -140,9 +153,9 @@ impl Bus {
     {
         let told = self.attributed(probe);
         sregion_bits(told.sregion)
-            + flag(0x10_0000, self.may(probe, Kind::Read) & told.nonsecure)
-            + flag(0x20_0000, self.may(probe, Kind::Write) & told.nonsecure)
-            + flag(0x40_0000, !told.nonsecure)
+            + flag(TT_NSR, self.may(probe, Kind::Read) & told.nonsecure)
+            + flag(TT_NSRW, self.may(probe, Kind::Write) & told.nonsecure)
+            + flag(TT_S, !told.nonsecure)
             + iregion_bits(told.iregion)
     }
 

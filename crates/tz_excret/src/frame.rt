@@ -6,6 +6,7 @@ ghost use Rattle.tz_frames.specs.Registers.{number_in, general_of, resumed_regis
 ghost use Rattle.tz_frames.specs.Leave.{has_callee, returns_to_process, returns_privileged, return_sp, unstacked, frames_size, sp_above, resumed, modes_agree};
 
 use crate::sides::side_by;
+use tz_frames::return_bits::{RETPSR_IT_HIGH, RETPSR_IT_LOW, RETPSR_SPREALIGN, RETPSR_T};
 use tz_frames::{Basic, Callee, Frames, Returning, Unstacked};
 use tz_regs::{Apsr, Core, Registers};
 use tz_stack::{StackFault, pop_additional, pop_basic, set_side_sp};
@@ -106,8 +107,8 @@ fn resume_registers(registers: &mut Registers, unstacked: &Unstacked)
     registers.lr = basic.lr;
     registers.pc = basic.back / 2 * 2;
     registers.apsr = flags_of(retpsr);
-    registers.it = (retpsr / 0x0200_0000 % 4 + 4 * (retpsr / 0x400 % 64)) as u8;
-    registers.t = retpsr / 0x0100_0000 % 2 == 1;
+    registers.it = (retpsr / RETPSR_IT_LOW % 4 + 4 * (retpsr / RETPSR_IT_HIGH % 64)) as u8;
+    registers.t = retpsr / RETPSR_T % 2 == 1;
     registers.ipsr = (retpsr % 0x200) as u16;
 }
 
@@ -126,7 +127,9 @@ fn frames_size(callee: &Option<Callee>) -> u32
 fn sp_above(sp: u32, unstacked: &Unstacked) -> u32
     ensures { result ≡ sp_above sp unstacked.now }
 {
-    sp.wrapping_add(frames_size(&unstacked.callee) + 4 * (unstacked.basic.retpsr / 0x200 % 2))
+    sp.wrapping_add(
+        frames_size(&unstacked.callee) + 4 * (unstacked.basic.retpsr / RETPSR_SPREALIGN % 2),
+    )
 }
 
 /// The code that was interrupted goes on.

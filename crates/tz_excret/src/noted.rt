@@ -6,6 +6,10 @@ ghost use Rattle.tz_frames.specs.Leave.{is_exc_return, is_set, returning_by, slo
 
 use crate::sides::{is_secure, side_by};
 use tz_frames::Returning;
+use tz_frames::return_bits::{
+    EXC_RETURN_DCRS, EXC_RETURN_ES, EXC_RETURN_FTYPE, EXC_RETURN_MODE, EXC_RETURN_PREFIX,
+    EXC_RETURN_S, EXC_RETURN_SPSEL,
+};
 use tz_model::{Fault, Side, Slot};
 use tz_nvic::Exceptions;
 use tz_regs::Core;
@@ -15,7 +19,7 @@ use tz_regs::Core;
 pub fn is_exc_return(target: u32) -> bool
     ensures { result ≡ is_exc_return target }
 {
-    target / 0x0100_0000 == 0xFF
+    target / EXC_RETURN_PREFIX == 0xFF
 }
 
 /// The bits of an EXC_RETURN value by which code of a side returns.
@@ -23,11 +27,11 @@ pub(crate) fn returning_by(side: Side, value: u32) -> Returning
     ensures { result ≡ returning_by side value }
 {
     Returning {
-        es: is_secure(side) && value % 2 == 1,
-        process: value / 0x4 % 2 == 1,
-        thread: value / 0x8 % 2 == 1,
-        dcrs: value / 0x20 % 2 == 1,
-        secure: value / 0x40 % 2 == 1,
+        es: is_secure(side) && value / EXC_RETURN_ES % 2 == 1,
+        process: value / EXC_RETURN_SPSEL % 2 == 1,
+        thread: value / EXC_RETURN_MODE % 2 == 1,
+        dcrs: value / EXC_RETURN_DCRS % 2 == 1,
+        secure: value / EXC_RETURN_S % 2 == 1,
     }
 }
 
@@ -45,7 +49,7 @@ pub(crate) fn slot_returning(core: &Core, returning: &Returning) -> Slot
 fn is_well_formed(value: u32) -> bool
     ensures { result ≡ is_well_formed value }
 {
-    value / 0x80 % 0x2_0000 == 0x1_FFFF && value / 0x2 % 2 == 0 && value / 0x10 % 2 == 1
+    value / 0x80 % 0x2_0000 == 0x1_FFFF && value / 0x2 % 2 == 0 && value / EXC_RETURN_FTYPE % 2 == 1
 }
 
 /// Whether Non-secure code claims a Secure exception, or an additional frame left out.
@@ -54,7 +58,7 @@ fn is_forged(side: Side, value: u32) -> bool
 {
     match side {
         Side::Secure => false,
-        Side::NonSecure => value % 2 == 1 || value / 0x20 % 2 == 0,
+        Side::NonSecure => { value / EXC_RETURN_ES % 2 == 1 || value / EXC_RETURN_DCRS % 2 == 0 }
     }
 }
 

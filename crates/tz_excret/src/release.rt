@@ -10,9 +10,12 @@ use tz_frames::Returning;
 use tz_model::{Side, Slot};
 use tz_nvic::Exceptions;
 use tz_regs::{Core, Masks};
+use tz_state::exception::{
+    HARD_FAULT, NMI, NMI_PRIORITY, SECURE_HARD_FAULT_PRIORITY, ZERO_PRIORITY,
+};
 
 const HARD_S: Slot = Slot {
-    number: 3,
+    number: HARD_FAULT,
     side: Side::Secure,
 };
 
@@ -20,7 +23,7 @@ const HARD_S: Slot = Slot {
 fn is_urgent(exceptions: &Exceptions) -> bool
     ensures { result ≡ is_urgent exceptions.now }
 {
-    exceptions.raw_priority() < 4
+    exceptions.raw_priority() < ZERO_PRIORITY
 }
 
 /// The one of NMI and the HardFaults that gives a raw priority; where both HardFaults do, the Secure one.
@@ -28,18 +31,18 @@ fn urgent_slot(exceptions: &Exceptions, raw: u32) -> Slot
     ensures is { result ≡ urgent_slot exceptions.now raw }
     ensures exists { exists exceptions.now result ≡ true }
 {
-    if raw == 2 {
+    if raw == NMI_PRIORITY {
         Slot {
-            number: 2,
+            number: NMI,
             side: Side::Secure,
         }
-    } else if raw == 1 {
+    } else if raw == SECURE_HARD_FAULT_PRIORITY {
         HARD_S
     } else if !exceptions.fault_side() && exceptions.active(HARD_S) {
         HARD_S
     } else {
         Slot {
-            number: 3,
+            number: HARD_FAULT,
             side: Side::NonSecure,
         }
     }
@@ -51,7 +54,7 @@ pub(crate) fn free(exceptions: &mut Exceptions, slot: Slot)
     ensures { exceptions.new ≡ freed exceptions.old slot }
 {
     let raw = exceptions.raw_priority();
-    if raw < 4 {
+    if raw < ZERO_PRIORITY {
         exceptions.deactivate(urgent_slot(exceptions, raw));
     } else if exceptions.exists(slot) {
         exceptions.deactivate(slot);
@@ -62,7 +65,7 @@ pub(crate) fn free(exceptions: &mut Exceptions, slot: Slot)
 fn keeps_faultmask(core: &Core, exceptions: &Exceptions) -> bool
     ensures { result ≡ keeps_faultmask core.now exceptions.now }
 {
-    core.registers.ipsr == 2 || is_urgent(exceptions)
+    core.registers.ipsr == NMI || is_urgent(exceptions)
 }
 
 /// Clears FAULTMASK of a side, unless it stays.

@@ -1,6 +1,7 @@
 //! The vector of an exception, and the core that handles it (DDI0553, `ExceptionTaken`).
 
 ghost use Rattle.std.specs.Prelude.{◌≡◌, true, ◌==◌, ◌||◌, nat_lt};
+ghost use Rattle.tz_state.specs.ExceptionNumbers.{hard_fault};
 ghost use Rattle.tz_state.specs.Slots.{exists};
 ghost use Rattle.tz_state.specs.SlotChanges.{pended};
 ghost use Rattle.tz_state.specs.Escalation.{hard_side};
@@ -13,11 +14,16 @@ ghost use Rattle.tz_frames.specs.Enter.{Work, exc_return, dcrs_of, handling, is_
 use crate::raise::hard_side;
 use crate::sides::{is_secure, set_spsel};
 use crate::status::set_hfsr;
+use tz_frames::return_bits::{
+    EXC_RETURN_DCRS, EXC_RETURN_FTYPE, EXC_RETURN_MODE, EXC_RETURN_ONES, EXC_RETURN_S,
+    EXC_RETURN_SPSEL,
+};
 use tz_frames::{Choice, Entering, Frames};
 use tz_model::{Profile, Side, Slot};
 use tz_nvic::Exceptions;
 use tz_prio::can_take;
 use tz_regs::{Apsr, Core, Registers};
+use tz_state::exception::{HARD_FAULT, NMI};
 
 const NO_FLAGS: Apsr = Apsr {
     n: false,
@@ -80,12 +86,12 @@ fn dcrs_of(entry: &Entering, side: Side) -> bool
 fn exc_return(entry: &Entering, spsel: bool, side: Side) -> u32
     ensures { result ≡ exc_return entry.now spsel side }
 {
-    0xFFFF_FF80
-        + 0x40 * u32::from(entry.secure)
-        + 0x20 * u32::from(dcrs_of(entry, side))
-        + 0x10
-        + 0x8 * u32::from(entry.thread)
-        + 0x4 * u32::from(spsel)
+    EXC_RETURN_ONES
+        + EXC_RETURN_S * u32::from(entry.secure)
+        + EXC_RETURN_DCRS * u32::from(dcrs_of(entry, side))
+        + EXC_RETURN_FTYPE
+        + EXC_RETURN_MODE * u32::from(entry.thread)
+        + EXC_RETURN_SPSEL * u32::from(spsel)
         + u32::from(is_secure(side))
 }
 
@@ -115,7 +121,7 @@ fn can_take_hard(core: &Core, exceptions: &Exceptions, side: Side) -> bool
             core,
             exceptions,
             Slot {
-                number: 3,
+                number: HARD_FAULT,
                 side: Side::Secure,
             },
         ),
@@ -123,7 +129,7 @@ fn can_take_hard(core: &Core, exceptions: &Exceptions, side: Side) -> bool
             core,
             exceptions,
             Slot {
-                number: 3,
+                number: HARD_FAULT,
                 side: Side::NonSecure,
             },
         ),
@@ -134,7 +140,7 @@ fn can_take_hard(core: &Core, exceptions: &Exceptions, side: Side) -> bool
 fn is_last_resort(slot: Slot) -> bool
     ensures { result ≡ is_last_resort slot }
 {
-    slot.number == 2 || slot.number == 3
+    slot.number == NMI || slot.number == HARD_FAULT
 }
 
 /// Whether HardFault can be taken in place of an exception whose vector can't be read.
@@ -147,13 +153,16 @@ fn can_harden(core: &Core, exceptions: &Exceptions, slot: Slot) -> bool
 /// A vector can't be read: HFSR.VECTTBL is set, and HardFault pends.
 fn fail_vector(core: &mut Core, exceptions: &mut Exceptions, slot: Slot) -> Choice
     ensures core { core.new ≡ with_status core.old (with_hfsr 2 core.old.status) }
-    ensures exceptions { exceptions.new ≡ pended exceptions.old (slot_of 3 (hard_side exceptions.old slot.side)) }
+    ensures exceptions { exceptions.new ≡ pended exceptions.old (slot_of hard_fault (hard_side exceptions.old slot.side)) }
     ensures result { result ≡ vector_choice (can_harden core.old exceptions.old slot) }
 {
     let taken = can_harden(core, exceptions, slot);
     let side = hard_side(exceptions, slot.side);
     set_hfsr(&mut core.status, 0x2);
-    exceptions.pend(Slot { number: 3, side });
+    exceptions.pend(Slot {
+        number: HARD_FAULT,
+        side,
+    });
     if taken { Choice::Again } else { Choice::Lockup }
 }
 

@@ -12,11 +12,13 @@ use Rattle.tz_regs.specs.declared.parts.Stacks.{Stacks}
 use Rattle.tz_regs.specs.Banks.{stacks_of, with_stacks}
 use Rattle.tz_regs.specs.Registers.{is_handler}
 use Rattle.tz_regs.specs.Special.{number_of}
+use Rattle.tz_state.specs.ExceptionNumbers.{nmi, hard_fault}
 use Rattle.tz_state.specs.Slots.{ExceptionsValue}
 use Rattle.tz_state.specs.SlotChanges.{pended, activated}
 use Rattle.tz_state.specs.Priority.{hard_priority, chosen}
 use Rattle.tz_state.specs.Execution.{execution}
 use Rattle.tz_state.specs.Escalation.{hard_side}
+use Rattle.tz_frames.specs.ReturnBits.{exc_return_ones, exc_return_spsel, exc_return_mode, exc_return_ftype, exc_return_dcrs, exc_return_s}
 use Rattle.tz_frames.specs.Looks.{Looking, Vector}
 use Rattle.tz_frames.specs.declared.frame.StackFault.{StackFault}
 use Rattle.tz_frames.specs.declared.entering.Entering.{Entering}
@@ -52,8 +54,8 @@ dcrs_of x side = if x.fell then is_nonsecure_side side else x.dcrs
 -- EXC_RETURN: ones from bit 7 up, S, DCRS, FType 1, Mode, SPSEL, and ES
 abbrev pub exc_return : Entering → Bool → Side → ℕ
 exc_return x spsel side =
-    0xFFFFFF80 + 2 ^ 6 * number_of x.secure + 2 ^ 5 * number_of (dcrs_of x side) + 2 ^ 4 + 2 ^ 3 * number_of x.thread + 2 ^ 2 * number_of spsel
-    + number_of (is_secure side)
+    exc_return_ones + 2 ^ exc_return_s * number_of x.secure + 2 ^ exc_return_dcrs * number_of (dcrs_of x side) + 2 ^ exc_return_ftype
+    + 2 ^ exc_return_mode * number_of x.thread + 2 ^ exc_return_spsel * number_of spsel + number_of (is_secure side)
 
 -- the core that handles an exception, from its vector
 abbrev pub handling : Profile → Core → Entering → Slot → ℕ → Core
@@ -74,7 +76,7 @@ handling profile c x given vector =
 
 -- NMI and HardFault
 abbrev pub is_last_resort : Slot → Bool
-is_last_resort given = given.number == 2 || given.number == 3
+is_last_resort given = given.number == nmi || given.number == hard_fault
 
 -- where a vector fails: the choice is made again where HardFault can be taken in its place
 abbrev pub vector_choice : Bool → Choice
@@ -89,7 +91,7 @@ vector_failed w given =
     record {
       work = record w {
         core = with_status w.core (with_hfsr (2 ^ 1) w.core.status);
-        exceptions = pended w.exceptions (slot 3 (hard_side w.exceptions given.side));
+        exceptions = pended w.exceptions (slot hard_fault (hard_side w.exceptions given.side));
       };
       choice = vector_choice (can_harden w.core w.exceptions given);
     }

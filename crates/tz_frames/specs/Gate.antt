@@ -39,8 +39,9 @@ branched_ns c target =
 abbrev pub fnc_return : ℕ
 fnc_return = 0xFEFFFFFF
 
+-- with bit 0 set or clear
 abbrev pub is_fnc_return : ℕ → Bool
-is_fnc_return target = target == 0xFEFFFFFE || target == 0xFEFFFFFF
+is_fnc_return target = target == even_of fnc_return || target == fnc_return
 
 -- 8 bytes below the Secure stack pointer
 abbrev pub call_base : Core → ℕ

@@ -13,9 +13,12 @@ use Rattle.tz_regs.specs.declared.parts.Masks.{Masks}
 use Rattle.tz_regs.specs.declared.parts.Stacks.{Stacks}
 use Rattle.tz_regs.specs.Banks.{of_side, stacks_of, with_stacks, masks_of, with_masks}
 use Rattle.tz_regs.specs.Registers.{sp_of}
+use Rattle.tz_state.specs.ExceptionNumbers.{nmi, hard_fault}
 use Rattle.tz_state.specs.Slots.{ExceptionsValue, at, exists, index_of, side_at, is_banked}
 use Rattle.tz_state.specs.SlotChanges.{deactivated}
+use Rattle.tz_state.specs.Priority.{zero_priority, nmi_priority, secure_hard_fault_priority}
 use Rattle.tz_state.specs.Execution.{raw_priority, takes_first}
+use Rattle.tz_frames.specs.ReturnBits.{exc_return_es, exc_return_spsel, exc_return_mode, exc_return_ftype, exc_return_dcrs, exc_return_s, exc_return_prefix, retpsr_sprealign}
 use Rattle.tz_frames.specs.Looks.{Looking}
 use Rattle.tz_frames.specs.declared.frame.StackFault.{StackFault}
 use Rattle.tz_frames.specs.declared.frame.Basic.{Basic}
@@ -36,7 +39,7 @@ use Rattle.tz_frames.specs.Enter.{Work, Done, is_secure, with_lock, chooses}
 
 -- an EXC_RETURN value: bits 31:24 are ones
 abbrev pub is_exc_return : ℕ → Bool
-is_exc_return target = target / 2 ^ 24 == 255
+is_exc_return target = target / 2 ^ exc_return_prefix == 0xFF
 
 abbrev pub is_set : ℕ → ℕ → Bool
 is_set value bit = value / 2 ^ bit % 2 == 1
@@ -44,11 +47,11 @@ is_set value bit = value / 2 ^ bit % 2 == 1
 abbrev pub returning_by : Side → ℕ → Returning
 returning_by side value =
     record {
-      es = is_secure side && is_set value 0;
-      process = is_set value 2;
-      thread = is_set value 3;
-      dcrs = is_set value 5;
-      secure = is_set value 6;
+      es = is_secure side && is_set value exc_return_es;
+      process = is_set value exc_return_spsel;
+      thread = is_set value exc_return_mode;
+      dcrs = is_set value exc_return_dcrs;
+      secure = is_set value exc_return_s;
     }
 
 abbrev pub side_by : Bool → Side
@@ -62,12 +65,12 @@ slot_returning c r = slot c.registers.ipsr (side_by r.es)
 
 -- bits 23:7 are ones, bit 1 is zero, and FType is one
 abbrev pub is_well_formed : ℕ → Bool
-is_well_formed value = value / 2 ^ 7 % 2 ^ 17 == 0x1FFFF && (not (is_set value 1) && is_set value 4)
+is_well_formed value = value / 2 ^ 7 % 2 ^ 17 == 0x1FFFF && (not (is_set value 1) && is_set value exc_return_ftype)
 
 -- Non-secure code claims a Secure exception, or an additional frame left out
 abbrev pub is_forged : Side → ℕ → Bool
 is_forged Secure value = false
-is_forged NonSecure value = is_set value 0 || not (is_set value 5)
+is_forged NonSecure value = is_set value exc_return_es || not (is_set value exc_return_dcrs)
 
 abbrev pub is_side : Side → Side → Bool
 is_side Secure side = is_secure side
@@ -90,15 +93,15 @@ noted c e value =
 
 -- the raw priority is negative: NMI or a HardFault is active
 abbrev pub is_urgent : ExceptionsValue → Bool
-is_urgent e = nat_lt (raw_priority e) 4
+is_urgent e = nat_lt (raw_priority e) zero_priority
 
 -- (own) the one that gives a raw priority; where both HardFaults do, the Secure one
 abbrev pub urgent_slot : ExceptionsValue → ℕ → Slot
 urgent_slot e raw =
-    if raw == 2 then slot 2 Secure
-    else if raw == 1 then slot 3 Secure
-    else if not e.bfhfnmins && (at e (index_of (slot 3 Secure))).active then slot 3 Secure
-    else slot 3 NonSecure
+    if raw == nmi_priority then slot nmi Secure
+    else if raw == secure_hard_fault_priority then slot hard_fault Secure
+    else if not e.bfhfnmins && (at e (index_of (slot hard_fault Secure))).active then slot hard_fault Secure
+    else slot hard_fault NonSecure
 
 -- a number that has no slot leaves all as it was
 abbrev pub freed : ExceptionsValue → Slot → ExceptionsValue
@@ -109,7 +112,7 @@ freed e given =
 
 -- FAULTMASK of the side of ES is cleared, unless NMI returns or the raw priority was negative
 abbrev pub keeps_faultmask : Core → ExceptionsValue → Bool
-keeps_faultmask c e = c.registers.ipsr == 2 || is_urgent e
+keeps_faultmask c e = c.registers.ipsr == nmi || is_urgent e
 
 abbrev pub unmasked : Bool → Side → Masks → Masks
 unmasked keeps side m = with_masks side m (record (masks_of side m) { faultmask = keeps && (masks_of side m).faultmask })
@@ -196,9 +199,9 @@ abbrev pub frames_size : Option Callee → ℕ
 frames_size None = 32
 frames_size (Some callee) = 72
 
--- above the frames, and 4 more where bit 9 of RETPSR says so
+-- above the frames, and 4 more where SPREALIGN says so
 abbrev pub sp_above : ℕ → Unstacked → ℕ
-sp_above sp u = wrap (sp + frames_size u.callee + 4 * (u.basic.retpsr / 2 ^ 9 % 2))
+sp_above sp u = wrap (sp + frames_size u.callee + 4 * (u.basic.retpsr / 2 ^ retpsr_sprealign % 2))
 
 abbrev pub resumed : Returning → Unstacked → Core → Core
 resumed r u c =

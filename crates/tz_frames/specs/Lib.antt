@@ -1,3 +1,4 @@
+pub mod ReturnBits
 pub mod Looks
 pub mod Machine
 pub mod Status

@@ -9,6 +9,7 @@ use Rattle.tz_model.specs.Words.{even_of}
 use Rattle.tz_regs.specs.declared.parts.Apsr.{Apsr}
 use Rattle.tz_regs.specs.declared.parts.Registers.{Registers}
 use Rattle.tz_regs.specs.Special.{number_of, apsr_word, apsr_from}
+use Rattle.tz_frames.specs.ReturnBits.{retpsr_sprealign, retpsr_it_high, retpsr_t, retpsr_it_low}
 use Rattle.tz_frames.specs.declared.frame.Basic.{Basic}
 use Rattle.tz_frames.specs.declared.frame.Callee.{Callee}
 
@@ -50,11 +51,11 @@ taken_registers profile NonSecure secure r = if secure then all_cleared r else s
 
 -- xPSR: the flags, IT 1:0 in bits 26:25, T in bit 24, IT 7:2 in bits 15:10, and IPSR
 abbrev pub psr_word : Registers → ℕ
-psr_word r = apsr_word r.apsr + 2 ^ 25 * (r.it % 4) + 2 ^ 24 * number_of r.t + 2 ^ 10 * (r.it / 4) + r.ipsr
+psr_word r = apsr_word r.apsr + 2 ^ retpsr_it_low * (r.it % 4) + 2 ^ retpsr_t * number_of r.t + 2 ^ retpsr_it_high * (r.it / 4) + r.ipsr
 
--- with bit 2 of the stack pointer in bit 9
+-- with bit 2 of the stack pointer in SPREALIGN
 abbrev pub retpsr_of : Registers → ℕ → ℕ
-retpsr_of r sp = psr_word r + 2 ^ 9 * (sp / 4 % 2)
+retpsr_of r sp = psr_word r + 2 ^ retpsr_sprealign * (sp / 4 % 2)
 
 -- the number in it
 abbrev pub number_in : ℕ → ℕ
@@ -75,7 +76,7 @@ resumed_registers r callee b =
       lr = b.lr;
       pc = even_of b.back;
       apsr = apsr_from b.retpsr;
-      it = b.retpsr / 2 ^ 25 % 4 + 4 * (b.retpsr / 2 ^ 10 % 64);
-      t = b.retpsr / 2 ^ 24 % 2 == 1;
+      it = b.retpsr / 2 ^ retpsr_it_low % 4 + 4 * (b.retpsr / 2 ^ retpsr_it_high % 64);
+      t = b.retpsr / 2 ^ retpsr_t % 2 == 1;
       ipsr = number_in b.retpsr;
     }

@@ -19,6 +19,7 @@ mod entering;
 mod frame;
 mod frames;
 mod leaving;
+pub mod return_bits;
 
 pub use entering::{Choice, Entered, Entering};
 pub use frame::{Basic, Callee, StackFault};

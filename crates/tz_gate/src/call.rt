@@ -7,7 +7,7 @@ use tz_model::{Fault, Port, Side, Size};
 use tz_regs::Core;
 
 /// The value by which Non-secure code returns.
-const FNC_RETURN: u32 = 0xFEFF_FFFF;
+pub(crate) const FNC_RETURN: u32 = 0xFEFF_FFFF;
 
 /// 8 bytes below the Secure stack pointer.
 fn call_base(core: &Core) -> u32

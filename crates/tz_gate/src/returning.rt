@@ -3,15 +3,19 @@
 ghost use Rattle.std.specs.Prelude.{◌≡◌, ◌<◌, ◌^◌, MatchResult, OnErr, Ok, Err};
 ghost use Rattle.tz_frames.specs.Gate.{is_fnc_return, return_base, numbers_agree, came_back, function_returned};
 
+use crate::call::FNC_RETURN;
 use tz_frames::Frames;
 use tz_model::{Fault, Side};
 use tz_regs::Core;
+
+/// FNC_RETURN with bit 0 clear.
+const FNC_RETURN_EVEN: u32 = FNC_RETURN / 2 * 2;
 
 /// Whether a branch to this target returns from Non-secure code (DDI0553, FNC_RETURN).
 pub fn is_fnc_return(target: u32) -> bool
     ensures { result ≡ is_fnc_return target }
 {
-    target == 0xFEFF_FFFE || target == 0xFEFF_FFFF
+    target == FNC_RETURN_EVEN || target == FNC_RETURN
 }
 
 /// The stack pointer of the Secure side in use.

@@ -8,6 +8,7 @@ ghost use Rattle.tz_nvic.specs.ActiveSlots.{slot_added, has_other, active_slots}
 
 use crate::exceptions::Exceptions;
 use crate::place::number_at;
+use tz_state::exception::IDLE_PRIORITY;
 
 /// What is active, as far as it tells whether there is a slot beside one of a given number.
 #[derive(Clone, Copy)]
@@ -72,7 +73,7 @@ impl Exceptions {
         ensures is { result ≡ raw_priority self.now }
         ensures few { result ≤ 260 }
     {
-        let mut least = 260;
+        let mut least = IDLE_PRIORITY;
         for index in 0..self.end() {
             least = self.least_with(index, least);
         }

@@ -6,6 +6,7 @@ ghost use Rattle.tz_state.specs.Due.{slots_pended, slot_of_event};
 
 use crate::exceptions::Exceptions;
 use tz_model::{ScriptEvent, Side, Slot};
+use tz_state::exception::{FIRST_INTERRUPT, NMI};
 
 impl Exceptions {
     /// Sets the slot of an event pending. That of an interrupt that the core hasn't is passed over.
@@ -16,13 +17,13 @@ impl Exceptions {
             ScriptEvent::Irq(n) => {
                 if n < self.interrupts {
                     self.pend(Slot {
-                        number: n + 16,
+                        number: n + FIRST_INTERRUPT,
                         side: Side::Secure,
                     });
                 }
             }
             ScriptEvent::Nmi => self.pend(Slot {
-                number: 2,
+                number: NMI,
                 side: Side::Secure,
             }),
         }

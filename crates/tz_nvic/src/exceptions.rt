@@ -9,6 +9,7 @@ use crate::place::{PLACES, index_of, is_always_enabled, is_banked, is_system, nu
 use std::alloc::{AllocError, Global};
 use std::marker::Model;
 use tz_model::{Side, Slot};
+use tz_state::exception::{BUS_FAULT, FIRST_INTERRUPT, HARD_FAULT, NMI};
 use tz_state::{SlotState, Timer};
 
 /// The exceptions of a core.
@@ -93,7 +94,7 @@ impl Exceptions {
         ensures is { result ≡ is_external self.now number }
         ensures few { IsTrue result → number < 256 }
     {
-        16 <= number && number < self.interrupts + 16
+        FIRST_INTERRUPT <= number && number < self.interrupts + FIRST_INTERRUPT
     }
 
     /// Whether a slot exists. That depends on its number; an unbanked number has one slot, whichever side
@@ -201,7 +202,7 @@ impl Exceptions {
     {
         let index = self.place_of(slot);
         let state = self.at(index);
-        let priority = if slot.number == 2 || slot.number == 3 {
+        let priority = if slot.number == NMI || slot.number == HARD_FAULT {
             state.priority
         } else {
             raw
@@ -298,8 +299,8 @@ impl Exceptions {
         ensures { result ≡ side_at self.now index }
     {
         if index < 32 {
-            let number = index / 2;
-            if index % 2 == 1 || ((number == 2 || number == 5) && self.bfhfnmins) {
+            let number = index as u16 / 2;
+            if index % 2 == 1 || ((number == NMI || number == BUS_FAULT) && self.bfhfnmins) {
                 Side::NonSecure
             } else {
                 Side::Secure

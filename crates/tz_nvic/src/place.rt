@@ -4,6 +4,10 @@ ghost use Rattle.std.specs.Prelude.{◌≡◌, ◌<◌};
 ghost use Rattle.tz_state.specs.Slots.{is_banked, is_system, bank_of, index_of, number_at, is_always_enabled};
 
 use tz_model::{Side, Slot};
+use tz_state::exception::{
+    BUS_FAULT, FIRST_INTERRUPT, HARD_FAULT, MEM_MANAGE, NMI, PEND_SV, SECURE_FAULT, SV_CALL,
+    SYS_TICK, USAGE_FAULT,
+};
 
 /// How many places there are.
 pub const PLACES: usize = 272;
@@ -12,21 +16,30 @@ pub const PLACES: usize = 272;
 pub(crate) fn is_banked(number: u16) -> bool
     ensures { result ≡ is_banked number }
 {
-    number == 3 || number == 4 || number == 6 || number == 11 || number == 14 || number == 15
+    number == HARD_FAULT
+        || number == MEM_MANAGE
+        || number == USAGE_FAULT
+        || number == SV_CALL
+        || number == PEND_SV
+        || number == SYS_TICK
 }
 
 /// Whether a number is one of the system's.
 pub(crate) fn is_system(number: u16) -> bool
     ensures { result ≡ is_system number }
 {
-    number == 2 || number == 5 || number == 7 || is_banked(number)
+    number == NMI || number == BUS_FAULT || number == SECURE_FAULT || is_banked(number)
 }
 
 /// Whether an exception of this number can't be disabled.
 pub(crate) fn is_always_enabled(number: u16) -> bool
     ensures { result ≡ is_always_enabled number }
 {
-    number == 2 || number == 3 || number == 11 || number == 14 || number == 15
+    number == NMI
+        || number == HARD_FAULT
+        || number == SV_CALL
+        || number == PEND_SV
+        || number == SYS_TICK
 }
 
 /// 1 for the Non-secure slot of a banked number, else 0.
@@ -46,7 +59,7 @@ pub(crate) fn index_of(slot: Slot) -> usize
     ensures is { result ≡ index_of slot }
     ensures few { result < 272 }
 {
-    if slot.number < 16 {
+    if slot.number < FIRST_INTERRUPT {
         2 * usize::from(slot.number) + bank_of(slot.number, slot.side)
     } else {
         usize::from(slot.number) + 16

@@ -1,4 +1,4 @@
-//! Priorities, four above the manual's: NMI has 2, the masks of nothing 260.
+//! Priorities, four above the manual's.
 
 ghost use Rattle.std.specs.Prelude.{◌≡◌, ◌≤◌, ◌<◌, ◌+◌, ◌^◌};
 ghost use Rattle.tz_state.specs.Priority.{group_size, group_of, counted, hard_priority, priority_of, subpriority_of, rank_of};
@@ -6,6 +6,9 @@ ghost use Rattle.tz_state.specs.Priority.{group_size, group_of, counted, hard_pr
 use crate::exceptions::Exceptions;
 use crate::place::number_at;
 use tz_model::Side;
+use tz_state::exception::{
+    HARD_FAULT, HARD_FAULT_PRIORITY, NMI, NMI_PRIORITY, SECURE_HARD_FAULT_PRIORITY, ZERO_PRIORITY,
+};
 
 /// Two to the power n + 1, the size of a group under PRIGROUP n.
 fn power(n: u8) -> u32
@@ -63,8 +66,14 @@ impl Exceptions {
         ensures few { result ≤ 3 }
     {
         match side {
-            Side::Secure => { if self.bfhfnmins { 1 } else { 3 } }
-            Side::NonSecure => 3,
+            Side::Secure => {
+                if self.bfhfnmins {
+                    SECURE_HARD_FAULT_PRIORITY
+                } else {
+                    HARD_FAULT_PRIORITY
+                }
+            }
+            Side::NonSecure => HARD_FAULT_PRIORITY,
         }
     }
 
@@ -77,13 +86,13 @@ impl Exceptions {
     {
         let number = number_at(index);
         let side = self.side_at(index);
-        if number == 2 {
-            2
-        } else if number == 3 {
+        if number == NMI {
+            NMI_PRIORITY
+        } else if number == HARD_FAULT {
             self.hard_priority(side)
         } else {
             let group = self.group_of(side, self.slots[index].priority);
-            4 + self.counted(side, group)
+            ZERO_PRIORITY + self.counted(side, group)
         }
     }
 
@@ -96,7 +105,7 @@ impl Exceptions {
     {
         let number = number_at(index);
         let side = self.side_at(index);
-        if number == 2 || number == 3 {
+        if number == NMI || number == HARD_FAULT {
             0
         } else {
             u32::from(self.slots[index].priority) % self.group_size(side)

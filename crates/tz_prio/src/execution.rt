@@ -10,6 +10,7 @@ use std::sync::ledger::Ledger;
 use tz_model::{Side, Slot};
 use tz_nvic::{Exceptions, Steps};
 use tz_regs::{Core, Masks};
+use tz_state::exception::ZERO_PRIORITY;
 
 /// The execution priority, four above the manual's.
 #[tactic(auto, unfolding(tz_state::specs::Execution::execution))]
@@ -27,7 +28,7 @@ pub(crate) fn execution(masks: &Masks, exceptions: &Exceptions) -> u32
 pub fn raw_priority(exceptions: &Exceptions) -> i32
     ensures { result ≡ manual_priority (told.raw_priority exceptions.now) }
 {
-    exceptions.raw_priority() as i32 - 4
+    exceptions.raw_priority() as i32 - ZERO_PRIORITY as i32
 }
 
 /// The execution priority (DDI0553, `ExecutionPriority`): the least of the group priorities of active exceptions
@@ -35,7 +36,7 @@ pub fn raw_priority(exceptions: &Exceptions) -> i32
 pub fn execution_priority(core: &Core, exceptions: &Exceptions) -> i32
     ensures { result ≡ manual_priority (told.execution exceptions.now core.now.masks) }
 {
-    execution(&core.masks, exceptions) as i32 - 4
+    execution(&core.masks, exceptions) as i32 - ZERO_PRIORITY as i32
 }
 
 /// Whether the group priority of a slot is below the execution priority under masks. The slot exists.

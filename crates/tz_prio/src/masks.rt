@@ -6,9 +6,7 @@ ghost use Rattle.tz_state.specs.Execution.{basepri_priority, primask_priority, f
 use tz_model::Side;
 use tz_nvic::Exceptions;
 use tz_regs::{Masks, SideMasks};
-
-/// That of no mask.
-const IDLE_PRIORITY: u32 = 260;
+use tz_state::exception::{IDLE_PRIORITY, ZERO_PRIORITY};
 
 /// The priority of BASEPRI of a side.
 fn basepri(exceptions: &Exceptions, side: Side, byte: u8) -> u32
@@ -18,7 +16,7 @@ fn basepri(exceptions: &Exceptions, side: Side, byte: u8) -> u32
     if byte == 0 {
         IDLE_PRIORITY
     } else {
-        4 + exceptions.counted(side, exceptions.group_of(side, byte))
+        ZERO_PRIORITY + exceptions.counted(side, exceptions.group_of(side, byte))
     }
 }
 
@@ -28,7 +26,7 @@ fn primask(exceptions: &Exceptions, side: Side, set: bool) -> u32
     ensures few { result ≤ 260 }
 {
     if set {
-        4 + exceptions.counted(side, 0)
+        ZERO_PRIORITY + exceptions.counted(side, 0)
     } else {
         IDLE_PRIORITY
     }
@@ -45,7 +43,7 @@ fn faultmask_set(exceptions: &Exceptions, side: Side) -> u32
             if exceptions.fault_side() {
                 exceptions.hard_priority(Side::NonSecure)
             } else {
-                4 + exceptions.counted(Side::NonSecure, 0)
+                ZERO_PRIORITY + exceptions.counted(Side::NonSecure, 0)
             }
         }
     }

@@ -6,6 +6,7 @@ ghost use Rattle.tz_state.specs.State.{is_negative_at};
 
 use tz_nvic::Exceptions;
 use tz_regs::Core;
+use tz_state::exception::ZERO_PRIORITY;
 
 /// Whether the execution priority (DDI0553, `ExecutionPriority`) is negative: NMI or HardFault is active, or a
 /// FAULTMASK counts as HardFault. BASEPRI and PRIMASK don't make it so.
@@ -14,7 +15,7 @@ pub fn is_negative(core: &Core, exceptions: &Exceptions) -> bool
     ensures { result ≡ is_negative_at (manual_priority (execution exceptions.now core.now.masks)) }
 {
     let masks = &core.masks;
-    exceptions.raw_priority() < 4
+    exceptions.raw_priority() < ZERO_PRIORITY
         || masks.s.faultmask
         || masks.ns.faultmask && exceptions.fault_side()
 }

@@ -6,6 +6,7 @@ ghost use Rattle.tz_state.specs.Pieces.{bit_at};
 ghost use Rattle.tz_state.specs.Priority.{chosen};
 ghost use Rattle.tz_state.specs.ControlRegisters.{shows_active, shows_pending, shows_enabled, pending_number, icsr_value, pends, icsr_written, aircr_value, has_key, aircr_written, vtor_written, ccr_value, ccr_written, shcsr_value, enables, shcsr_written};
 
+use crate::bits::*;
 use crate::numbers::{put_number, sees_number, slot_seen};
 use crate::pieces::{flag, is_bit};
 use std::marker::Brand;
@@ -15,6 +16,9 @@ use tz_nvic::Exceptions;
 use tz_ready::Steps;
 use tz_regs::SideStatus;
 use tz_state::SlotState;
+use tz_state::exception::{
+    BUS_FAULT, HARD_FAULT, MEM_MANAGE, NMI, PEND_SV, SECURE_FAULT, SV_CALL, SYS_TICK, USAGE_FAULT,
+};
 
 /// The bit that tells a number of the system active.
 fn active_flag(exceptions: &Exceptions, side: Side, number: u16, bit: u32) -> u32
@@ -85,12 +89,12 @@ pub(crate) fn icsr_value(exceptions: &Exceptions, side: Side, ipsr: u16) -> u32
 {
     let first = chosen_counted::<Brand>(Blank::new(1), exceptions);
     u32::from(ipsr)
-        | flag(exceptions.returns_to_base(ipsr), 11)
-        | pending_number(side, first) * 0x1000
-        | flag(exceptions.is_interrupt_pending(), 22)
-        | pending_flag(exceptions, side, 15, 26)
-        | pending_flag(exceptions, side, 14, 28)
-        | pending_flag(exceptions, side, 2, 31)
+        | flag(exceptions.returns_to_base(ipsr), ICSR_RETTOBASE)
+        | pending_number(side, first) * (1 << ICSR_VECTPENDING)
+        | flag(exceptions.is_interrupt_pending(), ICSR_ISRPENDING)
+        | pending_flag(exceptions, side, SYS_TICK, ICSR_PENDSTSET)
+        | pending_flag(exceptions, side, PEND_SV, ICSR_PENDSVSET)
+        | pending_flag(exceptions, side, NMI, ICSR_PENDNMISET)
 }
 
 /// Pends a number of the system, or makes it not pending, where the view shows it; to do both pends it.
@@ -110,20 +114,38 @@ fn move_pending(exceptions: &mut Exceptions, side: Side, number: u16, set: bool,
 pub(crate) fn write_icsr(exceptions: &mut Exceptions, side: Side, value: u32)
     ensures { exceptions.new ≡ icsr_written side exceptions.old value }
 {
-    move_pending(exceptions, side, 15, is_bit(value, 26), is_bit(value, 25));
-    move_pending(exceptions, side, 14, is_bit(value, 28), is_bit(value, 27));
-    move_pending(exceptions, side, 2, is_bit(value, 31), is_bit(value, 30));
+    move_pending(
+        exceptions,
+        side,
+        SYS_TICK,
+        is_bit(value, ICSR_PENDSTSET),
+        is_bit(value, ICSR_PENDSTCLR),
+    );
+    move_pending(
+        exceptions,
+        side,
+        PEND_SV,
+        is_bit(value, ICSR_PENDSVSET),
+        is_bit(value, ICSR_PENDSVCLR),
+    );
+    move_pending(
+        exceptions,
+        side,
+        NMI,
+        is_bit(value, ICSR_PENDNMISET),
+        is_bit(value, ICSR_PENDNMICLR),
+    );
 }
 
 /// What AIRCR shows; PRIS is Secure alone.
 pub(crate) fn aircr_value(exceptions: &Exceptions, side: Side) -> u32
     ensures { result ≡ aircr_value side exceptions.now }
 {
-    let key = 0xFA05 << 16;
-    let bfhfnmins = flag(exceptions.fault_side(), 13);
-    let prigroup = u32::from(exceptions.grouping(side)) * 0x100;
+    let key = VECTKEYSTAT << AIRCR_VECTKEY;
+    let bfhfnmins = flag(exceptions.fault_side(), AIRCR_BFHFNMINS);
+    let prigroup = u32::from(exceptions.grouping(side)) * (1 << AIRCR_PRIGROUP);
     match side {
-        Side::Secure => key | flag(exceptions.pris(), 14) | bfhfnmins | prigroup,
+        Side::Secure => key | flag(exceptions.pris(), AIRCR_PRIS) | bfhfnmins | prigroup,
         Side::NonSecure => key | bfhfnmins | prigroup,
     }
 }
@@ -132,7 +154,7 @@ pub(crate) fn aircr_value(exceptions: &Exceptions, side: Side) -> u32
 fn has_key(value: u32) -> bool
     ensures { result ≡ has_key value }
 {
-    value / 0x1_0000 == 0x05FA
+    value >> AIRCR_VECTKEY == VECTKEY
 }
 
 /// Writes AIRCR, where the word has the key: PRIGROUP of the view's side, and by the Secure view PRIS and
@@ -141,11 +163,11 @@ pub(crate) fn write_aircr(exceptions: &mut Exceptions, side: Side, value: u32)
     ensures { exceptions.new ≡ aircr_written side exceptions.old value }
 {
     if has_key(value) {
-        exceptions.set_grouping(side, (value / 0x100 % 8) as u8);
+        exceptions.set_grouping(side, ((value >> AIRCR_PRIGROUP) % 8) as u8);
         match side {
             Side::Secure => {
-                exceptions.set_fault_side(is_bit(value, 13));
-                exceptions.set_pris(is_bit(value, 14));
+                exceptions.set_fault_side(is_bit(value, AIRCR_BFHFNMINS));
+                exceptions.set_pris(is_bit(value, AIRCR_PRIS));
             }
             Side::NonSecure => {}
         }
@@ -183,25 +205,25 @@ pub(crate) fn ccr_written(own: SideStatus, value: u32) -> SideStatus
 pub(crate) fn shcsr_value(exceptions: &Exceptions, side: Side) -> u32
     ensures { result ≡ shcsr_value side exceptions.now }
 {
-    active_flag(exceptions, side, 4, 0)
-        | active_flag(exceptions, side, 5, 1)
-        | active_flag(exceptions, side, 3, 2)
-        | active_flag(exceptions, side, 6, 3)
-        | active_flag(exceptions, side, 7, 4)
-        | active_flag(exceptions, side, 2, 5)
-        | active_flag(exceptions, side, 11, 7)
-        | active_flag(exceptions, side, 14, 10)
-        | active_flag(exceptions, side, 15, 11)
-        | pending_flag(exceptions, side, 6, 12)
-        | pending_flag(exceptions, side, 4, 13)
-        | pending_flag(exceptions, side, 5, 14)
-        | pending_flag(exceptions, side, 11, 15)
-        | enabled_flag(exceptions, side, 4, 16)
-        | enabled_flag(exceptions, side, 5, 17)
-        | enabled_flag(exceptions, side, 6, 18)
-        | enabled_flag(exceptions, side, 7, 19)
-        | pending_flag(exceptions, side, 7, 20)
-        | pending_flag(exceptions, side, 3, 21)
+    active_flag(exceptions, side, MEM_MANAGE, SHCSR_MEMFAULTACT)
+        | active_flag(exceptions, side, BUS_FAULT, SHCSR_BUSFAULTACT)
+        | active_flag(exceptions, side, HARD_FAULT, SHCSR_HARDFAULTACT)
+        | active_flag(exceptions, side, USAGE_FAULT, SHCSR_USGFAULTACT)
+        | active_flag(exceptions, side, SECURE_FAULT, SHCSR_SECUREFAULTACT)
+        | active_flag(exceptions, side, NMI, SHCSR_NMIACT)
+        | active_flag(exceptions, side, SV_CALL, SHCSR_SVCALLACT)
+        | active_flag(exceptions, side, PEND_SV, SHCSR_PENDSVACT)
+        | active_flag(exceptions, side, SYS_TICK, SHCSR_SYSTICKACT)
+        | pending_flag(exceptions, side, USAGE_FAULT, SHCSR_USGFAULTPENDED)
+        | pending_flag(exceptions, side, MEM_MANAGE, SHCSR_MEMFAULTPENDED)
+        | pending_flag(exceptions, side, BUS_FAULT, SHCSR_BUSFAULTPENDED)
+        | pending_flag(exceptions, side, SV_CALL, SHCSR_SVCALLPENDED)
+        | enabled_flag(exceptions, side, MEM_MANAGE, SHCSR_MEMFAULTENA)
+        | enabled_flag(exceptions, side, BUS_FAULT, SHCSR_BUSFAULTENA)
+        | enabled_flag(exceptions, side, USAGE_FAULT, SHCSR_USGFAULTENA)
+        | enabled_flag(exceptions, side, SECURE_FAULT, SHCSR_SECUREFAULTENA)
+        | pending_flag(exceptions, side, SECURE_FAULT, SHCSR_SECUREFAULTPENDED)
+        | pending_flag(exceptions, side, HARD_FAULT, SHCSR_HARDFAULTPENDED)
 }
 
 /// Enables or disables a number of the system, where the view shows it.
@@ -228,8 +250,28 @@ fn enable(exceptions: &mut Exceptions, side: Side, number: u16, on: bool)
 pub(crate) fn write_shcsr(exceptions: &mut Exceptions, side: Side, value: u32)
     ensures { exceptions.new ≡ shcsr_written side exceptions.old value }
 {
-    enable(exceptions, side, 4, is_bit(value, 16));
-    enable(exceptions, side, 5, is_bit(value, 17));
-    enable(exceptions, side, 6, is_bit(value, 18));
-    enable(exceptions, side, 7, is_bit(value, 19));
+    enable(
+        exceptions,
+        side,
+        MEM_MANAGE,
+        is_bit(value, SHCSR_MEMFAULTENA),
+    );
+    enable(
+        exceptions,
+        side,
+        BUS_FAULT,
+        is_bit(value, SHCSR_BUSFAULTENA),
+    );
+    enable(
+        exceptions,
+        side,
+        USAGE_FAULT,
+        is_bit(value, SHCSR_USGFAULTENA),
+    );
+    enable(
+        exceptions,
+        side,
+        SECURE_FAULT,
+        is_bit(value, SHCSR_SECUREFAULTENA),
+    );
 }

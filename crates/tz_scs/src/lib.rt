@@ -5,6 +5,7 @@
 //! access them at all isn't known here.
 #![tactic(auto)]
 
+mod bits;
 mod control;
 mod faults;
 mod interrupts;

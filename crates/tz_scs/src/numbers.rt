@@ -9,14 +9,17 @@ use crate::views::{sees_bus, sees_secure};
 use tz_model::{Side, Slot};
 use tz_nvic::Exceptions;
 use tz_state::SlotState;
+use tz_state::exception::{
+    BUS_FAULT, MEM_MANAGE, NMI, PEND_SV, SECURE_FAULT, SV_CALL, SYS_TICK, USAGE_FAULT,
+};
 
 /// Whether a view shows a number.
 pub(crate) fn sees_number(exceptions: &Exceptions, side: Side, number: u16) -> bool
     ensures { result ≡ sees_number side exceptions.now number }
 {
-    if number == 7 {
+    if number == SECURE_FAULT {
         sees_secure(side)
-    } else if number == 2 || number == 5 {
+    } else if number == NMI || number == BUS_FAULT {
         sees_bus(side, exceptions.fault_side())
     } else {
         true
@@ -45,7 +48,10 @@ fn has_byte(number: u16) -> bool
     ensures is { result ≡ has_byte number }
     ensures system { IsTrue result → is_system number ≡ true }
 {
-    matches!(number, 4 | 5 | 6 | 7 | 11 | 14 | 15)
+    matches!(
+        number,
+        MEM_MANAGE | BUS_FAULT | USAGE_FAULT | SECURE_FAULT | SV_CALL | PEND_SV | SYS_TICK
+    )
 }
 
 /// The byte of a number in SHPR.

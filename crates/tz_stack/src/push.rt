@@ -7,6 +7,7 @@ ghost use Rattle.tz_frames.specs.Registers.{psr_word, retpsr_of};
 ghost use Rattle.tz_frames.specs.Stack.{limit_of, with_side_sp, basic_base, pushed_basic, pushed_additional};
 
 use crate::words::store_words;
+use tz_frames::return_bits::{RETPSR_IT_HIGH, RETPSR_IT_LOW, RETPSR_SPREALIGN, RETPSR_T};
 use tz_frames::{Frames, StackFault};
 use tz_model::Side;
 use tz_regs::{Core, Registers};
@@ -46,18 +47,18 @@ fn basic_base(sp: u32) -> u32
     low / 8 * 8 + low % 4
 }
 
-/// xPSR with bit 2 of a stack pointer in bit 9.
+/// xPSR with bit 2 of a stack pointer in SPREALIGN.
 fn retpsr_of(registers: &Registers, sp: u32) -> u32
     ensures { result ≡ retpsr_of registers.now sp }
 {
     let it = u32::from(registers.it);
     let t = u32::from(registers.t);
     registers.apsr.word()
-        + 0x0200_0000 * (it % 4)
-        + 0x0100_0000 * t
-        + 0x400 * (it / 4)
+        + RETPSR_IT_LOW * (it % 4)
+        + RETPSR_T * t
+        + RETPSR_IT_HIGH * (it / 4)
         + u32::from(registers.ipsr)
-        + 0x200 * (sp / 4 % 2)
+        + RETPSR_SPREALIGN * (sp / 4 % 2)
 }
 
 /// Writes a basic frame on the stack of the running code, with its privilege: R0 to R3, R12, LR, the return address

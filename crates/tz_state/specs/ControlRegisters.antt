@@ -8,6 +8,8 @@ use Rattle.tz_model.specs.declared.report.Slot.{Slot}
 use Rattle.tz_model.specs.Words.{is_nonsecure_side}
 use Rattle.tz_regs.specs.declared.parts.SideStatus.{SideStatus}
 use Rattle.tz_state.specs.declared.slot.SlotState.{SlotState}
+use Rattle.tz_state.specs.ExceptionNumbers.{nmi, hard_fault, mem_manage, bus_fault, usage_fault, secure_fault, sv_call, pend_sv, sys_tick}
+use Rattle.tz_state.specs.ControlBits.{icsr_rettobase, icsr_vectpending, icsr_isrpending, icsr_pendstclr, icsr_pendstset, icsr_pendsvclr, icsr_pendsvset, icsr_pendnmiclr, icsr_pendnmiset, aircr_prigroup, aircr_bfhfnmins, aircr_pris, aircr_vectkey, vectkey, vectkeystat, shcsr_memfaultact, shcsr_busfaultact, shcsr_hardfaultact, shcsr_usgfaultact, shcsr_securefaultact, shcsr_nmiact, shcsr_svcallact, shcsr_pendsvact, shcsr_systickact, shcsr_usgfaultpended, shcsr_memfaultpended, shcsr_busfaultpended, shcsr_svcallpended, shcsr_memfaultena, shcsr_busfaultena, shcsr_usgfaultena, shcsr_securefaultena, shcsr_securefaultpended, shcsr_hardfaultpended}
 use Rattle.tz_state.specs.Slots.{ExceptionsValue, at, places, number_at, index_of}
 use Rattle.tz_state.specs.SlotChanges.{is_fault_side_held}
 use Rattle.tz_state.specs.Priority.{chosen}
@@ -28,7 +30,7 @@ sees_secure NonSecure = false
 
 abbrev pub sees_number : Side → ExceptionsValue → ℕ → Bool
 sees_number side e n =
-    if n == 7 then sees_secure side else if n == 2 || n == 5 then sees_bus side e.bfhfnmins else true
+    if n == secure_fault then sees_secure side else if n == nmi || n == bus_fault then sees_bus side e.bfhfnmins else true
 
 -- the place of a number below 16 in the view of a side
 abbrev pub place_of : Side → ℕ → ℕ
@@ -76,12 +78,12 @@ abbrev pub icsr_value : Side → ExceptionsValue → ℕ → ℕ
 icsr_value side e ipsr =
     word_of (
     Field 0 ipsr
-    ∷ Bit 11 (returns_to_base e ipsr)
-    ∷ Field 12 (pending_number side (chosen e))
-    ∷ Bit 22 (is_interrupt_pending e)
-    ∷ Bit 26 (shows_pending side e 15)
-    ∷ Bit 28 (shows_pending side e 14)
-    ∷ Bit 31 (shows_pending side e 2)
+    ∷ Bit icsr_rettobase (returns_to_base e ipsr)
+    ∷ Field icsr_vectpending (pending_number side (chosen e))
+    ∷ Bit icsr_isrpending (is_interrupt_pending e)
+    ∷ Bit icsr_pendstset (shows_pending side e sys_tick)
+    ∷ Bit icsr_pendsvset (shows_pending side e pend_sv)
+    ∷ Bit icsr_pendnmiset (shows_pending side e nmi)
     ∷ [])
 
 -- a number that the view shows is pended, or made not pending; (own) to do both pends it
@@ -91,28 +93,28 @@ pends side e n set clear =
 
 unfoldable pub icsr_written : Side → ExceptionsValue → ℕ → ExceptionsValue
 icsr_written side e value =
-    let systick = pends side e 15 (is_bit value 26) (is_bit value 25) in
-    let pendsv = pends side systick 14 (is_bit value 28) (is_bit value 27) in
-    pends side pendsv 2 (is_bit value 31) (is_bit value 30)
+    let systick = pends side e sys_tick (is_bit value icsr_pendstset) (is_bit value icsr_pendstclr) in
+    let pendsv = pends side systick pend_sv (is_bit value icsr_pendsvset) (is_bit value icsr_pendsvclr) in
+    pends side pendsv nmi (is_bit value icsr_pendnmiset) (is_bit value icsr_pendnmiclr)
 
 -- ---- AIRCR
 
 abbrev pub aircr_value : Side → ExceptionsValue → ℕ
-aircr_value Secure e = word_of (Field 16 0xFA05 ∷ Bit 14 e.pris ∷ Bit 13 e.bfhfnmins ∷ Field 8 e.prigroup_s ∷ [])
-aircr_value NonSecure e = word_of (Field 16 0xFA05 ∷ Bit 13 e.bfhfnmins ∷ Field 8 e.prigroup_ns ∷ [])
+aircr_value Secure e = word_of (Field aircr_vectkey vectkeystat ∷ Bit aircr_pris e.pris ∷ Bit aircr_bfhfnmins e.bfhfnmins ∷ Field aircr_prigroup e.prigroup_s ∷ [])
+aircr_value NonSecure e = word_of (Field aircr_vectkey vectkeystat ∷ Bit aircr_bfhfnmins e.bfhfnmins ∷ Field aircr_prigroup e.prigroup_ns ∷ [])
 
 -- a write without the key does nothing
 abbrev pub has_key : ℕ → Bool
-has_key value = value / 2 ^ 16 == 0x05FA
+has_key value = value / 2 ^ aircr_vectkey == vectkey
 
 abbrev pub aircr_written : Side → ExceptionsValue → ℕ → ExceptionsValue
 aircr_written Secure e value =
     record e {
-      prigroup_s = if has_key value then value / 2 ^ 8 % 8 else e.prigroup_s;
-      pris = if has_key value then is_bit value 14 else e.pris;
-      bfhfnmins = if has_key value && not (is_fault_side_held e) then is_bit value 13 else e.bfhfnmins;
+      prigroup_s = if has_key value then value / 2 ^ aircr_prigroup % 8 else e.prigroup_s;
+      pris = if has_key value then is_bit value aircr_pris else e.pris;
+      bfhfnmins = if has_key value && not (is_fault_side_held e) then is_bit value aircr_bfhfnmins else e.bfhfnmins;
     }
-aircr_written NonSecure e value = record e { prigroup_ns = if has_key value then value / 2 ^ 8 % 8 else e.prigroup_ns }
+aircr_written NonSecure e value = record e { prigroup_ns = if has_key value then value / 2 ^ aircr_prigroup % 8 else e.prigroup_ns }
 
 -- ---- VTOR and CCR
 
@@ -130,7 +132,9 @@ ccr_written c value = record c { ccr = bit_and value 0x18 }
 
 -- the numbers with a priority that can be written
 abbrev pub has_byte : ℕ → Bool
-has_byte n = n == 4 || (n == 5 || (n == 6 || (n == 7 || (n == 11 || (n == 14 || n == 15)))))
+has_byte n =
+    n == mem_manage
+    || (n == bus_fault || (n == usage_fault || (n == secure_fault || (n == sv_call || (n == pend_sv || n == sys_tick)))))
 
 abbrev pub byte_seen : Side → ExceptionsValue → ℕ → ℕ
 byte_seen side e n = if has_byte n && sees_number side e n then (slot_seen side e n).priority else 0
@@ -155,25 +159,25 @@ shpr_written side e n value =
 abbrev pub shcsr_value : Side → ExceptionsValue → ℕ
 shcsr_value side e =
     word_of (
-    Bit 0 (shows_active side e 4)
-    ∷ Bit 1 (shows_active side e 5)
-    ∷ Bit 2 (shows_active side e 3)
-    ∷ Bit 3 (shows_active side e 6)
-    ∷ Bit 4 (shows_active side e 7)
-    ∷ Bit 5 (shows_active side e 2)
-    ∷ Bit 7 (shows_active side e 11)
-    ∷ Bit 10 (shows_active side e 14)
-    ∷ Bit 11 (shows_active side e 15)
-    ∷ Bit 12 (shows_pending side e 6)
-    ∷ Bit 13 (shows_pending side e 4)
-    ∷ Bit 14 (shows_pending side e 5)
-    ∷ Bit 15 (shows_pending side e 11)
-    ∷ Bit 16 (shows_enabled side e 4)
-    ∷ Bit 17 (shows_enabled side e 5)
-    ∷ Bit 18 (shows_enabled side e 6)
-    ∷ Bit 19 (shows_enabled side e 7)
-    ∷ Bit 20 (shows_pending side e 7)
-    ∷ Bit 21 (shows_pending side e 3)
+    Bit shcsr_memfaultact (shows_active side e mem_manage)
+    ∷ Bit shcsr_busfaultact (shows_active side e bus_fault)
+    ∷ Bit shcsr_hardfaultact (shows_active side e hard_fault)
+    ∷ Bit shcsr_usgfaultact (shows_active side e usage_fault)
+    ∷ Bit shcsr_securefaultact (shows_active side e secure_fault)
+    ∷ Bit shcsr_nmiact (shows_active side e nmi)
+    ∷ Bit shcsr_svcallact (shows_active side e sv_call)
+    ∷ Bit shcsr_pendsvact (shows_active side e pend_sv)
+    ∷ Bit shcsr_systickact (shows_active side e sys_tick)
+    ∷ Bit shcsr_usgfaultpended (shows_pending side e usage_fault)
+    ∷ Bit shcsr_memfaultpended (shows_pending side e mem_manage)
+    ∷ Bit shcsr_busfaultpended (shows_pending side e bus_fault)
+    ∷ Bit shcsr_svcallpended (shows_pending side e sv_call)
+    ∷ Bit shcsr_memfaultena (shows_enabled side e mem_manage)
+    ∷ Bit shcsr_busfaultena (shows_enabled side e bus_fault)
+    ∷ Bit shcsr_usgfaultena (shows_enabled side e usage_fault)
+    ∷ Bit shcsr_securefaultena (shows_enabled side e secure_fault)
+    ∷ Bit shcsr_securefaultpended (shows_pending side e secure_fault)
+    ∷ Bit shcsr_hardfaultpended (shows_pending side e hard_fault)
     ∷ [])
 
 -- (own) a write changes what is enabled, and nothing else
@@ -182,7 +186,7 @@ enables side e n on = with_number side e n (sees_number side e n) (record (slot_
 
 unfoldable pub shcsr_written : Side → ExceptionsValue → ℕ → ExceptionsValue
 shcsr_written side e value =
-    let memory = enables side e 4 (is_bit value 16) in
-    let bus = enables side memory 5 (is_bit value 17) in
-    let usage = enables side bus 6 (is_bit value 18) in
-    enables side usage 7 (is_bit value 19)
+    let memory = enables side e mem_manage (is_bit value shcsr_memfaultena) in
+    let bus = enables side memory bus_fault (is_bit value shcsr_busfaultena) in
+    let usage = enables side bus usage_fault (is_bit value shcsr_usgfaultena) in
+    enables side usage secure_fault (is_bit value shcsr_securefaultena)

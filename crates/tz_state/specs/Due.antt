@@ -5,13 +5,14 @@ use Rattle.tz_model.specs.declared.report.ScriptEvent.{ScriptEvent}
 use Rattle.tz_model.specs.declared.report.ScriptEvent.TheVariants.{Irq, Nmi}
 use Rattle.tz_model.specs.declared.report.Slot.{Slot}
 use Rattle.tz_state.specs.declared.slot.SlotState.{SlotState}
+use Rattle.tz_state.specs.ExceptionNumbers.{nmi, first_interrupt}
 use Rattle.tz_state.specs.Slots.{ExceptionsValue, at, exists, index_of}
 use Rattle.tz_state.specs.Timers.{ticked}
 
 -- the slot of an event; neither number is banked, so the side tells nothing
 abbrev pub slot_of_event : ScriptEvent → Slot
-slot_of_event (Irq n) = record { number = n + 16; side = Secure }
-slot_of_event Nmi = record { number = 2; side = Secure }
+slot_of_event (Irq n) = record { number = n + first_interrupt; side = Secure }
+slot_of_event Nmi = record { number = nmi; side = Secure }
 
 -- the slots with one pended; that of an interrupt that the board hasn't is passed over
 abbrev pub slots_pended : ExceptionsValue → Slot → List SlotState

@@ -3,6 +3,7 @@ pub mod Zeros
 pub mod Regions
 pub mod Attribution
 pub mod Protection
+pub mod ExceptionNumbers
 pub mod Slots
 pub mod SlotChanges
 pub mod Timers
@@ -17,6 +18,7 @@ pub mod UnitRegisters
 pub mod Pieces
 pub mod TimerRegisters
 pub mod NvicRegisters
+pub mod ControlBits
 pub mod ControlRegisters
 pub mod FaultRegisters
 pub mod SystemRegisters
@@ -24,5 +26,6 @@ pub mod RegisterTable
 pub mod Views
 pub mod Access
 pub mod Fetch
+pub mod TargetBits
 pub mod Target
 pub mod Difference

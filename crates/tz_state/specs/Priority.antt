@@ -4,8 +4,25 @@ use Rattle.std.specs.Prelude.{ℕ, ◌+◌, ◌*◌, ◌/◌, ◌%◌, ◌^◌, 
 use Rattle.tz_table.specs.declared.units.Side.{Side}
 use Rattle.tz_table.specs.declared.units.Side.TheVariants.{Secure, NonSecure}
 use Rattle.tz_model.specs.declared.report.Slot.{Slot}
+use Rattle.tz_state.specs.ExceptionNumbers.{nmi, hard_fault}
 use Rattle.tz_state.specs.Slots.{ExceptionsValue, at, places, is_place, number_at, side_at, slot_at, is_enabled, is_fixed, prigroup_of}
 use Rattle.tz_state.specs.Least.{least_below}
+
+-- the manual's priority 0; those below it are negative
+abbrev pub zero_priority : ℕ
+zero_priority = 4
+
+-- that of HardFault, -1
+abbrev pub hard_fault_priority : ℕ
+hard_fault_priority = 3
+
+-- that of NMI, -2
+abbrev pub nmi_priority : ℕ
+nmi_priority = 2
+
+-- that of Secure HardFault while BFHFNMINS is 1, -3
+abbrev pub secure_hard_fault_priority : ℕ
+secure_hard_fault_priority = 1
 
 -- PRIGROUP n splits a byte of a side above bit n
 abbrev pub group_size : ExceptionsValue → Side → ℕ
@@ -24,17 +41,17 @@ abbrev pub counted : ExceptionsValue → Side → ℕ → ℕ
 counted e Secure group = group
 counted e NonSecure group = if e.pris then 128 + group / 2 else group
 
--- HardFault counts as -1, but that of the Secure side as -3 while BFHFNMINS is 1
+-- HardFault of a side
 abbrev pub hard_priority : ExceptionsValue → Side → ℕ
-hard_priority e Secure = if e.bfhfnmins then 1 else 3
-hard_priority e NonSecure = 3
+hard_priority e Secure = if e.bfhfnmins then secure_hard_fault_priority else hard_fault_priority
+hard_priority e NonSecure = hard_fault_priority
 
--- the group priority of the slot at a place; NMI has -2
+-- the group priority of the slot at a place
 unfoldable pub priority_of : ExceptionsValue → ℕ → ℕ
 priority_of e i =
-    if number_at i == 2 then 2
-    else if number_at i == 3 then hard_priority e (side_at e i)
-    else 4 + counted e (side_at e i) (group_of e (side_at e i) (at e i).priority)
+    if number_at i == nmi then nmi_priority
+    else if number_at i == hard_fault then hard_priority e (side_at e i)
+    else zero_priority + counted e (side_at e i) (group_of e (side_at e i) (at e i).priority)
 
 -- what decides among equal group priorities
 unfoldable pub subpriority_of : ExceptionsValue → ℕ → ℕ

@@ -5,6 +5,7 @@ use Rattle.tz_table.specs.declared.units.Side.TheVariants.{Secure, NonSecure}
 use Rattle.tz_model.specs.declared.report.Slot.{Slot}
 use Rattle.tz_state.specs.declared.slot.SlotState.{SlotState}
 use Rattle.tz_state.specs.declared.slot.Timer.{Timer}
+use Rattle.tz_state.specs.ExceptionNumbers.{nmi, hard_fault, mem_manage, bus_fault, usage_fault, secure_fault, sv_call, pend_sv, sys_tick, first_interrupt}
 
 -- all exceptions: a place for each slot, by `index_of`, and what both sides choose of them
 pub record ExceptionsValue : Type 0 where
@@ -33,15 +34,15 @@ with_slot e i slot = record e { slots = slice_set e.slots i slot }
 
 -- HardFault, MemManage, UsageFault, SVCall, PendSV and SysTick have a slot on each side
 abbrev pub is_banked : ℕ → Bool
-is_banked n = n == 3 || (n == 4 || (n == 6 || (n == 11 || (n == 14 || n == 15))))
+is_banked n = n == hard_fault || (n == mem_manage || (n == usage_fault || (n == sv_call || (n == pend_sv || n == sys_tick))))
 
 -- the numbers of the system: NMI, BusFault and SecureFault beside the banked ones
 abbrev pub is_system : ℕ → Bool
-is_system n = n == 2 || (n == 5 || (n == 7 || is_banked n))
+is_system n = n == nmi || (n == bus_fault || (n == secure_fault || is_banked n))
 
 -- the numbers of external interrupts
 abbrev pub is_external : ExceptionsValue → ℕ → Bool
-is_external e n = nat_le 16 n && nat_lt n (e.interrupts + 16)
+is_external e n = nat_le first_interrupt n && nat_lt n (e.interrupts + first_interrupt)
 
 abbrev pub has_number : ExceptionsValue → ℕ → Bool
 has_number e n = is_system n || is_external e n
@@ -57,7 +58,7 @@ bank_of n NonSecure = if is_banked n then 1 else 0
 
 -- the place of a slot; places ascend with the number, Secure before Non-secure
 abbrev pub index_of : Slot → ℕ
-index_of slot = if nat_lt slot.number 16 then 2 * slot.number + bank_of slot.number slot.side else slot.number + 16
+index_of slot = if nat_lt slot.number first_interrupt then 2 * slot.number + bank_of slot.number slot.side else slot.number + 16
 
 -- the number whose slot stands at a place
 abbrev pub number_at : ℕ → ℕ
@@ -69,7 +70,7 @@ is_place e i = if nat_lt i 32 then (if i % 2 == 1 then is_banked (i / 2) else is
 
 -- the side of a number below 16 that isn't banked: NMI and BusFault follow BFHFNMINS, SecureFault is Secure
 abbrev pub system_side : ExceptionsValue → ℕ → Side
-system_side e n = if (n == 2 || n == 5) && e.bfhfnmins then NonSecure else Secure
+system_side e n = if (n == nmi || n == bus_fault) && e.bfhfnmins then NonSecure else Secure
 
 -- the side of the slot at a place
 abbrev pub side_at : ExceptionsValue → ℕ → Side
@@ -81,14 +82,14 @@ slot_at e i = record { number = number_at i; side = side_at e i }
 
 -- NMI, HardFault, SVCall, PendSV and SysTick can't be disabled
 abbrev pub is_always_enabled : ℕ → Bool
-is_always_enabled n = n == 2 || (n == 3 || (n == 11 || (n == 14 || n == 15)))
+is_always_enabled n = n == nmi || (n == hard_fault || (n == sv_call || (n == pend_sv || n == sys_tick)))
 
 abbrev pub is_enabled : ExceptionsValue → ℕ → Bool
 is_enabled e i = is_always_enabled (number_at i) || (at e i).enabled
 
 -- NMI and HardFault have fixed priorities
 abbrev pub is_fixed : ℕ → Bool
-is_fixed n = n == 2 || n == 3
+is_fixed n = n == nmi || n == hard_fault
 
 abbrev pub prigroup_of : ExceptionsValue → Side → ℕ
 prigroup_of e Secure = e.prigroup_s

@@ -9,6 +9,7 @@ use Rattle.tz_state.specs.declared.request.Kind.TheVariants.{Read, Write}
 use Rattle.tz_state.specs.Attribution.{sau_region, is_fixed, idau_region, data_attribution}
 use Rattle.tz_model.specs.Board.{is_nonsecure}
 use Rattle.tz_state.specs.Protection.{permits, mpu_region}
+use Rattle.tz_state.specs.TargetBits.{tt_mregion, tt_sregion, tt_mrvalid, tt_srvalid, tt_r, tt_rw, tt_nsr, tt_nsrw, tt_s, tt_irvalid, tt_iregion}
 use Rattle.tz_state.specs.State.{Bus, map_in, mpu_of}
 
 -- the state whose MPU is looked at: Secure code may ask for the Non-secure one
@@ -40,7 +41,7 @@ mregion b p = if learns p then mpu_region (mpu_of (examined p.side p.alternate) 
 
 -- what every state learns: MREGION and its bit, R, RW
 abbrev pub common_part : Bus → Probe → ℕ
-common_part b p = told_at 0 16 (mregion b p) + flag_at 18 (may b p Read) + flag_at 19 (may b p Write)
+common_part b p = told_at tt_mregion tt_mrvalid (mregion b p) + flag_at tt_r (may b p Read) + flag_at tt_rw (may b p Write)
 
 -- the region of the SAU, which isn't told where neither it nor the board attributes the address
 abbrev pub sregion : Bus → Probe → Option ℕ
@@ -52,8 +53,8 @@ is_open_to b p = is_nonsecure (data_attribution (map_in b) p.side p.addr)
 -- what Secure state learns beside it: SREGION and its bit, NSR, NSRW, S, IREGION and its bit
 abbrev pub secure_part : Bus → Probe → ℕ
 secure_part b p =
-    told_at 8 17 (sregion b p) + flag_at 20 (may b p Read && is_open_to b p) + flag_at 21 (may b p Write && is_open_to b p)
-    + flag_at 22 (not (is_open_to b p)) + told_at 24 23 (idau_region 0 b.board.regions p.addr)
+    told_at tt_sregion tt_srvalid (sregion b p) + flag_at tt_nsr (may b p Read && is_open_to b p) + flag_at tt_nsrw (may b p Write && is_open_to b p)
+    + flag_at tt_s (not (is_open_to b p)) + told_at tt_iregion tt_irvalid (idau_region 0 b.board.regions p.addr)
 
 -- the word for a state
 abbrev pub word_for : Side → Bus → Probe → ℕ

@@ -17,6 +17,7 @@ ghost use Rattle.tz_state.specs.Slots.{ExceptionsValue};
 ghost use Rattle.tz_state.specs.State.{Bus, map_in};
 
 mod asker;
+pub mod exception;
 mod fetcher;
 mod probe;
 mod register;
