@@ -1,5 +1,6 @@
 pub mod Looks
 pub mod Machine
+pub mod FaultTable
 pub mod Status
 pub mod Stack
 pub mod Gate
