@@ -12,6 +12,7 @@ ghost use Rattle.tz_frames.specs.Enter.{Work, tries, chooses};
 
 mod choice;
 mod choices;
+mod effect;
 mod entering;
 mod frame;
 mod leaving;

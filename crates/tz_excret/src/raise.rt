@@ -3,14 +3,16 @@
 ghost use Rattle.std.specs.Prelude.{◌≡◌, true};
 ghost use Rattle.tz_state.specs.Slots.{exists};
 ghost use Rattle.tz_state.specs.Escalation.{hard_side};
-ghost use Rattle.tz_frames.specs.Status.{exception_of, frame_exception, raised, faulted, frame_faulted};
+ghost use Rattle.tz_frames.specs.Status.{exception_slot, exception_of, frame_exception, raised, faulted, frame_faulted};
 
+use crate::effect::effect_of;
 use crate::status::{set_frame_status, set_hfsr, set_status};
-use tz_frames::StackFault;
+use tz_frames::{FaultException, StackFault};
 use tz_model::{Fault, Side, Slot};
 use tz_nvic::Exceptions;
 use tz_prio::{Taken, escalate};
 use tz_regs::Core;
+use tz_regs::fault_bits::FORCED;
 
 /// The side of a HardFault that code of a side raises.
 pub(crate) fn hard_side(exceptions: &Exceptions, side: Side) -> Side
@@ -23,27 +25,29 @@ pub(crate) fn hard_side(exceptions: &Exceptions, side: Side) -> Side
     }
 }
 
+/// The slot of an exception of a side. HardFault is of the side that BFHFNMINS gives it.
+fn exception_slot(exceptions: &Exceptions, side: Side, exception: FaultException) -> Slot
+    ensures is { result ≡ exception_slot exceptions.now side exception }
+    ensures exists { exists exceptions.now result ≡ true }
+{
+    let (number, side) = match exception {
+        FaultException::MemManage => (4, side),
+        FaultException::BusFault => (5, side),
+        FaultException::UsageFault => (6, side),
+        FaultException::HardFault => (3, hard_side(exceptions, side)),
+        FaultException::SecureFault => (7, side),
+        FaultException::SVCall => (11, side),
+    };
+    Slot { number, side }
+}
+
 /// The exception of a fault of code of a side.
 fn exception_of(exceptions: &Exceptions, side: Side, fault: Fault) -> Slot
     ensures is { result ≡ exception_of exceptions.now side fault }
     ensures exists { exists exceptions.now result ≡ true }
 {
-    let (number, side) = match fault {
-        Fault::InvPc(of) | Fault::StackLimit(of) => (6, of),
-        Fault::Undef | Fault::InvState | Fault::NoCp | Fault::Unaligned | Fault::DivZero => {
-            (6, side)
-        }
-        Fault::DataAccess(_, of) | Fault::Exec(of) => (4, of),
-        Fault::Precise(_) | Fault::ExecBus => (5, side),
-        Fault::Violation(_)
-        | Fault::EntryPoint
-        | Fault::Transition
-        | Fault::ExcReturn
-        | Fault::Signature => (7, side),
-        Fault::Breakpoint => (3, hard_side(exceptions, side)),
-        Fault::Call => (11, side),
-    };
-    Slot { number, side }
+    let effect = effect_of(side, fault);
+    exception_slot(exceptions, effect.side, effect.exception)
 }
 
 /// The exception of a frame of the stack of a side that isn't written or read.
@@ -52,12 +56,9 @@ fn frame_exception(exceptions: &Exceptions, side: Side, fault: StackFault) -> Sl
     ensures exists { exists exceptions.now result ≡ true }
 {
     match fault {
-        StackFault::Limit(of) => Slot {
-            number: 6,
-            side: of,
-        },
+        StackFault::Limit(of) => exception_of(exceptions, side, Fault::StackLimit(of)),
         StackFault::Access(fault) => exception_of(exceptions, side, fault),
-        StackFault::Signature => Slot { number: 7, side },
+        StackFault::Signature => exception_of(exceptions, side, Fault::Signature),
     }
 }
 
@@ -73,12 +74,12 @@ fn raise(core: &mut Core, exceptions: &mut Exceptions, slot: Slot) -> bool
             false
         }
         Taken::Hard(side) => {
-            set_hfsr(&mut core.status, 0x4000_0000);
+            set_hfsr(&mut core.status, FORCED);
             exceptions.pend(Slot { number: 3, side });
             false
         }
         Taken::Lockup => {
-            set_hfsr(&mut core.status, 0x4000_0000);
+            set_hfsr(&mut core.status, FORCED);
             true
         }
     }

@@ -1,9 +1,10 @@
 //! The status bits and the addresses that faults set.
 
 ghost use Rattle.std.specs.Prelude.{◌≡◌};
-ghost use Rattle.tz_frames.specs.Status.{with_ufsr, with_mmfsr, with_mmfar, with_bfsr, with_bfar, with_hfsr, with_sfsr, with_sfar, status_after, frame_bit, word_status, frame_status};
+ghost use Rattle.tz_frames.specs.Status.{with_ufsr, with_mmfsr, with_mmfar, with_bfsr, with_bfar, with_hfsr, with_sfsr, with_sfar, with_bits, with_address, with_effect, status_after, word_status, frame_status};
 
-use tz_frames::StackFault;
+use crate::effect::{effect_of, word_effect};
+use tz_frames::{FaultAddress, FaultEffect, FaultException, StackFault};
 use tz_model::{Fault, Side};
 use tz_regs::Status;
 
@@ -72,58 +73,52 @@ fn set_sfar(status: &mut Status, address: u32)
     status.security.sfar = address;
 }
 
+/// Sets bits of the status register that an exception of a side has.
+fn set_bits(status: &mut Status, exception: FaultException, side: Side, bits: u32)
+    ensures { status.new ≡ with_bits exception side bits status.old }
+{
+    match exception {
+        FaultException::MemManage => set_mmfsr(status, side, bits),
+        FaultException::BusFault => set_bfsr(status, bits),
+        FaultException::UsageFault => set_ufsr(status, side, bits),
+        FaultException::HardFault => set_hfsr(status, bits),
+        FaultException::SecureFault => set_sfsr(status, bits),
+        FaultException::SVCall => {}
+    }
+}
+
+/// Writes an address to its register, of a side.
+fn set_address(status: &mut Status, address: FaultAddress, side: Side)
+    ensures { status.new ≡ with_address address side status.old }
+{
+    match address {
+        FaultAddress::Unwritten => {}
+        FaultAddress::Mmfar(address) => set_mmfar(status, side, address),
+        FaultAddress::Bfar(address) => set_bfar(status, address),
+        FaultAddress::Sfar(address) => set_sfar(status, address),
+    }
+}
+
+/// Sets what a line of the table of faults sets.
+fn set_effect(status: &mut Status, effect: FaultEffect)
+    ensures { status.new ≡ with_effect effect status.old }
+{
+    set_bits(status, effect.exception, effect.side, effect.status);
+    set_address(status, effect.address, effect.side);
+}
+
 /// Sets what a fault of code of a side sets: its bit, and its address with the bit that tells it.
 pub(crate) fn set_status(status: &mut Status, side: Side, fault: Fault)
     ensures { status.new ≡ status_after side fault status.old }
 {
-    match fault {
-        Fault::Undef => set_ufsr(status, side, 0x1),
-        Fault::InvState => set_ufsr(status, side, 0x2),
-        Fault::InvPc(of) => set_ufsr(status, of, 0x4),
-        Fault::NoCp => set_ufsr(status, side, 0x8),
-        Fault::StackLimit(of) => set_ufsr(status, of, 0x10),
-        Fault::Unaligned => set_ufsr(status, side, 0x100),
-        Fault::DivZero => set_ufsr(status, side, 0x200),
-        Fault::DataAccess(address, of) => {
-            set_mmfsr(status, of, 0x82);
-            set_mmfar(status, of, address);
-        }
-        Fault::Exec(of) => set_mmfsr(status, of, 0x1),
-        Fault::Precise(address) => {
-            set_bfsr(status, 0x82);
-            set_bfar(status, address);
-        }
-        Fault::ExecBus => set_bfsr(status, 0x1),
-        Fault::Violation(address) => {
-            set_sfsr(status, 0x48);
-            set_sfar(status, address);
-        }
-        Fault::EntryPoint => set_sfsr(status, 0x1),
-        Fault::Transition => set_sfsr(status, 0x10),
-        Fault::ExcReturn => set_sfsr(status, 0x4),
-        Fault::Signature => set_sfsr(status, 0x2),
-        Fault::Breakpoint => set_hfsr(status, 0x8000_0000),
-        Fault::Call => {}
-    }
-}
-
-/// The bit of MMFSR and of BFSR that tells of a frame: STKERR while it is being written, else UNSTKERR.
-fn frame_bit(stacking: bool) -> u32
-    ensures { result ≡ frame_bit stacking }
-{
-    if stacking { 0x10 } else { 0x8 }
+    set_effect(status, effect_of(side, fault));
 }
 
 /// Sets what a word of a frame of the stack of a side sets that can't be accessed.
 fn set_word_status(status: &mut Status, stacking: bool, side: Side, fault: Fault)
     ensures { status.new ≡ word_status stacking side fault status.old }
 {
-    match fault {
-        Fault::DataAccess(_, of) => set_mmfsr(status, of, frame_bit(stacking)),
-        Fault::Precise(_) => set_bfsr(status, frame_bit(stacking)),
-        Fault::Violation(_) => set_sfsr(status, 0x8),
-        _ => set_status(status, side, fault),
-    }
+    set_effect(status, word_effect(stacking, side, fault));
 }
 
 /// Sets what a frame of the stack of a side sets that isn't written or read. No address register tells where.
@@ -131,8 +126,8 @@ pub(crate) fn set_frame_status(status: &mut Status, stacking: bool, side: Side, 
     ensures { status.new ≡ frame_status stacking side fault status.old }
 {
     match fault {
-        StackFault::Limit(of) => set_ufsr(status, of, 0x10),
+        StackFault::Limit(of) => set_status(status, side, Fault::StackLimit(of)),
         StackFault::Access(fault) => set_word_status(status, stacking, side, fault),
-        StackFault::Signature => set_sfsr(status, 0x2),
+        StackFault::Signature => set_status(status, side, Fault::Signature),
     }
 }

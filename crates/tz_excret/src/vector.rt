@@ -1,6 +1,7 @@
 //! The vector of an exception, and the core that handles it (DDI0553, `ExceptionTaken`).
 
 ghost use Rattle.std.specs.Prelude.{◌≡◌, true, ◌==◌, ◌||◌, nat_lt};
+ghost use Rattle.tz_regs.specs.FaultBits.{vecttbl};
 ghost use Rattle.tz_state.specs.ExceptionNumbers.{hard_fault};
 ghost use Rattle.tz_state.specs.Slots.{exists};
 ghost use Rattle.tz_state.specs.SlotChanges.{pended};
@@ -22,6 +23,7 @@ use tz_frames::{Choice, Entering, Frames};
 use tz_model::{Profile, Side, Slot};
 use tz_nvic::Exceptions;
 use tz_prio::can_take;
+use tz_regs::fault_bits::VECTTBL;
 use tz_regs::{Apsr, Core, Registers};
 use tz_state::exception::{HARD_FAULT, NMI};
 
@@ -152,13 +154,13 @@ fn can_harden(core: &Core, exceptions: &Exceptions, slot: Slot) -> bool
 
 /// A vector can't be read: HFSR.VECTTBL is set, and HardFault pends.
 fn fail_vector(core: &mut Core, exceptions: &mut Exceptions, slot: Slot) -> Choice
-    ensures core { core.new ≡ with_status core.old (with_hfsr 2 core.old.status) }
+    ensures core { core.new ≡ with_status core.old (with_hfsr vecttbl core.old.status) }
     ensures exceptions { exceptions.new ≡ pended exceptions.old (slot_of hard_fault (hard_side exceptions.old slot.side)) }
     ensures result { result ≡ vector_choice (can_harden core.old exceptions.old slot) }
 {
     let taken = can_harden(core, exceptions, slot);
     let side = hard_side(exceptions, slot.side);
-    set_hfsr(&mut core.status, 0x2);
+    set_hfsr(&mut core.status, VECTTBL);
     exceptions.pend(Slot {
         number: HARD_FAULT,
         side,

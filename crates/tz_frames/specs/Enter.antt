@@ -11,6 +11,7 @@ use Rattle.tz_regs.specs.declared.parts.Core.{Core}
 use Rattle.tz_regs.specs.declared.parts.Stacks.{Stacks}
 use Rattle.tz_regs.specs.Banks.{stacks_of, with_stacks}
 use Rattle.tz_regs.specs.Registers.{is_handler}
+use Rattle.tz_regs.specs.FaultBits.{vecttbl}
 use Rattle.tz_regs.specs.Special.{number_of}
 use Rattle.tz_state.specs.ExceptionNumbers.{nmi, hard_fault}
 use Rattle.tz_state.specs.Slots.{ExceptionsValue}
@@ -90,7 +91,7 @@ unfoldable pub vector_failed : {H : Type 0} → Work H → Slot → Chosen H
 vector_failed w given =
     record {
       work = record w {
-        core = with_status w.core (with_hfsr (2 ^ 1) w.core.status);
+        core = with_status w.core (with_hfsr vecttbl w.core.status);
         exceptions = pended w.exceptions (slot hard_fault (hard_side w.exceptions given.side));
       };
       choice = vector_choice (can_harden w.core w.exceptions given);

@@ -1,6 +1,7 @@
 pub mod ReturnBits
 pub mod Looks
 pub mod Machine
+pub mod FaultTable
 pub mod Status
 pub mod Stack
 pub mod Gate

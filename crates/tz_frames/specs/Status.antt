@@ -1,122 +1,116 @@
 -- What a fault sets and pends: its status bits and address register, and the exception that it becomes (DDI0553,
 -- `CreateException`).
-use Rattle.std.specs.Prelude.{ℕ, ◌^◌, Bool, true, false, if◌then◌else◌, bit_or}
+use Rattle.std.specs.Prelude.{ℕ, Bool, true, false, bit_or}
 use Rattle.tz_table.specs.declared.units.Side.{Side}
-use Rattle.tz_table.specs.declared.units.Side.TheVariants.{Secure}
 use Rattle.tz_model.specs.declared.report.Fault.{Fault}
-use Rattle.tz_model.specs.declared.report.Fault.TheVariants.{Undef, InvState, InvPc, NoCp, StackLimit, Unaligned, DivZero, DataAccess, Exec, Precise, ExecBus, Violation, EntryPoint, Transition, ExcReturn, Signature, Breakpoint, Call}
+use Rattle.tz_model.specs.declared.report.Fault.TheVariants.{StackLimit, Signature}
 use Rattle.tz_model.specs.declared.report.Slot.{Slot}
 use Rattle.tz_regs.specs.declared.parts.Core.{Core}
 use Rattle.tz_regs.specs.declared.parts.Status.{Status}
+use Rattle.tz_regs.specs.FaultBits.{forced}
 use Rattle.tz_state.specs.declared.taken.Taken.{Taken}
 use Rattle.tz_state.specs.declared.taken.Taken.TheVariants.{AsIs, Hard, Lockup}
 use Rattle.tz_state.specs.Slots.{ExceptionsValue}
 use Rattle.tz_state.specs.SlotChanges.{pended}
 use Rattle.tz_state.specs.Escalation.{hard_side, escalated}
 use Rattle.tz_state.specs.FaultRegisters.{own_status, with_own_status}
+use Rattle.tz_frames.specs.declared.fault.FaultEffect.{FaultEffect}
+use Rattle.tz_frames.specs.declared.fault.FaultAddress.{FaultAddress}
+use Rattle.tz_frames.specs.declared.fault.FaultAddress.TheVariants.{Unwritten, Mmfar, Bfar, Sfar}
+use Rattle.tz_frames.specs.declared.fault.FaultException.{FaultException}
+use Rattle.tz_frames.specs.declared.fault.FaultException.TheVariants.{MemManage, BusFault, UsageFault, HardFault, SecureFault, SVCall}
 use Rattle.tz_frames.specs.declared.frame.StackFault.{StackFault}
 use Rattle.tz_frames.specs.declared.frame.StackFault.TheVariants.{Limit, Access, Signature as Unsigned}
+use Rattle.tz_frames.specs.FaultTable.{effect_of, word_effect}
 
 -- ---- status bits and addresses
 
--- bits of UFSR of a side: UNDEFINSTR 0, INVSTATE 1, INVPC 2, NOCP 3, STKOF 4, UNALIGNED 8, DIVBYZERO 9
+-- bits of UFSR of a side
 abbrev pub with_ufsr : Side → ℕ → Status → Status
 with_ufsr side bits c = with_own_status side c (record (own_status side c) { ufsr = bit_or (own_status side c).ufsr bits })
 
--- bits of MMFSR of a side: IACCVIOL 0, DACCVIOL 1, MUNSTKERR 3, MSTKERR 4, MMARVALID 7
+-- bits of MMFSR of a side
 abbrev pub with_mmfsr : Side → ℕ → Status → Status
 with_mmfsr side bits c = with_own_status side c (record (own_status side c) { mmfsr = bit_or (own_status side c).mmfsr bits })
 
 abbrev pub with_mmfar : Side → ℕ → Status → Status
 with_mmfar side address c = with_own_status side c (record (own_status side c) { mmfar = address })
 
--- bits of BFSR: IBUSERR 0, PRECISERR 1, UNSTKERR 3, STKERR 4, BFARVALID 7
+-- bits of BFSR
 abbrev pub with_bfsr : ℕ → Status → Status
 with_bfsr bits c = record c { bus = record c.bus { bfsr = bit_or c.bus.bfsr bits } }
 
 abbrev pub with_bfar : ℕ → Status → Status
 with_bfar address c = record c { bus = record c.bus { bfar = address } }
 
--- bits of HFSR: VECTTBL 1, FORCED 30, DEBUGEVT 31
+-- bits of HFSR
 abbrev pub with_hfsr : ℕ → Status → Status
 with_hfsr bits c = record c { bus = record c.bus { hfsr = bit_or c.bus.hfsr bits } }
 
--- bits of SFSR: INVEP 0, INVIS 1, INVER 2, AUVIOL 3, INVTRAN 4, SFARVALID 6
+-- bits of SFSR
 abbrev pub with_sfsr : ℕ → Status → Status
 with_sfsr bits c = record c { security = record c.security { sfsr = bit_or c.security.sfsr bits } }
 
 abbrev pub with_sfar : ℕ → Status → Status
 with_sfar address c = record c { security = record c.security { sfar = address } }
 
+-- bits of the status register that an exception of a side has
+abbrev pub with_bits : FaultException → Side → ℕ → Status → Status
+with_bits MemManage side bits c = with_mmfsr side bits c
+with_bits BusFault side bits c = with_bfsr bits c
+with_bits UsageFault side bits c = with_ufsr side bits c
+with_bits HardFault side bits c = with_hfsr bits c
+with_bits SecureFault side bits c = with_sfsr bits c
+with_bits SVCall side bits c = c
+
+-- an address in its register, of a side
+abbrev pub with_address : FaultAddress → Side → Status → Status
+with_address Unwritten side c = c
+with_address (Mmfar address) side c = with_mmfar side address c
+with_address (Bfar address) side c = with_bfar address c
+with_address (Sfar address) side c = with_sfar address c
+
+-- what a line of the table sets
+abbrev pub with_effect : FaultEffect → Status → Status
+with_effect effect c = with_address effect.address effect.side (with_bits effect.exception effect.side effect.status c)
+
 -- what a fault of code of a side sets
 abbrev pub status_after : Side → Fault → Status → Status
-status_after side Undef c = with_ufsr side (2 ^ 0) c
-status_after side InvState c = with_ufsr side (2 ^ 1) c
-status_after side (InvPc of) c = with_ufsr of (2 ^ 2) c
-status_after side NoCp c = with_ufsr side (2 ^ 3) c
-status_after side (StackLimit of) c = with_ufsr of (2 ^ 4) c
-status_after side Unaligned c = with_ufsr side (2 ^ 8) c
-status_after side DivZero c = with_ufsr side (2 ^ 9) c
-status_after side (DataAccess address of) c = with_mmfar of address (with_mmfsr of 0x82 c)
-status_after side (Exec of) c = with_mmfsr of (2 ^ 0) c
-status_after side (Precise address) c = with_bfar address (with_bfsr 0x82 c)
-status_after side ExecBus c = with_bfsr (2 ^ 0) c
-status_after side (Violation address) c = with_sfar address (with_sfsr 0x48 c)
-status_after side EntryPoint c = with_sfsr (2 ^ 0) c
-status_after side Transition c = with_sfsr (2 ^ 4) c
-status_after side ExcReturn c = with_sfsr (2 ^ 2) c
-status_after side Signature c = with_sfsr (2 ^ 1) c
-status_after side Breakpoint c = with_hfsr (2 ^ 31) c
-status_after side Call c = c
+status_after side fault c = with_effect (effect_of side fault) c
 
--- the bit of MMFSR and of BFSR that tells of a frame: whether it was being written
-abbrev pub frame_bit : Bool → ℕ
-frame_bit stacking = if stacking then 2 ^ 4 else 2 ^ 3
-
--- (own) a word of a frame sets no address register
+-- what a word of a frame sets that isn't written or read
 abbrev pub word_status : Bool → Side → Fault → Status → Status
-word_status stacking side (DataAccess address of) c = with_mmfsr of (frame_bit stacking) c
-word_status stacking side (Precise address) c = with_bfsr (frame_bit stacking) c
-word_status stacking side (Violation address) c = with_sfsr (2 ^ 3) c
-word_status stacking side fault c = status_after side fault c
+word_status stacking side fault c = with_effect (word_effect stacking side fault) c
 
 -- what a frame of the stack of a side sets that isn't written or read
 abbrev pub frame_status : Bool → Side → StackFault → Status → Status
-frame_status stacking side (Limit of) c = with_ufsr of (2 ^ 4) c
+frame_status stacking side (Limit of) c = status_after side (StackLimit of) c
 frame_status stacking side (Access fault) c = word_status stacking side fault c
-frame_status stacking side Unsigned c = with_sfsr (2 ^ 1) c
+frame_status stacking side Unsigned c = status_after side Signature c
 
 -- ---- exceptions
 
 abbrev pub slot : ℕ → Side → Slot
 slot number side = record { number = number; side = side }
 
+-- an exception of a side; HardFault is of the side that BFHFNMINS gives it
+abbrev pub exception_slot : ExceptionsValue → Side → FaultException → Slot
+exception_slot e side MemManage = slot 4 side
+exception_slot e side BusFault = slot 5 side
+exception_slot e side UsageFault = slot 6 side
+exception_slot e side HardFault = slot 3 (hard_side e side)
+exception_slot e side SecureFault = slot 7 side
+exception_slot e side SVCall = slot 11 side
+
 -- the exception of a fault of code of a side
 abbrev pub exception_of : ExceptionsValue → Side → Fault → Slot
-exception_of e side Undef = slot 6 side
-exception_of e side InvState = slot 6 side
-exception_of e side (InvPc of) = slot 6 of
-exception_of e side NoCp = slot 6 side
-exception_of e side (StackLimit of) = slot 6 of
-exception_of e side Unaligned = slot 6 side
-exception_of e side DivZero = slot 6 side
-exception_of e side (DataAccess address of) = slot 4 of
-exception_of e side (Exec of) = slot 4 of
-exception_of e side (Precise address) = slot 5 side
-exception_of e side ExecBus = slot 5 side
-exception_of e side (Violation address) = slot 7 side
-exception_of e side EntryPoint = slot 7 side
-exception_of e side Transition = slot 7 side
-exception_of e side ExcReturn = slot 7 side
-exception_of e side Signature = slot 7 side
-exception_of e side Breakpoint = slot 3 (hard_side e side)
-exception_of e side Call = slot 11 side
+exception_of e side fault = exception_slot e (effect_of side fault).side (effect_of side fault).exception
 
 -- that of a frame of the stack of a side
 abbrev pub frame_exception : ExceptionsValue → Side → StackFault → Slot
-frame_exception e side (Limit of) = slot 6 of
+frame_exception e side (Limit of) = exception_of e side (StackLimit of)
 frame_exception e side (Access fault) = exception_of e side fault
-frame_exception e side Unsigned = slot 7 side
+frame_exception e side Unsigned = exception_of e side Signature
 
 -- ---- what pends
 
@@ -134,8 +128,8 @@ with_status c status = record c { status = status }
 abbrev pub raised_as : Taken → Slot → Core → ExceptionsValue → Raised
 raised_as AsIs given c e = record { core = c; exceptions = pended e given; locks = false }
 raised_as (Hard side) given c e =
-    record { core = with_status c (with_hfsr (2 ^ 30) c.status); exceptions = pended e (slot 3 side); locks = false }
-raised_as Lockup given c e = record { core = with_status c (with_hfsr (2 ^ 30) c.status); exceptions = e; locks = true }
+    record { core = with_status c (with_hfsr forced c.status); exceptions = pended e (slot 3 side); locks = false }
+raised_as Lockup given c e = record { core = with_status c (with_hfsr forced c.status); exceptions = e; locks = true }
 
 abbrev pub raised : Slot → Core → ExceptionsValue → Raised
 raised given c e = raised_as (escalated e c.masks given) given c e

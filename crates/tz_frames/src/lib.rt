@@ -16,12 +16,14 @@ ghost use Rattle.tz_regs.specs.declared.parts.Registers.{Registers};
 ghost use Rattle.std.specs.Prelude.{replicate};
 
 mod entering;
+mod fault;
 mod frame;
 mod frames;
 mod leaving;
 pub mod return_bits;
 
 pub use entering::{Choice, Entered, Entering};
+pub use fault::{FaultAddress, FaultEffect, FaultException};
 pub use frame::{Basic, Callee, StackFault};
 pub use frames::Frames;
 pub use leaving::{Left, Returning, Unstacked};

@@ -3,3 +3,4 @@ pub mod Registers
 pub mod ItState
 pub mod Special
 pub mod Reset
+pub mod FaultBits

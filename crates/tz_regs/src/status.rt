@@ -2,7 +2,9 @@
 
 ghost use Rattle.std.specs.Prelude.{◌≡◌, ◌/◌, ◌*◌, bit_and};
 ghost use Rattle.tz_regs.specs.Banks.{status_of, with_status};
+ghost use Rattle.tz_regs.specs.FaultBits.{mmfsr_bits, bfsr_bits, ufsr_bits, hfsr_bits, sfsr_bits};
 
+use crate::fault_bits::{BFSR_BITS, HFSR_BITS, MMFSR_BITS, SFSR_BITS, UFSR_BITS};
 use crate::parts::Core;
 use tz_model::Side;
 
@@ -29,21 +31,21 @@ impl Core {
 
     /// Writes UFSR of a side, CFSR from bit 16 on: UNDEFINSTR to STKOF, UNALIGNED, DIVBYZERO.
     pub fn set_ufsr(&mut self, side: Side, value: u32)
-        ensures { self.new ≡ with_status side self.old (record (status_of side self.old) { ufsr = bit_and value 0x31F }) }
+        ensures { self.new ≡ with_status side self.old (record (status_of side self.old) { ufsr = bit_and value ufsr_bits }) }
     {
         match side {
-            Side::Secure => self.status.s.ufsr = value & 0x31f,
-            Side::NonSecure => self.status.ns.ufsr = value & 0x31f,
+            Side::Secure => self.status.s.ufsr = value & UFSR_BITS,
+            Side::NonSecure => self.status.ns.ufsr = value & UFSR_BITS,
         }
     }
 
     /// Writes MMFSR of a side: IACCVIOL, DACCVIOL, MUNSTKERR, MSTKERR, MMARVALID.
     pub fn set_mmfsr(&mut self, side: Side, value: u32)
-        ensures { self.new ≡ with_status side self.old (record (status_of side self.old) { mmfsr = bit_and value 0x9B }) }
+        ensures { self.new ≡ with_status side self.old (record (status_of side self.old) { mmfsr = bit_and value mmfsr_bits }) }
     {
         match side {
-            Side::Secure => self.status.s.mmfsr = value & 0x9b,
-            Side::NonSecure => self.status.ns.mmfsr = value & 0x9b,
+            Side::Secure => self.status.s.mmfsr = value & MMFSR_BITS,
+            Side::NonSecure => self.status.ns.mmfsr = value & MMFSR_BITS,
         }
     }
 
@@ -59,9 +61,9 @@ impl Core {
 
     /// Writes SFSR: INVEP, INVIS, INVER, AUVIOL, INVTRAN, SFARVALID.
     pub fn set_sfsr(&mut self, value: u32)
-        ensures { self.new ≡ record self.old { status = record self.old.status { security = record self.old.status.security { sfsr = bit_and value 0x5F } } } }
+        ensures { self.new ≡ record self.old { status = record self.old.status { security = record self.old.status.security { sfsr = bit_and value sfsr_bits } } } }
     {
-        self.status.security.sfsr = value & 0x5f;
+        self.status.security.sfsr = value & SFSR_BITS;
     }
 
     /// Writes SFAR.
@@ -73,9 +75,9 @@ impl Core {
 
     /// Writes BFSR, CFSR from bit 8 on: IBUSERR, PRECISERR, UNSTKERR, STKERR, BFARVALID.
     pub fn set_bfsr(&mut self, value: u32)
-        ensures { self.new ≡ record self.old { status = record self.old.status { bus = record self.old.status.bus { bfsr = bit_and value 0x9B } } } }
+        ensures { self.new ≡ record self.old { status = record self.old.status { bus = record self.old.status.bus { bfsr = bit_and value bfsr_bits } } } }
     {
-        self.status.bus.bfsr = value & 0x9b;
+        self.status.bus.bfsr = value & BFSR_BITS;
     }
 
     /// Writes BFAR.
@@ -87,8 +89,8 @@ impl Core {
 
     /// Writes HFSR: VECTTBL, FORCED, DEBUGEVT.
     pub fn set_hfsr(&mut self, value: u32)
-        ensures { self.new ≡ record self.old { status = record self.old.status { bus = record self.old.status.bus { hfsr = bit_and value 0xC0000002 } } } }
+        ensures { self.new ≡ record self.old { status = record self.old.status { bus = record self.old.status.bus { hfsr = bit_and value hfsr_bits } } } }
     {
-        self.status.bus.hfsr = value & 0xc000_0002;
+        self.status.bus.hfsr = value & HFSR_BITS;
     }
 }

@@ -1,7 +1,7 @@
 -- Two entries beside each other that began in twins: they end as twins, they both lock, or they both looked at
 -- Secure state.
 use Rattle.std.proofs.Common.{◌≡◌, ℕ, zero, suc, ◌+◌, Bool, true, false, ◌&&◌, ◌||◌, not, cond, List, [], ◌∷◌, Option, Some, None, Result, Ok, Err, refl, sym, ap, ◌∙◌, subst}
-use Rattle.std.specs.Prelude.{◌^◌, nat_lt, bit_or}
+use Rattle.std.specs.Prelude.{nat_lt, bit_or}
 use Rattle.tz_table.specs.declared.units.Side.{Side}
 use Rattle.tz_table.specs.declared.units.Side.TheVariants.{Secure, NonSecure}
 use Rattle.tz_table.specs.declared.units.Size.TheVariants.{Word}
@@ -13,6 +13,7 @@ use Rattle.tz_model.specs.Words.{wrap, is_nonsecure_side}
 use Rattle.tz_regs.specs.declared.parts.BusStatus.{BusStatus}
 use Rattle.tz_regs.specs.declared.parts.Core.{Core}
 use Rattle.tz_regs.specs.declared.parts.Stacks.{Stacks}
+use Rattle.tz_regs.specs.FaultBits.{vecttbl}
 use Rattle.tz_regs.specs.Registers.{is_privileged, uses_process, sp_of}
 use Rattle.tz_state.specs.declared.request.Kind.TheVariants.{Write}
 use Rattle.tz_state.specs.Memory.{Memory, every, word_at}
@@ -209,7 +210,7 @@ vectored_by_twins profile o x x' k g g' entry number (Err fault) same =
     let y = rest_of (state_of v.work.core v.work.exceptions (join_bus o x)) in
     let y' = rest_of (state_of v'.work.core v'.work.exceptions (join_bus o x')) in
     chooses_alike (open_of (state_of v.work.core v.work.exceptions (join_bus o x))) y y' k g g' entry v.choice
-    (record { bytes = same.bytes; bus = λ is. ap (λ (b : BusStatus). record b { hfsr = bit_or b.hfsr (2 ^ 1) }) (same.bus is) })
+    (record { bytes = same.bytes; bus = λ is. ap (λ (b : BusStatus). record b { hfsr = bit_or b.hfsr vecttbl }) (same.bus is) })
 
 -- the vector of a Secure exception is a look at Secure state
 vectored_looking : (profile : Profile) (w : Work Framed) (number : ℕ) → (vectored framed profile w (of_number number Secure)).work.entry.touched ≡ true

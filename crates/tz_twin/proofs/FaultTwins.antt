@@ -1,12 +1,13 @@
 -- A fault of Non-secure code in two runs that began in twins: it leaves twins.
 use Rattle.std.proofs.Common.{◌≡◌, Bool, true, false, refl, sym, ap}
-use Rattle.std.specs.Prelude.{◌^◌, bit_or}
+use Rattle.std.specs.Prelude.{◌+◌, if◌then◌else◌, bit_or}
 use Rattle.tz_table.specs.declared.units.Side.TheVariants.{Secure, NonSecure}
 use Rattle.tz_model.specs.declared.report.Fault.{Fault}
 use Rattle.tz_model.specs.declared.report.Fault.TheVariants.{InvPc, StackLimit, DataAccess, Exec, Precise, ExecBus, Violation, Breakpoint}
 use Rattle.tz_model.specs.declared.report.Slot.{Slot}
 use Rattle.tz_regs.specs.declared.parts.BusStatus.{BusStatus}
 use Rattle.tz_regs.specs.declared.parts.Status.{Status}
+use Rattle.tz_regs.specs.FaultBits.{ibuserr, preciserr, unstkerr, stkerr, bfarvalid, forced, debugevt}
 use Rattle.tz_state.specs.declared.taken.Taken.{Taken}
 use Rattle.tz_state.specs.declared.taken.Taken.TheVariants.{AsIs, Hard, Lockup}
 use Rattle.tz_state.specs.Slots.{ExceptionsValue}
@@ -14,7 +15,7 @@ use Rattle.tz_state.specs.SlotChanges.{pended}
 use Rattle.tz_state.specs.Escalation.{escalated}
 use Rattle.tz_frames.specs.declared.frame.StackFault.{StackFault}
 use Rattle.tz_frames.specs.declared.frame.StackFault.TheVariants.{Limit, Access, Signature as Unsigned}
-use Rattle.tz_frames.specs.Status.{with_hfsr, status_after, frame_bit, word_status, frame_status, slot, exception_of, frame_exception, with_status, raised_as, raised, faulted, frame_faulted}
+use Rattle.tz_frames.specs.Status.{with_hfsr, status_after, word_status, frame_status, slot, exception_of, frame_exception, with_status, raised_as, raised, faulted, frame_faulted}
 use Rattle.tz_twin.proofs.Split.{Open, Rest, join, Same}
 use Rattle.tz_twin.proofs.Faults.{is_own}
 use Rattle.tz_twin.proofs.Spared.{is_own_frame}
@@ -49,16 +50,16 @@ left_twins o x x' c c' e locks same h = record {
 }
 
 -- HFSR.FORCED is set in both
-forced : (open_bus : Bool) (c c' : Status) → StatusTwins open_bus c c' → StatusTwins open_bus (with_hfsr (2 ^ 30) c) (with_hfsr (2 ^ 30) c')
-forced open_bus c c' h = bus_set open_bus c c' (λ r. record r { hfsr = bit_or r.hfsr (2 ^ 30) }) h
+forced_twins : (open_bus : Bool) (c c' : Status) → StatusTwins open_bus c c' → StatusTwins open_bus (with_hfsr forced c) (with_hfsr forced c')
+forced_twins open_bus c c' h = bus_set open_bus c c' (λ r. record r { hfsr = bit_or r.hfsr forced }) h
 
 raised_as_twins : (t : Taken) (given : Slot) (o : Open) (x x' : Rest) (c c' : Status) → Same o x x' → StatusTwins o.exceptions.bfhfnmins c c'
     → RaisedTwins o x x' (raised_as t given (with_status (join o x).core c) o.exceptions) (raised_as t given (with_status (join o x').core c') o.exceptions)
 raised_as_twins AsIs given o x x' c c' same h = left_twins o x x' c c' (pended o.exceptions given) false same h
 raised_as_twins (Hard side) given o x x' c c' same h =
-    left_twins o x x' (with_hfsr (2 ^ 30) c) (with_hfsr (2 ^ 30) c') (pended o.exceptions (slot 3 side)) false same (forced o.exceptions.bfhfnmins c c' h)
+    left_twins o x x' (with_hfsr forced c) (with_hfsr forced c') (pended o.exceptions (slot 3 side)) false same (forced_twins o.exceptions.bfhfnmins c c' h)
 raised_as_twins Lockup given o x x' c c' same h =
-    left_twins o x x' (with_hfsr (2 ^ 30) c) (with_hfsr (2 ^ 30) c') o.exceptions true same (forced o.exceptions.bfhfnmins c c' h)
+    left_twins o x x' (with_hfsr forced c) (with_hfsr forced c') o.exceptions true same (forced_twins o.exceptions.bfhfnmins c c' h)
 
 -- an exception becomes the same in both
 raised_twins : (given : Slot) (o : Open) (x x' : Rest) (c c' : Status) → Same o x x' → StatusTwins o.exceptions.bfhfnmins c c'
@@ -79,11 +80,11 @@ status_twins (DataAccess a NonSecure) o x x' own same = record { ns = refl; bus 
 status_twins (Exec Secure) o x x' own same = absurd (cc)
 status_twins (Exec NonSecure) o x x' own same = record { ns = refl; bus = same.bus }
 status_twins (Precise a) o x x' own same =
-    bus_set o.exceptions.bfhfnmins (join o x).core.status (join o x').core.status (λ r. record r { bfsr = bit_or r.bfsr 0x82; bfar = a }) (record { ns = refl; bus = same.bus })
+    bus_set o.exceptions.bfhfnmins (join o x).core.status (join o x').core.status (λ r. record r { bfsr = bit_or r.bfsr (preciserr + bfarvalid); bfar = a }) (record { ns = refl; bus = same.bus })
 status_twins ExecBus o x x' own same =
-    bus_set o.exceptions.bfhfnmins (join o x).core.status (join o x').core.status (λ r. record r { bfsr = bit_or r.bfsr (2 ^ 0) }) (record { ns = refl; bus = same.bus })
+    bus_set o.exceptions.bfhfnmins (join o x).core.status (join o x').core.status (λ r. record r { bfsr = bit_or r.bfsr ibuserr }) (record { ns = refl; bus = same.bus })
 status_twins Breakpoint o x x' own same =
-    bus_set o.exceptions.bfhfnmins (join o x).core.status (join o x').core.status (λ r. record r { hfsr = bit_or r.hfsr (2 ^ 31) }) (record { ns = refl; bus = same.bus })
+    bus_set o.exceptions.bfhfnmins (join o x).core.status (join o x').core.status (λ r. record r { hfsr = bit_or r.hfsr debugevt }) (record { ns = refl; bus = same.bus })
 status_twins _ o x x' own same = record { ns = refl; bus = same.bus }
 
 -- a fault of Non-secure code
@@ -101,7 +102,7 @@ unfolding is_own
 word_twins stacking (DataAccess a Secure) o x x' own same = absurd (cc)
 word_twins stacking (DataAccess a NonSecure) o x x' own same = record { ns = refl; bus = same.bus }
 word_twins stacking (Precise a) o x x' own same =
-    bus_set o.exceptions.bfhfnmins (join o x).core.status (join o x').core.status (λ r. record r { bfsr = bit_or r.bfsr (frame_bit stacking) }) (record { ns = refl; bus = same.bus })
+    bus_set o.exceptions.bfhfnmins (join o x).core.status (join o x').core.status (λ r. record r { bfsr = bit_or r.bfsr (if stacking then stkerr else unstkerr) }) (record { ns = refl; bus = same.bus })
 word_twins stacking (Violation a) o x x' own same = record { ns = refl; bus = same.bus }
 word_twins stacking fault o x x' own same = status_twins fault o x x' own same
 

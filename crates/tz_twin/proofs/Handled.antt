@@ -1,6 +1,6 @@
 -- What an exception finds that an entry or a tail-chain takes: facts of one run, of either side.
 use Rattle.std.proofs.Common.{◌≡◌, ℕ, zero, suc, ◌+◌, ◌-◌, ◌*◌, ◌/◌, ◌%◌, ◌^◌, ◌==◌, Bool, true, false, ◌&&◌, ◌||◌, not, cond, List, [], ◌∷◌, Option, Some, None, Result, Ok, Err, refl, sym, ◌∙◌, subst}
-use Rattle.std.specs.Prelude.{nat_lt}
+use Rattle.std.specs.Prelude.{nat_lt, if◌then◌else◌}
 use Rattle.tz_table.specs.declared.units.Side.{Side}
 use Rattle.tz_table.specs.declared.units.Side.TheVariants.{Secure, NonSecure}
 use Rattle.tz_table.specs.declared.units.Size.TheVariants.{Word}
@@ -13,6 +13,7 @@ use Rattle.tz_regs.specs.declared.parts.Core.{Core}
 use Rattle.tz_regs.specs.declared.parts.Registers.{Registers}
 use Rattle.tz_regs.specs.declared.parts.Status.{Status}
 use Rattle.tz_regs.specs.Banks.{stacks_of}
+use Rattle.tz_regs.specs.FaultBits.{iaccviol, daccviol, munstkerr, mstkerr, mmarvalid, undefinstr, invstate, invpc, nocp, stkof, unaligned, divbyzero}
 use Rattle.tz_regs.specs.Registers.{is_privileged, uses_process, sp_of}
 use Rattle.tz_regs.specs.Special.{number_of}
 use Rattle.tz_state.specs.declared.request.Kind.TheVariants.{Write}
@@ -40,7 +41,7 @@ use Rattle.tz_frames.specs.declared.leaving.Unstacked.{Unstacked}
 use Rattle.tz_frames.specs.declared.leaving.Left.{Left}
 use Rattle.tz_frames.specs.declared.leaving.Left.TheVariants as lefts
 use Rattle.tz_frames.specs.Registers.{no_flags, scratch_cleared, all_cleared}
-use Rattle.tz_frames.specs.Status.{with_ufsr, with_mmfsr, with_mmfar, status_after, word_status, frame_status, frame_bit, exception_of, frame_exception, Raised, with_status, raised_as, faulted, frame_faulted}
+use Rattle.tz_frames.specs.Status.{with_ufsr, with_mmfsr, with_mmfar, status_after, word_status, frame_status, exception_of, frame_exception, Raised, with_status, raised_as, faulted, frame_faulted}
 use Rattle.tz_frames.specs.Stack.{Pushed, limit_of, with_side_sp, after_store, written, pushed_with, pushed, basic_base, basic_words, pushed_basic, callee_words, pushed_additional}
 use Rattle.tz_frames.specs.Enter.{Work, Chosen, Done, is_secure, exc_return, dcrs_of, handling, can_harden, vector_choice, vectored_by, vectored, vector_failed, looking_at, falls, fallen, callee_process, callee_privileged, raised_choice, after_raise, stacked_by, stacked, taking, choosing_from, choosing, locked_up, goes_on, tries, interrupted, begins_raised, begins, enters}
 use Rattle.tz_frames.specs.Leave.{returning_by, side_by, noted, slot_returning, freed, unhandled, chaining, Leaving, left_of, chained, chained_raised, unstacked, modes_agree, resumes, goes_back, leaves_noting, leaves}
@@ -128,15 +129,15 @@ mmfar_vtor Secure a s = refl
 mmfar_vtor NonSecure a s = refl
 
 status_vtor : (side : Side) (fault : Fault) (s : Status) → (status_after side fault s).ns.vtor ≡ s.ns.vtor
-status_vtor side Undef s = ufsr_vtor side (2 ^ 0) s
-status_vtor side InvState s = ufsr_vtor side (2 ^ 1) s
-status_vtor side (InvPc of) s = ufsr_vtor of (2 ^ 2) s
-status_vtor side NoCp s = ufsr_vtor side (2 ^ 3) s
-status_vtor side (StackLimit of) s = ufsr_vtor of (2 ^ 4) s
-status_vtor side Unaligned s = ufsr_vtor side (2 ^ 8) s
-status_vtor side DivZero s = ufsr_vtor side (2 ^ 9) s
-status_vtor side (DataAccess a of) s = mmfar_vtor of a (with_mmfsr of 0x82 s) ∙ mmfsr_vtor of 0x82 s
-status_vtor side (Exec of) s = mmfsr_vtor of (2 ^ 0) s
+status_vtor side Undef s = ufsr_vtor side undefinstr s
+status_vtor side InvState s = ufsr_vtor side invstate s
+status_vtor side (InvPc of) s = ufsr_vtor of invpc s
+status_vtor side NoCp s = ufsr_vtor side nocp s
+status_vtor side (StackLimit of) s = ufsr_vtor of stkof s
+status_vtor side Unaligned s = ufsr_vtor side unaligned s
+status_vtor side DivZero s = ufsr_vtor side divbyzero s
+status_vtor side (DataAccess a of) s = mmfar_vtor of a (with_mmfsr of (daccviol + mmarvalid) s) ∙ mmfsr_vtor of (daccviol + mmarvalid) s
+status_vtor side (Exec of) s = mmfsr_vtor of iaccviol s
 status_vtor side (Precise a) s = refl
 status_vtor side ExecBus s = refl
 status_vtor side (Violation a) s = refl
@@ -148,13 +149,13 @@ status_vtor side Breakpoint s = refl
 status_vtor side Call s = refl
 
 word_vtor : (stacking : Bool) (side : Side) (fault : Fault) (s : Status) → (word_status stacking side fault s).ns.vtor ≡ s.ns.vtor
-word_vtor stacking side (DataAccess a of) s = mmfsr_vtor of (frame_bit stacking) s
+word_vtor stacking side (DataAccess a of) s = mmfsr_vtor of (if stacking then mstkerr else munstkerr) s
 word_vtor stacking side (Precise a) s = refl
 word_vtor stacking side (Violation a) s = refl
 word_vtor stacking side fault s = status_vtor side fault s
 
 frame_vtor : (stacking : Bool) (side : Side) (fault : StackFault) (s : Status) → (frame_status stacking side fault s).ns.vtor ≡ s.ns.vtor
-frame_vtor stacking side (Limit of) s = ufsr_vtor of (2 ^ 4) s
+frame_vtor stacking side (Limit of) s = ufsr_vtor of stkof s
 frame_vtor stacking side (Access fault) s = word_vtor stacking side fault s
 frame_vtor stacking side Unsigned s = refl
 
