@@ -6,7 +6,7 @@ ghost use Rattle.tz_sem.specs.Exchange.{core_back, looking};
 ghost use Rattle.tz_sem.specs.Step.{is_call};
 
 use crate::changes::Stores;
-use crate::port::CorePort;
+use crate::port::port_over;
 use crate::running::{Machine, next_of};
 use crate::taking::frames_over;
 use tz_excret::is_exc_return;
@@ -137,14 +137,13 @@ impl Machine {
         stores.clear();
         let next = next_of(self.core.registers.pc, code);
         let asker = self.asker();
-        let mut port = CorePort {
+        let mut port = port_over(
             asker,
-            ipsr: self.core.registers.ipsr,
-            status: self.core.status,
-            exceptions: &mut self.exceptions,
-            bus: &mut self.bus,
+            &self.core,
+            &mut self.exceptions,
+            &mut self.bus,
             stores,
-        };
+        );
         let called = call_ns(&mut self.core, &mut port, target, next);
         self.core.status = port.status;
         match called {

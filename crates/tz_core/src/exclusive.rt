@@ -8,7 +8,7 @@ ghost use Rattle.tz_sem.specs.declared.family.Family.TheVariants.{LoadStore};
 ghost use Rattle.tz_sem.specs.Exec.{marked, loads_stores, stores_exclusive, executed_by};
 
 use crate::changes::Stores;
-use crate::port::CorePort;
+use crate::port::port_over;
 use crate::running::Machine;
 use tz_access::is_aligned;
 use tz_model::{Fault, Insn, Outcome, Size};
@@ -37,14 +37,13 @@ impl Machine {
         ensures { loads_stores self.old insn.now ≡ record { state = self.new; stores = stores.new.items; outcome = result } }
     {
         let asker = self.asker();
-        let mut port = CorePort {
+        let mut port = port_over(
             asker,
-            ipsr: self.core.registers.ipsr,
-            status: self.core.status,
-            exceptions: &mut self.exceptions,
-            bus: &mut self.bus,
+            &self.core,
+            &mut self.exceptions,
+            &mut self.bus,
             stores,
-        };
+        );
         let outcome = tz_loadstore::execute(insn, &mut self.core, &mut port);
         self.core.status = port.status;
         outcome

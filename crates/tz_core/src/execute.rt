@@ -4,7 +4,7 @@ ghost use Rattle.std.specs.Prelude.{◌≡◌, []};
 ghost use Rattle.arrayvec.specs.ArrayVec.{array_vec_len};
 
 use crate::changes::Stores;
-use crate::port::CorePort;
+use crate::port::port_over;
 use crate::running::Machine;
 use tz_model::{Fault, Insn, Outcome};
 use tz_prio::execution_priority;
@@ -37,14 +37,13 @@ impl Machine {
         ensures { executed_by Branch self.old insn.now ≡ record { state = self.new; stores = stores.new.items; outcome = result } }
     {
         let asker = self.asker();
-        let mut port = CorePort {
+        let mut port = port_over(
             asker,
-            ipsr: self.core.registers.ipsr,
-            status: self.core.status,
-            exceptions: &mut self.exceptions,
-            bus: &mut self.bus,
+            &self.core,
+            &mut self.exceptions,
+            &mut self.bus,
             stores,
-        };
+        );
         let outcome = tz_branch::execute(insn, &mut self.core, &mut port);
         self.core.status = port.status;
         outcome

@@ -10,7 +10,7 @@ use crate::changes::Stores;
 use tz_access::{Bus, Place};
 use tz_model::{Fault, Port, Size, Store, cut_to};
 use tz_nvic::Exceptions;
-use tz_regs::Status;
+use tz_regs::{Core, Status};
 use tz_scs::SystemRegisters;
 use tz_state::Asker;
 
@@ -25,6 +25,34 @@ pub struct CorePort<'a> {
     pub exceptions: &'a mut Exceptions,
     pub bus: &'a mut Bus,
     pub stores: &'a mut Stores,
+}
+
+/// The port of code that asks so, over the parts of the machine.
+#[inline(always)]
+pub(crate) fn port_over<'a>(
+    asker: Asker,
+    core: &Core,
+    exceptions: &'a mut Exceptions,
+    bus: &'a mut Bus,
+    stores: &'a mut Stores,
+) -> CorePort<'a>
+    ensures { result ≡ record {
+      asker = asker;
+      ipsr = core.now.registers.ipsr;
+      status = core.now.status;
+      exceptions = exceptions.entry;
+      bus = bus.entry;
+      stores = stores.entry;
+    } }
+{
+    CorePort {
+        asker,
+        ipsr: core.registers.ipsr,
+        status: core.status,
+        exceptions,
+        bus,
+        stores,
+    }
 }
 
 impl CorePort<'_> {

@@ -189,15 +189,11 @@ impl Machine {
     }
 
     /// SG, reached from Non-secure state.
-    fn enter(&mut self, course: Course) -> Ending
-        ensures { enters self.old course ≡ record { state = self.new; stores = []; ending = result } }
+    fn enter(&mut self, course: Course, code: &Code) -> Ending
+        ensures { enters self.old course code.now ≡ record { state = self.new; stores = []; ending = result } }
     {
         secure_gateway(&mut self.core);
-        let code = Code {
-            first: 0xe97f,
-            second: Some(0xe97f),
-        };
-        ran_by(Cause::Went, course, &code)
+        ran_by(Cause::Went, course, code)
     }
 
     /// Skips an instruction whose condition fails.
@@ -312,7 +308,7 @@ impl Machine {
             Err(fault) => self.fault(course, fault),
             Ok(fetched) => {
                 if fetched.gateway {
-                    self.enter(course)
+                    self.enter(course, &fetched.code)
                 } else {
                     self.run_code(&fetched.code, course, stores)
                 }

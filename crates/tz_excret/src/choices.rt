@@ -4,17 +4,18 @@
 ghost use Rattle.std.specs.Prelude.{◌≡◌, ◌≤◌, ◌+◌, true, false};
 ghost use Rattle.tz_state.specs.Slots.{exists};
 ghost use Rattle.tz_frames.specs.declared.entering.Entered.TheVariants as entered;
-ghost use Rattle.tz_frames.specs.Enter.{Work, falls, callee_process, callee_privileged, raised_choice, stacked, taking, choosing, tries, with_lock};
+ghost use Rattle.tz_frames.specs.Enter.{falls, callee_process, callee_privileged, raised_choice, stacked, taking, choosing, tries, with_lock};
 ghost use Rattle.tz_frames.specs.Stack.{pushed_additional};
+ghost use Rattle.tz_excret.specs.Lent.{work_of, SameLoans};
 ghost use Rattle.tz_excret.specs.Room.{need};
 
 use crate::choice::chosen;
 use crate::raise::raise_frame_fault;
 use crate::sides::is_secure;
 use crate::vector::take_vector;
+use crate::work::Work;
 use tz_frames::{Choice, Entered, Entering, Frames};
-use tz_model::{Profile, Side, Slot};
-use tz_nvic::Exceptions;
+use tz_model::{Side, Slot};
 use tz_regs::Core;
 use tz_stack::push_additional;
 
@@ -62,103 +63,84 @@ fn raised_choice(locks: bool) -> Choice
 
 /// Writes the additional frame, and takes an exception where that is done, or where a frame has faulted before. The
 /// slot exists.
-fn take_stacked<P: Frames>(
-    core: &mut Core,
-    exceptions: &mut Exceptions,
-    port: &mut P,
-    entry: &mut Entering,
-    slot: Slot,
-    profile: Profile,
-) -> Choice
-    requires slot { exists exceptions.old slot ≡ true }
-    requires room { 10 ≤ P.room port.old }
-    ensures does { stacked P.answer profile (record { core = core.old; exceptions = exceptions.old; held = P.held port.old; entry = entry.old }) slot (pushed_additional P.answer core.old (P.held port.old) (callee_process core.old entry.old) (callee_privileged core.old entry.old)) ≡ record { work = record { core = core.new; exceptions = exceptions.new; held = P.held port.new; entry = entry.new }; choice = result } }
+fn take_stacked<P: Frames>(work: &mut Work<'_, P>, entry: &mut Entering, slot: Slot) -> Choice
+    requires slot { exists work.old.exceptions.now slot ≡ true }
+    requires room { 10 ≤ P.room work.old.port.now }
+    ensures does { stacked P.answer work.old.profile (work_of P.held work.old entry.old) slot (pushed_additional P.answer work.old.core.now (P.held work.old.port.now) (callee_process work.old.core.now entry.old) (callee_privileged work.old.core.now entry.old)) ≡ record { work = work_of P.held work.new entry.new; choice = result } }
+    ensures loans { SameLoans work.old work.new }
     ensures skip { entry.new.skip ≡ true }
-    ensures room { P.room port.old ≤ P.room port.new + 10 }
-    ensures lent { P.lent port.new ≡ P.lent port.old }
+    ensures room { P.room work.old.port.now ≤ P.room work.new.port.now + 10 }
+    ensures lent { P.lent work.new.port.now ≡ P.lent work.old.port.now }
 {
-    let process = callee_process(core, entry);
-    let privileged = callee_privileged(core, entry);
+    let process = callee_process(work.core, entry);
+    let privileged = callee_privileged(work.core, entry);
     entry.skip = true;
     entry.fell = true;
-    if let Err(fault) = push_additional(core, port, process, privileged) {
+    if let Err(fault) = push_additional(work.core, work.port, process, privileged) {
         if !entry.faulted {
             entry.faulted = true;
-            let locks = raise_frame_fault(core, exceptions, true, Side::Secure, fault);
+            let locks = raise_frame_fault(work.core, work.exceptions, true, Side::Secure, fault);
             return raised_choice(locks);
         }
     }
-    take_vector(core, exceptions, port, entry, slot, profile)
+    take_vector(work, entry, slot)
 }
 
 /// Takes an exception, with the additional frame where it is due. The slot exists.
 #[tactic(auto, unfolding(tz_frames::specs::Enter::taking))]
-fn take<P: Frames>(
-    core: &mut Core,
-    exceptions: &mut Exceptions,
-    port: &mut P,
-    entry: &mut Entering,
-    slot: Slot,
-    profile: Profile,
-) -> Choice
-    requires slot { exists exceptions.old slot ≡ true }
-    requires room { need entry.old ≤ P.room port.old }
-    ensures does { taking P.answer profile (record { core = core.old; exceptions = exceptions.old; held = P.held port.old; entry = entry.old }) slot ≡ record { work = record { core = core.new; exceptions = exceptions.new; held = P.held port.new; entry = entry.new }; choice = result } }
-    ensures room { P.room port.old + need entry.new ≤ P.room port.new + need entry.old }
-    ensures lent { P.lent port.new ≡ P.lent port.old }
+fn take<P: Frames>(work: &mut Work<'_, P>, entry: &mut Entering, slot: Slot) -> Choice
+    requires slot { exists work.old.exceptions.now slot ≡ true }
+    requires room { need entry.old ≤ P.room work.old.port.now }
+    ensures does { taking P.answer work.old.profile (work_of P.held work.old entry.old) slot ≡ record { work = work_of P.held work.new entry.new; choice = result } }
+    ensures loans { SameLoans work.old work.new }
+    ensures room { P.room work.old.port.now + need entry.new ≤ P.room work.new.port.now + need entry.old }
+    ensures lent { P.lent work.new.port.now ≡ P.lent work.old.port.now }
 {
     let falls = falls(entry, slot);
     if falls && !entry.skip {
-        return take_stacked(core, exceptions, port, entry, slot, profile);
+        return take_stacked(work, entry, slot);
     }
     entry.fell = entry.fell || falls;
-    take_vector(core, exceptions, port, entry, slot, profile)
+    take_vector(work, entry, slot)
 }
 
 /// Takes the exception that comes first; without one the core locks.
 #[tactic(auto, unfolding(tz_frames::specs::Enter::choosing))]
-fn choose<P: Frames>(
-    core: &mut Core,
-    exceptions: &mut Exceptions,
-    port: &mut P,
-    entry: &mut Entering,
-    profile: Profile,
-) -> Choice
-    requires { need entry.old ≤ P.room port.old }
-    ensures does { choosing P.answer profile (record { core = core.old; exceptions = exceptions.old; held = P.held port.old; entry = entry.old }) ≡ record { work = record { core = core.new; exceptions = exceptions.new; held = P.held port.new; entry = entry.new }; choice = result } }
-    ensures room { P.room port.old + need entry.new ≤ P.room port.new + need entry.old }
-    ensures lent { P.lent port.new ≡ P.lent port.old }
+fn choose<P: Frames>(work: &mut Work<'_, P>, entry: &mut Entering) -> Choice
+    requires { need entry.old ≤ P.room work.old.port.now }
+    ensures does { choosing P.answer work.old.profile (work_of P.held work.old entry.old) ≡ record { work = work_of P.held work.new entry.new; choice = result } }
+    ensures loans { SameLoans work.old work.new }
+    ensures room { P.room work.old.port.now + need entry.new ≤ P.room work.new.port.now + need entry.old }
+    ensures lent { P.lent work.new.port.now ≡ P.lent work.old.port.now }
 {
-    match chosen(exceptions) {
+    match chosen(work.exceptions) {
         None => Choice::Lockup,
-        Some(slot) => take(core, exceptions, port, entry, slot, profile),
+        Some(slot) => take(work, entry, slot),
     }
 }
 
 /// Makes at most so many choices, and locks the core after them.
 #[tactic(auto, using(crate::proofs::Tries::tries_laws))]
 pub(crate) fn make_choices<P: Frames>(
-    core: &mut Core,
-    exceptions: &mut Exceptions,
-    port: &mut P,
+    work: &mut Work<'_, P>,
     entry: &mut Entering,
-    profile: Profile,
     left: u8,
 ) -> Entered
-    requires { need entry.old ≤ P.room port.old }
-    ensures does { tries P.answer profile left (record { core = core.old; exceptions = exceptions.old; held = P.held port.old; entry = entry.old }) ≡ record { core = core.new; exceptions = exceptions.new; held = P.held port.new; result = result } }
-    ensures room { P.room port.old ≤ P.room port.new + need entry.old }
-    ensures lent { P.lent port.new ≡ P.lent port.old }
+    requires { need entry.old ≤ P.room work.old.port.now }
+    ensures does { tries P.answer work.old.profile left (work_of P.held work.old entry.old) ≡ record { core = work.new.core.now; exceptions = work.new.exceptions.now; held = P.held work.new.port.now; result = result } }
+    ensures loans { SameLoans work.old work.new }
+    ensures room { P.room work.old.port.now ≤ P.room work.new.port.now + need entry.old }
+    ensures lent { P.lent work.new.port.now ≡ P.lent work.old.port.now }
 {
     if left == 0 {
-        return lock(core, entry);
+        return lock(work.core, entry);
     }
-    match choose(core, exceptions, port, entry, profile) {
+    match choose(work, entry) {
         Choice::Taken(slot) => Entered::Taken {
             slot,
             touched: entry.touched,
         },
-        Choice::Lockup => lock(core, entry),
-        Choice::Again => make_choices(core, exceptions, port, entry, profile, left - 1),
+        Choice::Lockup => lock(work.core, entry),
+        Choice::Again => make_choices(work, entry, left - 1),
     }
 }

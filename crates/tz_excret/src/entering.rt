@@ -7,6 +7,7 @@ ghost use Rattle.tz_excret.specs.Room.{need};
 use crate::choices::{CHOICES, lock, make_choices};
 use crate::raise::raise_frame_fault;
 use crate::sides::is_secure;
+use crate::work::Work;
 use tz_frames::{Entered, Entering, Frames};
 use tz_model::Profile;
 use tz_nvic::Exceptions;
@@ -58,5 +59,11 @@ pub fn enter<P: Frames>(
             return lock(core, &entry);
         }
     }
-    make_choices(core, exceptions, port, &mut entry, profile, CHOICES)
+    let mut work = Work {
+        core,
+        exceptions,
+        port,
+        profile,
+    };
+    make_choices(&mut work, &mut entry, CHOICES)
 }

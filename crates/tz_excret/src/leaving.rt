@@ -3,7 +3,8 @@
 ghost use Rattle.std.specs.Prelude.{◌≡◌, ◌≤◌, ◌+◌};
 ghost use Rattle.tz_frames.specs.Status.{faulted, frame_faulted};
 ghost use Rattle.tz_frames.specs.Enter.{with_lock};
-ghost use Rattle.tz_frames.specs.Leave.{left_of, chaining, chained, chained_raised, resumes, goes_back, leaves, unstacked};
+ghost use Rattle.tz_excret.specs.Lent.{left_by, SameLoans};
+ghost use Rattle.tz_frames.specs.Leave.{left_of, chaining, chained, chained_raised, resumes, goes_back, leaves_noting, leaves, unstacked};
 
 use crate::choice::takes;
 use crate::choices::{CHOICES, make_choices};
@@ -12,6 +13,7 @@ use crate::noted::{noted, returning_by, slot_returning};
 use crate::raise::{raise_fault_of, raise_frame_fault};
 use crate::release::{free, unhandle};
 use crate::sides::side_by;
+use crate::work::Work;
 use tz_frames::{Entered, Entering, Frames, Left, Returning, Unstacked};
 use tz_model::{Fault, Profile, Side};
 use tz_nvic::Exceptions;
@@ -45,93 +47,100 @@ fn left_of(entered: Entered) -> Left
 
 /// Takes the exception that comes first in place of the one that returns.
 #[tactic(auto, unfolding(tz_frames::specs::Leave::chained))]
-fn chain<P: Frames>(
-    core: &mut Core,
-    exceptions: &mut Exceptions,
-    port: &mut P,
-    returning: &Returning,
-    touched: bool,
-    profile: Profile,
-) -> Left
-    requires { 10 ≤ P.room port.old }
-    ensures does { chained P.answer profile returning.now touched core.old exceptions.old (P.held port.old) ≡ record { core = core.new; exceptions = exceptions.new; held = P.held port.new; result = result } }
-    ensures room { P.room port.old ≤ P.room port.new + 10 }
-    ensures lent { P.lent port.new ≡ P.lent port.old }
+fn chain<P: Frames>(work: &mut Work<'_, P>, returning: &Returning, touched: bool) -> Left
+    requires { 10 ≤ P.room work.old.port.now }
+    ensures does { chained P.answer work.old.profile returning.now touched work.old.core.now work.old.exceptions.now (P.held work.old.port.now) ≡ left_by P.held work.new result }
+    ensures loans { SameLoans work.old work.new }
+    ensures room { P.room work.old.port.now ≤ P.room work.new.port.now + 10 }
+    ensures lent { P.lent work.new.port.now ≡ P.lent work.old.port.now }
 {
     let mut entry = chaining(returning, touched);
-    left_of(make_choices(core, exceptions, port, &mut entry, profile, CHOICES))
+    left_of(make_choices(work, &mut entry, CHOICES))
 }
 
 /// Does so after a fault has pended, unless the core has to lock.
 fn chain_raised<P: Frames>(
-    core: &mut Core,
-    exceptions: &mut Exceptions,
-    port: &mut P,
+    work: &mut Work<'_, P>,
     returning: &Returning,
     touched: bool,
-    profile: Profile,
     locks: bool,
 ) -> Left
-    requires { 10 ≤ P.room port.old }
-    ensures does { chained_raised P.answer profile returning.now touched (P.held port.old) (record { core = core.old; exceptions = exceptions.old; locks = locks }) ≡ record { core = core.new; exceptions = exceptions.new; held = P.held port.new; result = result } }
-    ensures room { P.room port.old ≤ P.room port.new + 10 }
-    ensures lent { P.lent port.new ≡ P.lent port.old }
+    requires { 10 ≤ P.room work.old.port.now }
+    ensures does { chained_raised P.answer work.old.profile returning.now touched (P.held work.old.port.now) (record { core = work.old.core.now; exceptions = work.old.exceptions.now; locks = locks }) ≡ left_by P.held work.new result }
+    ensures loans { SameLoans work.old work.new }
+    ensures room { P.room work.old.port.now ≤ P.room work.new.port.now + 10 }
+    ensures lent { P.lent work.new.port.now ≡ P.lent work.old.port.now }
 {
     if locks {
-        core.run.locked = true;
+        work.core.run.locked = true;
         return Left::Lockup { touched };
     }
-    chain(core, exceptions, port, returning, touched, profile)
+    chain(work, returning, touched)
 }
 
 /// The code that was interrupted goes on by its frames, or a fault of theirs is entered.
 fn resume_by<P: Frames>(
-    core: &mut Core,
-    exceptions: &mut Exceptions,
-    port: &mut P,
+    work: &mut Work<'_, P>,
     returning: &Returning,
-    profile: Profile,
     frames: &Result<Unstacked, StackFault>,
 ) -> Left
-    requires { 10 ≤ P.room port.old }
-    ensures does { resumes P.answer profile returning.now core.old exceptions.old (P.held port.old) frames.now ≡ record { core = core.new; exceptions = exceptions.new; held = P.held port.new; result = result } }
-    ensures room { P.room port.old ≤ P.room port.new + 10 }
-    ensures lent { P.lent port.new ≡ P.lent port.old }
+    requires { 10 ≤ P.room work.old.port.now }
+    ensures does { resumes P.answer work.old.profile returning.now work.old.core.now work.old.exceptions.now (P.held work.old.port.now) frames.now ≡ left_by P.held work.new result }
+    ensures loans { SameLoans work.old work.new }
+    ensures room { P.room work.old.port.now ≤ P.room work.new.port.now + 10 }
+    ensures lent { P.lent work.new.port.now ≡ P.lent work.old.port.now }
 {
     let touched = returning.secure;
     let side = side_by(returning.secure);
     let locks = match frames {
-        Err(fault) => raise_frame_fault(core, exceptions, false, side, *fault),
+        Err(fault) => raise_frame_fault(work.core, work.exceptions, false, side, *fault),
         Ok(unstacked) => {
             if modes_agree(returning, &unstacked.basic) {
-                resume(core, returning, unstacked);
+                resume(work.core, returning, unstacked);
                 return Left::Resumed { touched };
             }
-            raise_fault_of(core, exceptions, side, Fault::InvPc(side))
+            raise_fault_of(work.core, work.exceptions, side, Fault::InvPc(side))
         }
     };
-    chain_raised(core, exceptions, port, returning, touched, profile, locks)
+    chain_raised(work, returning, touched, locks)
 }
 
 /// Another exception that can be taken comes first, or the code that was interrupted goes on.
 #[tactic(auto, unfolding(tz_frames::specs::Leave::goes_back))]
-fn go_back<P: Frames>(
-    core: &mut Core,
-    exceptions: &mut Exceptions,
-    port: &mut P,
-    returning: &Returning,
-    profile: Profile,
-) -> Left
-    requires { 10 ≤ P.room port.old }
-    ensures does { goes_back P.answer profile returning.now core.old exceptions.old (P.held port.old) ≡ record { core = core.new; exceptions = exceptions.new; held = P.held port.new; result = result } }
-    ensures room { P.room port.old ≤ P.room port.new + 10 }
-    ensures lent { P.lent port.new ≡ P.lent port.old }
+fn go_back<P: Frames>(work: &mut Work<'_, P>, returning: &Returning) -> Left
+    requires { 10 ≤ P.room work.old.port.now }
+    ensures does { goes_back P.answer work.old.profile returning.now work.old.core.now work.old.exceptions.now (P.held work.old.port.now) ≡ left_by P.held work.new result }
+    ensures loans { SameLoans work.old work.new }
+    ensures room { P.room work.old.port.now ≤ P.room work.new.port.now + 10 }
+    ensures lent { P.lent work.new.port.now ≡ P.lent work.old.port.now }
 {
-    if takes(core, exceptions) {
-        return chain(core, exceptions, port, returning, false, profile);
+    if takes(work.core, work.exceptions) {
+        return chain(work, returning, false);
     }
-    let frames = unstack(core, port, returning);
-    resume_by(core, exceptions, port, returning, profile, &frames)
+    let frames = unstack(work.core, work.port, returning);
+    resume_by(work, returning, &frames)
+}
+
+/// The fault that was noted, of code of a side, is entered, or the code that was interrupted goes on.
+fn leave_noting<P: Frames>(
+    work: &mut Work<'_, P>,
+    returning: &Returning,
+    side: Side,
+    noted: Option<Fault>,
+) -> Left
+    requires { 10 ≤ P.room work.old.port.now }
+    ensures does { leaves_noting P.answer work.old.profile side noted returning.now work.old.core.now work.old.exceptions.now (P.held work.old.port.now) ≡ left_by P.held work.new result }
+    ensures loans { SameLoans work.old work.new }
+    ensures room { P.room work.old.port.now ≤ P.room work.new.port.now + 10 }
+    ensures lent { P.lent work.new.port.now ≡ P.lent work.old.port.now }
+{
+    match noted {
+        Some(fault) => {
+            let locks = raise_fault_of(work.core, work.exceptions, side, fault);
+            chain_raised(work, returning, false, locks)
+        }
+        None => go_back(work, returning),
+    }
 }
 
 /// Returns from the exception that runs, by an EXC_RETURN value (DDI0553, `ExceptionReturn`,
@@ -163,11 +172,11 @@ pub fn leave<P: Frames>(
     let slot = slot_returning(core, &returning);
     unhandle(core, exceptions, &returning);
     free(exceptions, slot);
-    match noted {
-        Some(fault) => {
-            let locks = raise_fault_of(core, exceptions, side, fault);
-            chain_raised(core, exceptions, port, &returning, false, profile, locks)
-        }
-        None => go_back(core, exceptions, port, &returning, profile),
-    }
+    let mut work = Work {
+        core,
+        exceptions,
+        port,
+        profile,
+    };
+    leave_noting(&mut work, &returning, side, noted)
 }

@@ -22,6 +22,7 @@ mod release;
 mod sides;
 mod status;
 mod vector;
+mod work;
 
 pub use choice::takes;
 pub use entering::enter;

@@ -10,11 +10,13 @@ ghost use Rattle.tz_state.specs.Priority.{hard_priority};
 ghost use Rattle.tz_state.specs.Execution.{execution};
 ghost use Rattle.tz_frames.specs.Status.{slot as slot_of, with_hfsr, with_status};
 ghost use Rattle.tz_frames.specs.Registers.{taken_registers, scratch_cleared, all_cleared};
-ghost use Rattle.tz_frames.specs.Enter.{Work, exc_return, dcrs_of, handling, is_last_resort, vector_choice, can_harden, vectored};
+ghost use Rattle.tz_frames.specs.Enter.{exc_return, dcrs_of, handling, is_last_resort, vector_choice, can_harden, vectored};
+ghost use Rattle.tz_excret.specs.Lent.{work_of, SameLoans};
 
 use crate::raise::hard_side;
 use crate::sides::{is_secure, set_spsel};
 use crate::status::set_hfsr;
+use crate::work::Work;
 use tz_frames::return_bits::{
     EXC_RETURN_DCRS, EXC_RETURN_FTYPE, EXC_RETURN_MODE, EXC_RETURN_ONES, EXC_RETURN_S,
     EXC_RETURN_SPSEL,
@@ -171,26 +173,24 @@ fn fail_vector(core: &mut Core, exceptions: &mut Exceptions, slot: Slot) -> Choi
 /// Reads the vector of an exception, and takes it. The slot exists.
 #[tactic(auto, unfolding(tz_frames::specs::Enter::vectored, tz_frames::specs::Enter::vector_failed))]
 pub(crate) fn take_vector<P: Frames>(
-    core: &mut Core,
-    exceptions: &mut Exceptions,
-    port: &mut P,
+    work: &mut Work<'_, P>,
     entry: &mut Entering,
     slot: Slot,
-    profile: Profile,
 ) -> Choice
-    requires { exists exceptions.old slot ≡ true }
-    ensures does { vectored P.answer profile (record { core = core.old; exceptions = exceptions.old; held = P.held port.old; entry = entry.old }) slot ≡ record { work = record { core = core.new; exceptions = exceptions.new; held = P.held port.new; entry = entry.new }; choice = result } }
+    requires { exists work.old.exceptions.now slot ≡ true }
+    ensures does { vectored P.answer work.old.profile (work_of P.held work.old entry.old) slot ≡ record { work = work_of P.held work.new entry.new; choice = result } }
+    ensures loans { SameLoans work.old work.new }
     ensures skip { entry.new.skip ≡ entry.old.skip }
-    ensures room { P.room port.new ≡ P.room port.old }
-    ensures lent { P.lent port.new ≡ P.lent port.old }
+    ensures room { P.room work.new.port.now ≡ P.room work.old.port.now }
+    ensures lent { P.lent work.new.port.now ≡ P.lent work.old.port.now }
 {
     entry.touched = is_secure(slot.side) || entry.touched;
-    match port.vector(slot.number, slot.side) {
+    match work.port.vector(slot.number, slot.side) {
         Ok(vector) => {
-            handle(core, profile, entry, slot, vector);
-            exceptions.activate(slot);
+            handle(work.core, work.profile, entry, slot, vector);
+            work.exceptions.activate(slot);
             Choice::Taken(slot)
         }
-        Err(_) => fail_vector(core, exceptions, slot),
+        Err(_) => fail_vector(work.core, work.exceptions, slot),
     }
 }

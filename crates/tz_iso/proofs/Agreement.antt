@@ -1,20 +1,17 @@
 -- Steps and runs from linked states.
-use Rattle.std.proofs.Common.{◌≡◌, Bool, true, false, ℕ, zero, suc, ◌+◌, ◌<◌, ◌↔◌, List, Option, Some, None, refl, sym, ap, ◌∙◌, subst, arith}
+use Rattle.std.proofs.Common.{◌≡◌, ℕ, zero, suc, ◌+◌, ◌<◌, ◌↔◌, List, Option, Some, None, refl, sym, ap, ◌∙◌, subst, arith}
 use Rattle.tz_model.specs.declared.report.Report.{Report}
 use Rattle.tz_model.specs.declared.report.ScriptEvent.{ScriptEvent}
 use Rattle.tz_model.specs.declared.report.View.TheVariants.{Ns}
 use Rattle.tz_model.specs.Board.{BoardValue}
 use Rattle.tz_model.specs.Image.{ImageValue}
-use Rattle.tz_model.specs.Words.{is_nonsecure_side}
-use Rattle.tz_state.specs.State.{State, side_of}
+use Rattle.tz_state.specs.State.{State}
 use Rattle.tz_sem.specs.Boot.{boot}
 use Rattle.tz_sem.specs.Step.{step, started}
 use Rattle.tz_sem.specs.Run.{Events, state_after}
 use Rattle.tz_text.specs.Line.{line}
-use Rattle.tz_twin.specs.Seen.{crossing, Agree, Hidden, seen}
-use Rattle.tz_twin.proofs.Split.{sides_alike, twins_of_seen, seen_of_twins}
-use Rattle.tz_twin.proofs.Stepping.{twin_started}
-use Rattle.tz_twin.proofs.TwoRuns.{Linked, linked_step, boot_seen}
+use Rattle.tz_twin.specs.Seen.{crossing, Agree, seen}
+use Rattle.tz_twin.proofs.TwoRuns.{Linked, linked_step, boot_seen, seen_started}
 use Rattle.tz_iso.specs.declared.answer.What.{What}
 use Rattle.tz_iso.specs.What.{what_by, what_of}
 use Rattle.tz_iso.specs.Runs.{IsLinked, found_at, difference, what_at}
@@ -26,29 +23,16 @@ use Rattle.tz_iso.proofs.Told.{same_crossing, none_crossing}
 pub linked_boots : (b : BoardValue) (secure other nonsecure : ImageValue) → IsLinked (boot b secure nonsecure) (boot b other nonsecure)
 linked_boots b secure other nonsecure = boot_seen b secure nonsecure ∙ sym (boot_seen b other nonsecure)
 
--- Secure code shows nothing but the board
-seen_hidden : (s : State) → is_nonsecure_side (side_of s) ≡ false → seen s ≡ Hidden s.bus.board
-seen_hidden s is = rw is refl
-
--- what a step begins with leaves linked states
-linked_begun : (s t : State) (due : List ScriptEvent) → IsLinked s t → IsLinked (started s due) (started t due)
-linked_begun s t due linked = go (is_nonsecure_side (side_of s)) refl where
-  go : (u : Bool) → is_nonsecure_side (side_of s) ≡ u → IsLinked (started s due) (started t due)
-  go true is = seen_of_twins (started s due) (started t due) (twin_started s t due (twins_of_seen s t linked is))
-  go false is =
-      let is' : is_nonsecure_side (side_of t) ≡ false = sym (sides_alike s t linked) ∙ is in
-      seen_hidden (started s due) is ∙ sym (seen_hidden s is) ∙ linked ∙ seen_hidden t is' ∙ sym (seen_hidden (started t due) is')
-
 -- both steps end on the same board
 pub boards_stepped : (s t : State) (due : List ScriptEvent) → IsLinked s t → (step s due).state.bus.board ≡ (step t due).state.bus.board
-boards_stepped s t due linked = same_boards (started s due) (started t due) (linked_begun s t due linked)
+boards_stepped s t due linked = same_boards (started s due) (started t due) (seen_started s t due linked)
 
 pub crossings_same : (s t : State) (due : List ScriptEvent) → IsLinked s t → what_of (step s due) (step t due) ≡ None → crossing (step s due) ≡ crossing (step t due)
 crossings_same s t due linked e = same_crossing s t due (λ i. (boards_stepped s t due linked i).regions) e
 
 -- what steps that cross alike leave
 pub linked_alike : (k : ℕ) (s t : State) (due : List ScriptEvent) → IsLinked s t → crossing (step s due) ≡ crossing (step t due) → Linked k (step s due) (step t due)
-linked_alike k s t due linked same = linked_step k (started s due) (started t due) (linked_begun s t due linked) same
+linked_alike k s t due linked same = linked_step k (started s due) (started t due) (seen_started s t due linked) same
 
 -- by what the steps leave and tell: they end on boards with the same regions
 pub regions_stepped : (s t : State) (due : List ScriptEvent) (s' t' : State) (r r' : Report) → IsLinked s t → step s due ≡ record { state = s'; report = r }

@@ -28,7 +28,7 @@ use Rattle.tz_state.specs.declared.fetcher.Fetcher.{Fetcher}
 use Rattle.tz_state.specs.State.{State, map_of, is_privileged_in, priority_in, is_negative_at, with_core, with_exceptions, with_run, with_registers, with_pc}
 use Rattle.tz_state.specs.Due.{begun}
 use Rattle.tz_state.specs.Execution.{takes_first, wakes}
-use Rattle.tz_state.specs.Fetch.{fetch, is_own_fetch, wide, sg_half}
+use Rattle.tz_state.specs.Fetch.{fetch, is_own_fetch}
 use Rattle.tz_sem.specs.ItRules.{is_misplaced, is_passed_over, ignores_condition}
 use Rattle.tz_sem.specs.Exec.{Executed, executed}
 use Rattle.tz_frames.specs.Gate.{gateway_entered}
@@ -119,14 +119,14 @@ decoded s course code NoCoprocessor = if is_passed_over s.core.registers then sk
 decoded s course code (Undefined width) = faulting s course Undef
 
 -- SG reached from Non-secure state: Secure code runs on
-abbrev pub enters : State → Course → Ended
-enters s course = with_stores [] (ran (with_core s (gateway_entered s.core)) course (wide sg_half sg_half true).code)
+abbrev pub enters : State → Course → Code → Ended
+enters s course code = with_stores [] (ran (with_core s (gateway_entered s.core)) course code)
 
 -- ---- the fetch
 
 abbrev pub fetched : State → Course → Result Fetched Fault → Ended
 fetched s course (Err fault) = faulting s course fault
-fetched s course (Ok f) = if f.gateway then enters s course else decoded s course f.code (meaning_of f.code)
+fetched s course (Ok f) = if f.gateway then enters s course f.code else decoded s course f.code (meaning_of f.code)
 
 -- the running code as it fetches
 abbrev pub fetcher_in : State → Fetcher

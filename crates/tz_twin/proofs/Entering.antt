@@ -2,6 +2,7 @@
 use Rattle.std.proofs.Common.{◌≡◌, ℕ, ◌+◌, ◌==◌, Bool, true, false, ◌&&◌, not, cond, List, [], Result, Ok, Err, refl, inl, inr, arith}
 use Rattle.std.proofs.lemmas.Bool.Decides.{nat_tests}
 use Rattle.tz_table.specs.declared.units.Side.TheVariants.{Secure, NonSecure}
+use Rattle.tz_table.specs.declared.units.Code.{Code}
 use Rattle.tz_model.specs.declared.board.RegionSide.{RegionSide}
 use Rattle.tz_model.specs.declared.board.RegionSide.TheVariants as sides
 use Rattle.tz_model.specs.declared.report.Fault.{Fault}
@@ -37,8 +38,8 @@ touching_faults s0 s before negative fault stores e knows =
     touching_halts s0 s before true s.core.registers.general stores _ e knows (h.touched refl) h
 
 -- SG that is reached from Non-secure state
-pub touching_enters : (s0 s : State) (before : Seen) (negative : Bool) → board_seen before ≡ s.bus.board → Touching s0 before (enters s (record { touched = true; negative = negative }))
-touching_enters s0 s before negative e = touching_secure s0 before _ refl e refl
+pub touching_enters : (s0 s : State) (before : Seen) (negative : Bool) (code : Code) → board_seen before ≡ s.bus.board → Touching s0 before (enters s (record { touched = true; negative = negative }) code)
+touching_enters s0 s before negative code e = touching_secure s0 before _ refl e refl
 
 -- a halfword that every check of the gateway let pass
 record Admitted (b : Bus) (k : Fetcher) (a : ℕ) : Type 0 where
@@ -97,7 +98,7 @@ looked o x = course_in (join o x) true
 gate_touching : (o : Open) (x : Rest) (a : Result Fetched Fault) → Gate (join_bus o x) (fetcher_in (join o x)) o.registers.pc a → Touching (join o x) (seen (join o x)) (fetched (join o x) (looked o x) a)
 unfolding board_seen
 gate_touching o x _ (Faults fault) = touching_faults (join o x) (join o x) (seen (join o x)) (looked o x).negative fault [] refl (λ e. refl)
-gate_touching o x _ (Enters p q) = touching_enters (join o x) (join o x) (seen (join o x)) (looked o x).negative refl
+gate_touching o x _ (Enters p q) = touching_enters (join o x) (join o x) (seen (join o x)) (looked o x).negative (wide sg_half sg_half true).code refl
 
 gate_arrives : (o : Open) (x : Rest) (a : Result Fetched Fault) → Gate (join_bus o x) (fetcher_in (join o x)) o.registers.pc a → Arrives (join o x) (fetched (join o x) (looked o x) a)
 gate_arrives o x _ (Faults fault) secure unlocked = inr (comes_faults o.registers.ipsr x.stacks_s (join o x) (looked o x) fault secure unlocked)

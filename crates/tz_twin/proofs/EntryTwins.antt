@@ -279,8 +279,8 @@ goes_alike again w w' (choices.Taken given) t h =
       guise = t.guise;
       guise' = t.guise';
       result = entered.Taken given t.entry.touched;
-      done = ap (λ (u : Work Framed). goes_on again u (choices.Taken given)) t.work;
-      done' = ap (λ (u : Work Framed). goes_on again u (choices.Taken given)) t.work';
+      ends = ap (λ (u : Work Framed). goes_on again u (choices.Taken given)) t.work;
+      ends' = ap (λ (u : Work Framed). goes_on again u (choices.Taken given)) t.work';
       same = t.same;
     })
 goes_alike again w w' choices.Lockup t h = EntersLocked refl refl

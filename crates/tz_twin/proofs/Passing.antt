@@ -121,8 +121,8 @@ entered_both o q x x' z z' r course stores d d' same board h h' (EntersLocked l 
     both_stop o x x' course.touched r.general stores _ _ h h' (locks_taken (state_of d.core d.exceptions d.held.bus) course d.result l)
     (locks_taken (state_of d'.core d'.exceptions d'.held.bus) course d'.result l')
 entered_both o q x x' z z' r course stores d d' same board h h' (EntersAlike a) =
-    subst (λ (e : Done Framed). Goal e d') (sym a.done)
-    (subst (λ (e' : Done Framed). Goal (done_of a.part a.rest a.ground a.guise a.result) e') (sym a.done')
+    subst (λ (e : Done Framed). Goal e d') (sym a.ends)
+    (subst (λ (e' : Done Framed). Goal (done_of a.part a.rest a.ground a.guise a.result) e') (sym a.ends')
     (λ p p'. entered_alike o q a.part x x' z z' a.rest a.rest' r course stores a.ground a.guise a.guise' a.result same board a.same p p')) h h'
   where
     Goal : Done Framed → Done Framed → Type 0
@@ -241,8 +241,8 @@ left_both o q x x' z z' r course code stores l l' same board h h' (LeavesLocked 
     both_stop o x x' course.touched r.general stores _ _ h h' (locks_left (state_of l.core l.exceptions l.held.bus) course code l.result t)
     (locks_left (state_of l'.core l'.exceptions l'.held.bus) course code l'.result t')
 left_both o q x x' z z' r course code stores l l' same board h h' (LeavesAlike a) =
-    subst (λ (e : Leaving Framed). Goal e l') (sym a.leaving)
-    (subst (λ (e' : Leaving Framed). Goal (leaving_of a.part a.rest a.ground a.guise a.result) e') (sym a.leaving')
+    subst (λ (e : Leaving Framed). Goal e l') (sym a.ends)
+    (subst (λ (e' : Leaving Framed). Goal (leaving_of a.part a.rest a.ground a.guise a.result) e') (sym a.ends')
     (λ p p'. left_alike o q a.part x x' z z' a.rest a.rest' r course code stores a.ground a.guise a.guise' a.result same board a.same p p')) h h'
   where
     Goal : Leaving Framed → Leaving Framed → Type 0

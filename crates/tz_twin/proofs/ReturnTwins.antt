@@ -57,8 +57,8 @@ left_both d d' (EntersAlike t) = LeavesAlike (record {
   guise = t.guise;
   guise' = t.guise';
   result = left_of t.result;
-  leaving = λ i. leaving_by (t.done i);
-  leaving' = λ i. leaving_by (t.done' i);
+  ends = λ i. leaving_by (t.ends i);
+  ends' = λ i. leaving_by (t.ends' i);
   same = t.same;
 })
 left_both d d' (EntersLocked h h') = LeavesLocked (left_locked d.result h) (left_locked d'.result h')
@@ -151,8 +151,8 @@ resumed_both o x x' k g g' process thread dcrs u same =
       guise = g;
       guise' = g';
       result = lefts.Resumed false;
-      leaving = refl;
-      leaving' = refl;
+      ends = refl;
+      ends' = refl;
       same = record { bytes = same.bytes; bus = same.bus };
     })
 

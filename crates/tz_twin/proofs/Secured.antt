@@ -321,7 +321,7 @@ touching_decoded s before negative code (Undefined width) e = fault_touching (se
 touching_fetched : (s : State) (before : Seen) (negative : Bool) (f : Result Fetched Fault) → Of before s → Touching (secured s) before (fetched (secured s) (seeing negative) f)
 touching_fetched s before negative (Err fault) e = fault_touching (secured s) (secured s) before negative fault [] refl e
 touching_fetched s before negative (Ok f) e =
-    touching_cond (secured s) before f.gateway _ _ (touching_enters (secured s) (secured s) before negative e) (touching_decoded s before negative f.code (meaning_of f.code) e)
+    touching_cond (secured s) before f.gateway _ _ (touching_enters (secured s) (secured s) before negative f.code e) (touching_decoded s before negative f.code (meaning_of f.code) e)
 
 -- an instruction of Secure code, with what comes where T is 0
 touching_instructs : (s : State) (before : Seen) → Of before s → Touching (secured s) before (instructs (secured s))

@@ -119,7 +119,7 @@ hidden_started s events is = rw is refl
 hidden_seen : (s : State) → is_nonsecure_side (side_of s) ≡ false → seen s ≡ Hidden s.bus.board
 hidden_seen s is = rw is refl
 
-seen_started : (s s' : State) (events : List ScriptEvent) → seen s ≡ seen s' → seen (started s events) ≡ seen (started s' events)
+pub seen_started : (s s' : State) (events : List ScriptEvent) → seen s ≡ seen s' → seen (started s events) ≡ seen (started s' events)
 seen_started s s' events e = go (is_nonsecure_side (side_of s)) refl where
   go : (t : Bool) → is_nonsecure_side (side_of s) ≡ t → seen (started s events) ≡ seen (started s' events)
   go true is = seen_of_twins (started s events) (started s' events) (twin_started s s' events (twins_of_seen s s' e is))

@@ -63,29 +63,32 @@ pub record RaisedTwins (o : Open) (x x' : Rest) (r r' : Raised) : Type 0 where
   pub locks : r.locks ≡ r'.locks
   pub same : Same part rest rest'
 
--- ---- how an entry ends: both as twins, both locked, or both with a look at Secure state
+-- ---- how both end, an entry or a return: as twins, both locked, or both with a look at Secure state
 
-abbrev pub done_of : Open → Rest → Ground → Guise → Entered → Done Framed
-done_of o x k g result = record { core = (join o x).core; exceptions = o.exceptions; held = held_of o x k g; result = result }
-
-pub record DoneTwins (d d' : Done Framed) : Type 0 where
+-- what ends so of twins
+pub record EndTwins {E R : Type 0} (end_of : Open → Rest → Ground → Guise → R → E) (e e' : E) : Type 0 where
   pub part : Open
   pub rest : Rest
   pub rest' : Rest
   pub ground : Ground
   pub guise : Guise
   pub guise' : Guise
-  pub result : Entered
-  pub done : d ≡ done_of part rest ground guise result
-  pub done' : d' ≡ done_of part rest' ground guise' result
+  pub result : R
+  pub ends : e ≡ end_of part rest ground guise result
+  pub ends' : e' ≡ end_of part rest' ground guise' result
   pub same : Same part rest rest'
+
+-- ---- how an entry ends
+
+abbrev pub done_of : Open → Rest → Ground → Guise → Entered → Done Framed
+done_of o x k g result = record { core = (join o x).core; exceptions = o.exceptions; held = held_of o x k g; result = result }
 
 abbrev pub locks_up : Entered → Bool
 locks_up (entered.Taken given touched) = false
 locks_up (entered.Lockup touched) = true
 
 pub data DoneBoth (d d' : Done Framed) : Type 0 where
-  EntersAlike : DoneTwins d d' → DoneBoth d d'
+  EntersAlike : EndTwins done_of d d' → DoneBoth d d'
   EntersLocked : locks_up d.result ≡ true → locks_up d'.result ≡ true → DoneBoth d d'
   EntersLooking : entered_touched d.result ≡ true → entered_touched d'.result ≡ true → DoneBoth d d'
 
@@ -94,24 +97,12 @@ pub data DoneBoth (d d' : Done Framed) : Type 0 where
 abbrev pub leaving_of : Open → Rest → Ground → Guise → Left → Leaving Framed
 leaving_of o x k g result = record { core = (join o x).core; exceptions = o.exceptions; held = held_of o x k g; result = result }
 
-pub record LeavingTwins (l l' : Leaving Framed) : Type 0 where
-  pub part : Open
-  pub rest : Rest
-  pub rest' : Rest
-  pub ground : Ground
-  pub guise : Guise
-  pub guise' : Guise
-  pub result : Left
-  pub leaving : l ≡ leaving_of part rest ground guise result
-  pub leaving' : l' ≡ leaving_of part rest' ground guise' result
-  pub same : Same part rest rest'
-
 abbrev pub leaves_locked : Left → Bool
 leaves_locked (left.Resumed touched) = false
 leaves_locked (left.Chained given touched) = false
 leaves_locked (left.Lockup touched) = true
 
 pub data LeavingBoth (l l' : Leaving Framed) : Type 0 where
-  LeavesAlike : LeavingTwins l l' → LeavingBoth l l'
+  LeavesAlike : EndTwins leaving_of l l' → LeavingBoth l l'
   LeavesLocked : leaves_locked l.result ≡ true → leaves_locked l'.result ≡ true → LeavingBoth l l'
   LeavesLooking : left_touched l.result ≡ true → left_touched l'.result ≡ true → LeavingBoth l l'
