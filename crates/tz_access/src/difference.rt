@@ -68,8 +68,8 @@ impl Bus {
         self.memory.differs_in(&other.memory, index, offset, count)
     }
 
-    /// Whether a byte of a block of 32 bytes of a region, of which the block of this address is told by its
-    /// number, differs and is open in both.
+    /// Whether a byte that is open in both differs in a block of 32 bytes of a region. `block` is the number of the
+    /// block, from 0 at the region's base.
     fn differs_in_block(&self, other: &Bus, index: usize, block: usize) -> bool
         requires same { self.now.board.regions ≡ other.now.board.regions }
         requires there { index < length self.now.board.regions }

@@ -1,6 +1,6 @@
 -- Texts cut at their first separator, and the pieces, lines and parts that this gives.
 use Rattle.std.proofs.Common.{◌≡◌, ◌∙◌, ◌<◌, ◌≤◌, ◌+◌, ◌-◌, ◌==◌, ℕ, zero, suc, refl, sym, ap, arith, Bool, true, false, ◌||◌, ◌&&◌, if◌then◌else◌, List, [], ◌∷◌, ◌++◌, length, drop, take, get_or, filter}
-use Rattle.std.proofs.lemmas.Bool.{and_right, ne_eqb, eq-eqb, true≢false}
+use Rattle.std.proofs.lemmas.Bool.{and_right, ne_eqb, eq-eqb, or_parts}
 use Rattle.std.proofs.lemmas.List.{drop_more, length-drop, nil_from_length, take-append-drop}
 use Rattle.std.proofs.Math.Seq.{take-length}
 use Rattle.tz_board.specs.Scripts.{is_part, script_lines, parts_of, pieces, without_returns}
@@ -27,23 +27,18 @@ not_cut s xs before = rw (sym (take-length xs)) (has-take s xs (length xs) befor
 pub to_end : (xs : List ℕ) (n : ℕ) → take (length xs - n) (drop n xs) ≡ drop n xs
 to_end xs n = rw (sym (length-drop n xs)) (take-length (drop n xs))
 
--- neither the first byte nor those after it
-neither : (a b : Bool) → (a || b) ≡ false → (a ≡ false) × (b ≡ false)
-neither true b h = absurd (true≢false h)
-neither false b h = (refl, h)
-
 pub pieces-none : (s : ℕ) (xs : List ℕ) → has s xs ≡ false → pieces s xs ≡ xs ∷ []
 unfolding pieces
 pieces-none s [] h = refl
 pieces-none s (x ∷ xs) h =
-    let no = neither (x == s) (has s xs) h in
+    let no = or_parts (x == s) (has s xs) h in
     rw (no.0, pieces-none s xs no.1)
 
 pub pieces-cut : (s : ℕ) (xs more : List ℕ) → has s xs ≡ false → pieces s (xs ++ s ∷ more) ≡ xs ∷ pieces s more
 unfolding pieces
 pieces-cut s [] more h = rw (eq-eqb s s refl)
 pieces-cut s (x ∷ xs) more h =
-    let no = neither (x == s) (has s xs) h in
+    let no = or_parts (x == s) (has s xs) h in
     rw (no.0, pieces-cut s xs more no.1)
 
 feed-first : (more : List ℕ) → without_returns (10 ∷ more) ≡ 10 ∷ without_returns more
@@ -71,8 +66,8 @@ without_returns-cut [] [] h = refl
 without_returns-cut [] (c ∷ more) h = refl
 without_returns-cut (x ∷ []) more h = rw (feed-first more) (last_byte (x == 13) x (10 ∷ without_returns more))
 without_returns-cut (x ∷ y ∷ xs) more h =
-    let no = neither (x == 10) (has 10 (y ∷ xs)) h in
-    let stays : ((x == 13) && (y == 10)) ≡ false = and_right (x == 13) (y == 10) (neither (y == 10) (has 10 xs) no.1).0 in
+    let no = or_parts (x == 10) (has 10 (y ∷ xs)) h in
+    let stays : ((x == 13) && (y == 10)) ≡ false = and_right (x == 13) (y == 10) (or_parts (y == 10) (has 10 xs) no.1).0 in
     rw stays (ap (λ (l : List ℕ). x ∷ l) (without_returns-cut (y ∷ xs) more no.1))
 
 without_returns-none : (xs : List ℕ) → has 10 xs ≡ false → without_returns xs ≡ xs
@@ -80,8 +75,8 @@ unfolding without_returns
 without_returns-none [] h = refl
 without_returns-none (x ∷ []) h = refl
 without_returns-none (x ∷ y ∷ xs) h =
-    let no = neither (x == 10) (has 10 (y ∷ xs)) h in
-    let stays : ((x == 13) && (y == 10)) ≡ false = and_right (x == 13) (y == 10) (neither (y == 10) (has 10 xs) no.1).0 in
+    let no = or_parts (x == 10) (has 10 (y ∷ xs)) h in
+    let stays : ((x == 13) && (y == 10)) ≡ false = and_right (x == 13) (y == 10) (or_parts (y == 10) (has 10 xs) no.1).0 in
     rw stays (ap (λ (l : List ℕ). x ∷ l) (without_returns-none (y ∷ xs) no.1))
 
 has-chomp : (xs : List ℕ) → has 10 xs ≡ false → has 10 (chomp xs) ≡ false
@@ -89,7 +84,7 @@ unfolding chomp
 has-chomp [] h = refl
 has-chomp (x ∷ []) h = has_last (x == 13) x h
 has-chomp (x ∷ y ∷ xs) h =
-    let no = neither (x == 10) (has 10 (y ∷ xs)) h in
+    let no = or_parts (x == 10) (has 10 (y ∷ xs)) h in
     rw no.0 (has-chomp (y ∷ xs) no.1)
 
 pub script_lines-cut : (xs more : List ℕ) → has 10 xs ≡ false → script_lines (xs ++ 10 ∷ more) ≡ chomp xs ∷ script_lines more

@@ -1,5 +1,5 @@
 -- What the codes that begin with 1110100 mean, leaf by leaf of the decoder.
-use Rattle.std.proofs.Common.{◌≡◌, ◌≢◌, ℕ, true, false, [], ◌∷◌, refl}
+use Rattle.std.proofs.Common.{◌≡◌, ◌≢◌, ℕ, Bool, true, false, [], ◌∷◌, refl}
 use Rattle.std.specs.Prelude.{◌+◌, ◌*◌, pos, if◌then◌else◌}
 use Rattle.std.proofs.lemmas.Bool.{and_from, or_from, eq-eqb, ne_eqb}
 use Rattle.tz_decode.proofs.Zeros.{not_both_zero}
@@ -27,45 +27,29 @@ multiples_three f s h0 h1 h2 = known_by refusals rows (first 9 7 116 ∷ first 6
 
 pub ruleset multiples = (multiples_zero, multiples_three)
 
--- ---- 1110100010
+-- ---- 1110100010, upwards, and 1110100100, downwards
 
-pub several_ldm_w : (f s : ℕ) → bits f 6 10 ≡ 930 → bits s 13 1 ≡ 0 → bits f 4 1 ≡ 1 → decode_of f s ≡ (if can_move_many (bits f 5 1) (bits f 0 4) s then One (insns.LoadMany (bits f 0 4) s false (is_one (bits f 5 1))) Wide else Undefined Wide)
+pub several_load : (down : Bool) (f s : ℕ) → bits f 6 10 ≡ (if down then 932 else 930) → bits s 13 1 ≡ 0 → bits f 4 1 ≡ 1 → decode_of f s ≡ (if can_move_many (bits f 5 1) (bits f 0 4) s then One (insns.LoadMany (bits f 0 4) s down (is_one (bits f 5 1))) Wide else Undefined Wide)
 unfolding rows decode_of
-several_ldm_w f s h0 h1 h2 = known_by refusals rows (first 6 10 930 ∷ second 13 1 0 ∷ first 4 1 1 ∷ []) ([]) f s (and_from _ _ (eq-eqb _ _ h0) (and_from _ _ (eq-eqb _ _ h1) (eq-eqb _ _ h2))) refl
+several_load false f s h0 h1 h2 = known_by refusals rows (first 6 10 930 ∷ second 13 1 0 ∷ first 4 1 1 ∷ []) ([]) f s (and_from _ _ (eq-eqb _ _ h0) (and_from _ _ (eq-eqb _ _ h1) (eq-eqb _ _ h2))) refl
+several_load true f s h0 h1 h2 = known_by refusals rows (first 6 10 932 ∷ second 13 1 0 ∷ first 4 1 1 ∷ []) ([]) f s (and_from _ _ (eq-eqb _ _ h0) (and_from _ _ (eq-eqb _ _ h1) (eq-eqb _ _ h2))) refl
 
-pub several_stm_w : (f s : ℕ) → bits f 6 10 ≡ 930 → bits s 13 1 ≡ 0 → bits f 4 1 ≡ 0 → bits s 15 1 ≡ 0 → decode_of f s ≡ (if can_move_many (bits f 5 1) (bits f 0 4) s then One (insns.StoreMany (bits f 0 4) s false (is_one (bits f 5 1))) Wide else Undefined Wide)
+pub several_store : (down : Bool) (f s : ℕ) → bits f 6 10 ≡ (if down then 932 else 930) → bits s 13 1 ≡ 0 → bits f 4 1 ≡ 0 → bits s 15 1 ≡ 0 → decode_of f s ≡ (if can_move_many (bits f 5 1) (bits f 0 4) s then One (insns.StoreMany (bits f 0 4) s down (is_one (bits f 5 1))) Wide else Undefined Wide)
 unfolding rows decode_of
-several_stm_w f s h0 h1 h2 h3 = known_by refusals rows (first 6 10 930 ∷ second 13 1 0 ∷ first 4 1 0 ∷ second 15 1 0 ∷ []) ([]) f s (and_from _ _ (eq-eqb _ _ h0) (and_from _ _ (eq-eqb _ _ h1) (and_from _ _ (eq-eqb _ _ h2) (eq-eqb _ _ h3)))) refl
+several_store false f s h0 h1 h2 h3 = known_by refusals rows (first 6 10 930 ∷ second 13 1 0 ∷ first 4 1 0 ∷ second 15 1 0 ∷ []) ([]) f s (and_from _ _ (eq-eqb _ _ h0) (and_from _ _ (eq-eqb _ _ h1) (and_from _ _ (eq-eqb _ _ h2) (eq-eqb _ _ h3)))) refl
+several_store true f s h0 h1 h2 h3 = known_by refusals rows (first 6 10 932 ∷ second 13 1 0 ∷ first 4 1 0 ∷ second 15 1 0 ∷ []) ([]) f s (and_from _ _ (eq-eqb _ _ h0) (and_from _ _ (eq-eqb _ _ h1) (and_from _ _ (eq-eqb _ _ h2) (eq-eqb _ _ h3)))) refl
 
-pub several_sp : (f s : ℕ) → bits f 6 10 ≡ 930 → bits s 13 1 ≢ 0 → decode_of f s ≡ Undefined Wide
+pub several_sp : (down : Bool) (f s : ℕ) → bits f 6 10 ≡ (if down then 932 else 930) → bits s 13 1 ≢ 0 → decode_of f s ≡ Undefined Wide
 unfolding rows decode_of
-several_sp f s h0 h1 = known_by refusals rows (first 6 10 930 ∷ []) ((second 13 1 0 ∷ []) ∷ []) f s (eq-eqb _ _ h0) (ne_eqb _ _ h1)
+several_sp false f s h0 h1 = known_by refusals rows (first 6 10 930 ∷ []) ((second 13 1 0 ∷ []) ∷ []) f s (eq-eqb _ _ h0) (ne_eqb _ _ h1)
+several_sp true f s h0 h1 = known_by refusals rows (first 6 10 932 ∷ []) ((second 13 1 0 ∷ []) ∷ []) f s (eq-eqb _ _ h0) (ne_eqb _ _ h1)
 
-pub several_pc : (f s : ℕ) → bits f 6 10 ≡ 930 → bits f 4 1 ≡ 0 → bits s 15 1 ≢ 0 → decode_of f s ≡ Undefined Wide
+pub several_pc : (down : Bool) (f s : ℕ) → bits f 6 10 ≡ (if down then 932 else 930) → bits f 4 1 ≡ 0 → bits s 15 1 ≢ 0 → decode_of f s ≡ Undefined Wide
 unfolding rows decode_of
-several_pc f s h0 h1 h2 = known_by refusals rows (first 6 10 930 ∷ first 4 1 0 ∷ []) ((second 15 1 0 ∷ []) ∷ []) f s (and_from _ _ (eq-eqb _ _ h0) (eq-eqb _ _ h1)) (ne_eqb _ _ h2)
+several_pc false f s h0 h1 h2 = known_by refusals rows (first 6 10 930 ∷ first 4 1 0 ∷ []) ((second 15 1 0 ∷ []) ∷ []) f s (and_from _ _ (eq-eqb _ _ h0) (eq-eqb _ _ h1)) (ne_eqb _ _ h2)
+several_pc true f s h0 h1 h2 = known_by refusals rows (first 6 10 932 ∷ first 4 1 0 ∷ []) ((second 15 1 0 ∷ []) ∷ []) f s (and_from _ _ (eq-eqb _ _ h0) (eq-eqb _ _ h1)) (ne_eqb _ _ h2)
 
-pub ruleset several = (several_ldm_w, several_stm_w, several_sp, several_pc)
-
--- ---- 1110100100
-
-pub several_down_ldmdb : (f s : ℕ) → bits f 6 10 ≡ 932 → bits s 13 1 ≡ 0 → bits f 4 1 ≡ 1 → decode_of f s ≡ (if can_move_many (bits f 5 1) (bits f 0 4) s then One (insns.LoadMany (bits f 0 4) s true (is_one (bits f 5 1))) Wide else Undefined Wide)
-unfolding rows decode_of
-several_down_ldmdb f s h0 h1 h2 = known_by refusals rows (first 6 10 932 ∷ second 13 1 0 ∷ first 4 1 1 ∷ []) ([]) f s (and_from _ _ (eq-eqb _ _ h0) (and_from _ _ (eq-eqb _ _ h1) (eq-eqb _ _ h2))) refl
-
-pub several_down_stmdb : (f s : ℕ) → bits f 6 10 ≡ 932 → bits s 13 1 ≡ 0 → bits f 4 1 ≡ 0 → bits s 15 1 ≡ 0 → decode_of f s ≡ (if can_move_many (bits f 5 1) (bits f 0 4) s then One (insns.StoreMany (bits f 0 4) s true (is_one (bits f 5 1))) Wide else Undefined Wide)
-unfolding rows decode_of
-several_down_stmdb f s h0 h1 h2 h3 = known_by refusals rows (first 6 10 932 ∷ second 13 1 0 ∷ first 4 1 0 ∷ second 15 1 0 ∷ []) ([]) f s (and_from _ _ (eq-eqb _ _ h0) (and_from _ _ (eq-eqb _ _ h1) (and_from _ _ (eq-eqb _ _ h2) (eq-eqb _ _ h3)))) refl
-
-pub several_down_sp : (f s : ℕ) → bits f 6 10 ≡ 932 → bits s 13 1 ≢ 0 → decode_of f s ≡ Undefined Wide
-unfolding rows decode_of
-several_down_sp f s h0 h1 = known_by refusals rows (first 6 10 932 ∷ []) ((second 13 1 0 ∷ []) ∷ []) f s (eq-eqb _ _ h0) (ne_eqb _ _ h1)
-
-pub several_down_pc : (f s : ℕ) → bits f 6 10 ≡ 932 → bits f 4 1 ≡ 0 → bits s 15 1 ≢ 0 → decode_of f s ≡ Undefined Wide
-unfolding rows decode_of
-several_down_pc f s h0 h1 h2 = known_by refusals rows (first 6 10 932 ∷ first 4 1 0 ∷ []) ((second 15 1 0 ∷ []) ∷ []) f s (and_from _ _ (eq-eqb _ _ h0) (eq-eqb _ _ h1)) (ne_eqb _ _ h2)
-
-pub ruleset several_down = (several_down_ldmdb, several_down_stmdb, several_down_sp, several_down_pc)
+pub ruleset several = (several_load, several_store)
 
 -- ---- loads of pairs
 

@@ -26,8 +26,8 @@ pub fn multiples(first: u16, second: u16) -> Decoded
 {
     if field(first, 6, 1) == 0 {
         match field(first, 7, 2) {
-            1 => several(first, second),
-            2 => several_down(first, second),
+            1 => several(false, first, second),
+            2 => several(true, first, second),
             _ => undefined(),
         }
     } else if field(first, 8, 1) + field(first, 5, 1) != 0 {
@@ -49,53 +49,16 @@ pub fn multiples(first: u16, second: u16) -> Decoded
     }
 }
 
-/// The codes 1110100010: upwards.
+/// The codes 1110100010, upwards, and 1110100100, downwards.
 #[tactic(auto, using(crate::proofs::MultipleLaws::several))]
-fn several(first: u16, second: u16) -> Decoded
-    requires { bits first 6 10 ≡ 930 }
+fn several(down: bool, first: u16, second: u16) -> Decoded
+    requires { bits first 6 10 ≡ (if down then 932 else 930) }
     ensures { result ≡ decode_of first second }
 {
     let rn = field(first, 0, 4);
     let bit = field(first, 5, 1);
     let allowed = can_move_many(bit, rn, second);
-    let (list, down, back) = (second, false, bit == 1);
-    if field(second, 13, 1) != 0 {
-        undefined()
-    } else if field(first, 4, 1) == 1 {
-        wide_if(
-            allowed,
-            Insn::LoadMany {
-                rn,
-                list,
-                down,
-                back,
-            },
-        )
-    } else if field(second, 15, 1) != 0 {
-        undefined()
-    } else {
-        wide_if(
-            allowed,
-            Insn::StoreMany {
-                rn,
-                list,
-                down,
-                back,
-            },
-        )
-    }
-}
-
-/// The codes 1110100100: downwards.
-#[tactic(auto, using(crate::proofs::MultipleLaws::several_down))]
-fn several_down(first: u16, second: u16) -> Decoded
-    requires { bits first 6 10 ≡ 932 }
-    ensures { result ≡ decode_of first second }
-{
-    let rn = field(first, 0, 4);
-    let bit = field(first, 5, 1);
-    let allowed = can_move_many(bit, rn, second);
-    let (list, down, back) = (second, true, bit == 1);
+    let (list, back) = (second, bit == 1);
     if field(second, 13, 1) != 0 {
         undefined()
     } else if field(first, 4, 1) == 1 {

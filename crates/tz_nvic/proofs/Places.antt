@@ -1,6 +1,7 @@
 -- Slots and their places tell each other.
-use Rattle.std.proofs.Common.{◌≡◌, ◌⊎◌, inl, inr, ℕ, ◌+◌, ◌*◌, ◌/◌, ◌%◌, ◌<◌, ◌≤◌, Bool, true, false, cond, refl, arith}
+use Rattle.std.proofs.Common.{◌≡◌, inl, inr, ℕ, ◌+◌, ◌*◌, ◌/◌, ◌%◌, ◌<◌, ◌≤◌, Bool, true, false, cond, refl, arith}
 use Rattle.std.specs.Prelude.{nat_lt, nat_le, ◌==◌}
+use Rattle.std.proofs.lemmas.Bool.{cases_order}
 use Rattle.std.proofs.lemmas.Bool.Decides.{nat_tests}
 use Rattle.tz_table.specs.declared.units.Side.{Side}
 use Rattle.tz_table.specs.declared.units.Side.TheVariants.{Secure, NonSecure}
@@ -88,19 +89,13 @@ nonsecure_odd e j l o =
     let few : nat_lt j 32 ≡ true = grind (arith, nat_tests) in
     rw (few, o) refl
 
-compared : (a b : ℕ) → (a < b) ⊎ ((a ≡ b) ⊎ (b < a))
-compared a b = grind arith
-
 not_less : (i j : ℕ) → i < j → number_at j < number_at i → ⊥
 not_less i j l m = grind (arith, nat_tests)
 
 pub ascending : (e : ExceptionsValue) (i j : ℕ) → is_place e j ≡ true → i < j → Ascends e i j
-ascending e i j h l = elim (compared (number_at i) (number_at j)) [
-  | inl a ↦ inl a
-  | inr b ↦ elim b [
-    | inr c ↦ absurd (not_less i j l c)
-    | inl q ↦ (let one = one_number i j l q in
-        let banked : is_banked (i / 2) ≡ true = rw one.half at (banked_of_odd e j one.few one.odd h) in
-        inr (q, secure_even e i (omega (arith, one.few)) one.even banked, nonsecure_odd e j one.few one.odd))
-  ]
+ascending e i j h l = elim (cases_order (number_at i) (number_at j)) [
+  | inr b ↦ elim b [ inl a ↦ inl a | inr c ↦ absurd (not_less i j l c) ]
+  | inl q ↦ (let one = one_number i j l q in
+      let banked : is_banked (i / 2) ≡ true = rw one.half at (banked_of_odd e j one.few one.odd h) in
+      inr (q, secure_even e i (omega (arith, one.few)) one.even banked, nonsecure_odd e j one.few one.odd))
 ]

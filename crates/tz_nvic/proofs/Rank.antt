@@ -1,6 +1,7 @@
 -- What ranks say.
 use Rattle.std.proofs.Common.{◌≡◌, ◌≢◌, ◌⊎◌, inl, inr, ℕ, ◌+◌, ◌*◌, ◌%◌, ◌^◌, ◌<◌, ◌≤◌, Bool, true, false, cond, arith}
 use Rattle.std.proofs.Math.Pow.{pow_mono}
+use Rattle.std.proofs.lemmas.Bool.{cases_order}
 use Rattle.std.proofs.lemmas.Nat.{pow_pos}
 use Rattle.tz_table.specs.declared.units.Side.{Side}
 use Rattle.tz_table.specs.declared.units.Side.TheVariants.{Secure, NonSecure}
@@ -27,23 +28,17 @@ pub subpriority_few : (e : ExceptionsValue) (i : ℕ) → FitGroups e → subpri
 unfolding subpriority_of
 subpriority_few e i h = few_either (is_fixed (number_at i)) (subgroup_of e (side_at e i) (at e i).priority) (subgroup_few e (side_at e i) (at e i).priority h)
 
-compared : (a b : ℕ) → (a < b) ⊎ ((a ≡ b) ⊎ (b < a))
-compared a b = grind arith
-
 by_parts : (p p' s s' i j : ℕ) → s < 256 → s' < 256 → i < 512 → j < 512 → i ≢ j → (p * 256 + s) * 512 + i ≤ (p' * 256 + s') * 512 + j →
     (p < p') ⊎ ((p ≡ p') × ((s < s') ⊎ ((s ≡ s') × (i < j))))
-by_parts p p' s s' i j f f' g g' d h = elim (compared p p') [
-  | inl a ↦ inl a
-  | inr b ↦ elim b [
-    | inr c ↦ absurd (omega arith)
-    | inl c ↦ inr (
-      c,
-      elim (compared s s') [
-        | inl x ↦ inl x
-        | inr y ↦ elim y [ inr z ↦ absurd (omega arith) | inl z ↦ inr (z, omega arith) ]
-      ],
-    )
-  ]
+by_parts p p' s s' i j f f' g g' d h = elim (cases_order p p') [
+  | inr b ↦ elim b [ inl a ↦ inl a | inr c ↦ absurd (omega arith) ]
+  | inl c ↦ inr (
+    c,
+    elim (cases_order s s') [
+      | inr y ↦ elim y [ inl x ↦ inl x | inr z ↦ absurd (omega arith) ]
+      | inl z ↦ inr (z, omega arith)
+    ],
+  )
 ]
 
 to_rank : (p p' s s' i j : ℕ) → s < 256 → s' < 256 → i < 512 → j < 512 → (p < p') ⊎ ((p ≡ p') × ((s < s') ⊎ ((s ≡ s') × (i < j)))) →

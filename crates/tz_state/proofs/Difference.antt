@@ -8,7 +8,7 @@ use Rattle.std.specs.FinMap.{get, keys, contains_key-keys}
 use Rattle.std.specs.Cmp.{unsigned_tied}
 use Rattle.std.specs.Cmp.Lexicographic.{pointwise, pointwise_decides}
 use Rattle.std.proofs.Math.Path.{fun_ext}
-use Rattle.std.proofs.lemmas.Bool.{eqb-true}
+use Rattle.std.proofs.lemmas.Bool.{eqb-true, not-false, or_parts}
 use Rattle.std.proofs.lemmas.Bool.Decides.{Decides-eqb}
 use Rattle.tz_table.specs.declared.units.Side.{Side}
 use Rattle.tz_table.specs.declared.units.Side.TheVariants.{Secure, NonSecure}
@@ -21,10 +21,6 @@ use Rattle.tz_state.specs.State.{Bus, map_in}
 use Rattle.tz_state.specs.Difference.{is_same_flag, is_same_side, is_same_bounds, is_same_slot, is_same_choice, sau_differs, mpu_differs, exceptions_differ, is_same_byte, byte_differs, open_byte_differs, open_bytes_differ}
 
 -- ---- tests that decide
-
-not_false : (p : Bool) → not p ≡ false → p ≡ true
-not_false true e = refl
-not_false false e = sym e
 
 -- a test that follows another
 and_decides : {P Q : Type 0} (p q : Bool) → Decides p P → Decides q Q → Decides (p && q) (P × Q)
@@ -80,7 +76,7 @@ sau_decides u v =
 
 pub same_sau : (u v : SauState) → sau_differs u v ≡ false → u ≡ v
 unfolding sau_differs
-same_sau u v e = (sau_decides u v).0 (not_false _ e)
+same_sau u v e = (sau_decides u v).0 (not-false _ e)
 
 pub sau_itself : (u : SauState) → sau_differs u u ≡ false
 unfolding sau_differs
@@ -105,7 +101,7 @@ mpu_decides m n =
 
 pub same_mpu : (m n : MpuState) → mpu_differs m n ≡ false → m ≡ n
 unfolding mpu_differs
-same_mpu m n e = (mpu_decides m n).0 (not_false _ e)
+same_mpu m n e = (mpu_decides m n).0 (not-false _ e)
 
 pub mpu_itself : (m : MpuState) → mpu_differs m m ≡ false
 unfolding mpu_differs
@@ -135,7 +131,7 @@ exceptions_decide e f =
 pub same_exceptions : (e f : ExceptionsValue) → exceptions_differ e f ≡ false → e.timer_s ≡ f.timer_s → e.timer_ns ≡ f.timer_ns → e ≡ f
 unfolding exceptions_differ
 same_exceptions e f d s ns =
-    let h = (exceptions_decide e f).0 (not_false _ d) in
+    let h = (exceptions_decide e f).0 (not-false _ d) in
     λ i. record {
       slots = h.slots i;
       interrupts = h.interrupts i;
@@ -160,10 +156,6 @@ byte_decides None (Some y) = (λ h. absurd cc, λ h. absurd cc)
 byte_decides (Some x) None = (λ h. absurd cc, λ h. absurd cc)
 byte_decides (Some x) (Some y) = by_parts (x == y) (Decides-eqb x y) (λ h. ap Some h) (λ h. cc)
 
-not_either : (p q : Bool) → (p || q) ≡ false → (p ≡ false) × (q ≡ false)
-not_either false q e = (refl, e)
-not_either true q e = absurd cc
-
 both_none : (o p : Option ℕ) → is_some o ≡ false → is_some p ≡ false → o ≡ p
 both_none None None e f = refl
 both_none None (Some y) e f = absurd cc
@@ -174,10 +166,10 @@ none_passes : (p : ℕ → Bool) (ks : List ℕ) (a : ℕ) → list_any p ks ≡
 none_passes p [] a e there = absurd cc
 none_passes p (k ∷ ks) a e there =
     elim (eq_by_cmp nat_cmp a k) as (λ b. eq_by_cmp nat_cmp a k ≡ b → p a ≡ false) [
-      | true ↦ λ is. ap p (eqb-true a k (sym (unsigned_tied a k) ∙ is)) ∙ (not_either (p k) (list_any p ks) e).0
+      | true ↦ λ is. ap p (eqb-true a k (sym (unsigned_tied a k) ∙ is)) ∙ (or_parts (p k) (list_any p ks) e).0
       | false ↦ λ is.
           let there' : list_any (eq_by_cmp nat_cmp a) ks ≡ true = rw is at there in
-          none_passes p ks a (not_either (p k) (list_any p ks) e).1 there'
+          none_passes p ks a (or_parts (p k) (list_any p ks) e).1 there'
     ] refl
 
 none_of : (p : ℕ → Bool) (ks : List ℕ) → ((a : ℕ) → p a ≡ false) → list_any p ks ≡ false
@@ -187,13 +179,13 @@ none_of p (k ∷ ks) none = rw (none k) (none_of p ks none)
 same_at : (b c : Bus) (a : ℕ) → is_open (map_in b) a ≡ true → is_open (map_in c) a ≡ true → open_byte_differs b c a ≡ false → get b.memory a ≡ get c.memory a
 same_at b c a mine others e =
     let e' : byte_differs b.memory c.memory a ≡ false = rw (mine, others) at e in
-    (byte_decides (get b.memory a) (get c.memory a)).0 (not_false _ e')
+    (byte_decides (get b.memory a) (get c.memory a)).0 (not-false _ e')
 
 -- where no open byte differs, the two have the same at each address that is open in both
 pub same_bytes : (b c : Bus) → open_bytes_differ b c ≡ false → (a : ℕ) → is_open (map_in b) a ≡ true → is_open (map_in c) a ≡ true → get b.memory a ≡ get c.memory a
 unfolding open_bytes_differ
 same_bytes b c e a mine others =
-    let none = not_either (list_any (open_byte_differs b c) (keys b.memory)) (list_any (open_byte_differs b c) (keys c.memory)) e in
+    let none = or_parts (list_any (open_byte_differs b c) (keys b.memory)) (list_any (open_byte_differs b c) (keys c.memory)) e in
     let by_other : is_some (get b.memory a) ≡ false → get b.memory a ≡ get c.memory a = λ not_mine.
     elim (is_some (get c.memory a)) as (λ t. is_some (get c.memory a) ≡ t → get b.memory a ≡ get c.memory a) [
       | true ↦ λ is. same_at b c a mine others (none_passes (open_byte_differs b c) (keys c.memory) a none.1 (sym (contains_key-keys c.memory a) ∙ is))

@@ -2,35 +2,20 @@
 
 ghost use Rattle.std.specs.Prelude.{◌≡◌, ◌==◌, ◌||◌, ◌<◌, ◌≤◌, false, if◌then◌else◌, true};
 ghost use Rattle.tz_table.specs.Fields.{bits};
-ghost use Rattle.tz_table.specs.Limits.{can_add as can_add_of, can_add_constant as can_add_constant_of, can_add_register as can_add_register_of, can_insert as can_insert_of, can_set_from as can_set_from_of};
+ghost use Rattle.tz_table.specs.Limits.{can_add as can_add_of, can_add_constant as can_add_constant_of, can_insert as can_insert_of, can_set_from as can_set_from_of};
 ghost use Rattle.tz_table.specs.Rows.{limits_at};
 ghost use Rattle.tz_table.specs.Table.{rows};
 ghost use Rattle.tz_table.specs.Terms.{imm12_of, imm5_of};
 
 use crate::limits::{
-    can_add, can_add_constant, can_add_register, can_clear, can_compare, can_extract, can_insert,
-    can_saturate, can_set, can_set_from, plain, plain_base, plain3,
+    can_add, can_add_constant, can_clear, can_compare, can_extract, can_insert, can_saturate,
+    can_set, can_set_from, plain, plain_base, plain3,
 };
+use crate::memory_limits::add_sub_reg_w;
 use crate::parts::{field, imm5, imm12};
 
-/// The limits of `sub.w rd, rn, rm, shift`.
-pub fn sub_reg_w(first: u16, second: u16) -> bool
-    ensures { result ≡ (if bits second 8 4 == 15 then false else can_add_register_of (bits second 8 4) (bits first 0 4) (bits second 0 4) (bits second 4 2) (imm5_of second)) }
-{
-    if field(second, 8, 4) == 15 {
-        return false;
-    }
-    can_add_register(
-        field(second, 8, 4),
-        field(first, 0, 4),
-        field(second, 0, 4),
-        field(second, 4, 2),
-        imm5(second),
-    )
-}
-
-/// The limits of `and.w rd, rn, #i`.
-pub fn and_imm_w(first: u16, second: u16) -> bool
+/// The limits of `and.w rd, rn, #i` and `eor.w rd, rn, #i`.
+pub fn and_eor_imm_w(first: u16, second: u16) -> bool
     ensures { result ≡ (if bits second 8 4 == 15 then false else can_set_from_of (bits second 8 4) (bits first 0 4) (imm12_of first second)) }
 {
     if field(second, 8, 4) == 15 {
@@ -43,8 +28,8 @@ pub fn and_imm_w(first: u16, second: u16) -> bool
     )
 }
 
-/// The limits of `orr.w rd, rn, #i`.
-pub fn orr_imm_w(first: u16, second: u16) -> bool
+/// The limits of `orr.w rd, rn, #i` and `orn.w rd, rn, #i`.
+pub fn orr_orn_imm_w(first: u16, second: u16) -> bool
     ensures { result ≡ (if bits first 0 4 == 15 then false else can_set_from_of (bits second 8 4) (bits first 0 4) (imm12_of first second)) }
 {
     if field(first, 0, 4) == 15 {
@@ -64,51 +49,23 @@ pub fn from_sub_reg_w(number: usize, first: u16, second: u16) -> bool
     ensures { result ≡ limits_at rows number first second }
 {
     match number {
-        112 => sub_reg_w(first, second),
+        112 => add_sub_reg_w(first, second),
         113 => plain_base(field(second, 0, 4), field(first, 0, 4)),
         114 => plain3(field(second, 8, 4), field(first, 0, 4), field(second, 0, 4)),
-        115 => and_imm_w(first, second),
+        115 => and_eor_imm_w(first, second),
         116 => can_set(field(first, 0, 4), imm12(first, second)),
         117 => can_set_from(
             field(second, 8, 4),
             field(first, 0, 4),
             imm12(first, second),
         ),
-        118 => orr_imm_w(first, second),
+        118 => orr_orn_imm_w(first, second),
         _ => can_set(field(second, 8, 4), imm12(first, second)),
     }
 }
 
-/// The limits of `orn.w rd, rn, #i`.
-pub fn orn_imm_w(first: u16, second: u16) -> bool
-    ensures { result ≡ (if bits first 0 4 == 15 then false else can_set_from_of (bits second 8 4) (bits first 0 4) (imm12_of first second)) }
-{
-    if field(first, 0, 4) == 15 {
-        return false;
-    }
-    can_set_from(
-        field(second, 8, 4),
-        field(first, 0, 4),
-        imm12(first, second),
-    )
-}
-
-/// The limits of `eor.w rd, rn, #i`.
-pub fn eor_imm_w(first: u16, second: u16) -> bool
-    ensures { result ≡ (if bits second 8 4 == 15 then false else can_set_from_of (bits second 8 4) (bits first 0 4) (imm12_of first second)) }
-{
-    if field(second, 8, 4) == 15 {
-        return false;
-    }
-    can_set_from(
-        field(second, 8, 4),
-        field(first, 0, 4),
-        imm12(first, second),
-    )
-}
-
-/// The limits of `add.w rd, rn, #i`.
-pub fn add_imm_w(first: u16, second: u16) -> bool
+/// The limits of `add.w rd, rn, #i` and `sub.w rd, rn, #i`.
+pub fn add_sub_imm_w(first: u16, second: u16) -> bool
     ensures { result ≡ (if bits second 8 4 == 15 then false else can_add_constant_of (bits second 8 4) (bits first 0 4) (imm12_of first second)) }
 {
     if field(second, 8, 4) == 15 {
@@ -128,11 +85,11 @@ pub fn from_orn_imm_w(number: usize, first: u16, second: u16) -> bool
     ensures { result ≡ limits_at rows number first second }
 {
     match number {
-        120 => orn_imm_w(first, second),
+        120 => orr_orn_imm_w(first, second),
         121 => can_set(field(second, 8, 4), imm12(first, second)),
-        122 => eor_imm_w(first, second),
+        122 => and_eor_imm_w(first, second),
         123 => can_set(field(first, 0, 4), imm12(first, second)),
-        124 => add_imm_w(first, second),
+        124 => add_sub_imm_w(first, second),
         125 => can_compare(field(first, 0, 4), imm12(first, second)),
         126 => can_set_from(
             field(second, 8, 4),
@@ -147,32 +104,8 @@ pub fn from_orn_imm_w(number: usize, first: u16, second: u16) -> bool
     }
 }
 
-/// The limits of `sub.w rd, rn, #i`.
-pub fn sub_imm_w(first: u16, second: u16) -> bool
-    ensures { result ≡ (if bits second 8 4 == 15 then false else can_add_constant_of (bits second 8 4) (bits first 0 4) (imm12_of first second)) }
-{
-    if field(second, 8, 4) == 15 {
-        return false;
-    }
-    can_add_constant(
-        field(second, 8, 4),
-        field(first, 0, 4),
-        imm12(first, second),
-    )
-}
-
-/// The limits of `addw rd, rn, #i`.
-pub fn addw(first: u16, second: u16) -> bool
-    ensures { result ≡ (if bits first 0 4 == 15 then false else can_add_of (bits second 8 4) (bits first 0 4)) }
-{
-    if field(first, 0, 4) == 15 {
-        return false;
-    }
-    can_add(field(second, 8, 4), field(first, 0, 4))
-}
-
-/// The limits of `subw rd, rn, #i`.
-pub fn subw(first: u16, second: u16) -> bool
+/// The limits of `addw rd, rn, #i` and `subw rd, rn, #i`.
+pub fn addw_subw(first: u16, second: u16) -> bool
     ensures { result ≡ (if bits first 0 4 == 15 then false else can_add_of (bits second 8 4) (bits first 0 4)) }
 {
     if field(first, 0, 4) == 15 {
@@ -188,15 +121,15 @@ pub fn from_sub_imm_w(number: usize, first: u16, second: u16) -> bool
     ensures { result ≡ limits_at rows number first second }
 {
     match number {
-        128 => sub_imm_w(first, second),
+        128 => add_sub_imm_w(first, second),
         129 => can_compare(field(first, 0, 4), imm12(first, second)),
         130 => can_set_from(
             field(second, 8, 4),
             field(first, 0, 4),
             imm12(first, second),
         ),
-        131 => addw(first, second),
-        132 => subw(first, second),
+        131 => addw_subw(first, second),
+        132 => addw_subw(first, second),
         133 => plain(field(second, 8, 4)),
         134 => plain(field(second, 8, 4)),
         _ => plain(field(second, 8, 4)),

@@ -137,8 +137,8 @@ pub fn from_stlexh(number: usize, first: u16, second: u16) -> bool
     }
 }
 
-/// The limits of `and.w rd, rn, rm, shift`.
-pub fn and_reg_w(first: u16, second: u16) -> bool
+/// The limits of `and.w rd, rn, rm, shift` and `eor.w rd, rn, rm, shift`.
+pub fn and_eor_reg_w(first: u16, second: u16) -> bool
     ensures { result ≡ (if bits second 8 4 == 15 then false else plain3_of (bits second 8 4) (bits first 0 4) (bits second 0 4)) }
 {
     if field(second, 8, 4) == 15 {
@@ -147,8 +147,8 @@ pub fn and_reg_w(first: u16, second: u16) -> bool
     plain3(field(second, 8, 4), field(first, 0, 4), field(second, 0, 4))
 }
 
-/// The limits of `orr.w rd, rn, rm, shift`.
-pub fn orr_reg_w(first: u16, second: u16) -> bool
+/// The limits of `orr.w rd, rn, rm, shift` and `orn.w rd, rn, rm, shift`.
+pub fn orr_orn_reg_w(first: u16, second: u16) -> bool
     ensures { result ≡ (if bits first 0 4 == 15 then false else plain3_of (bits second 8 4) (bits first 0 4) (bits second 0 4)) }
 {
     if field(first, 0, 4) == 15 {
@@ -167,10 +167,10 @@ pub fn from_ldaexh(number: usize, first: u16, second: u16) -> bool
         96 => plain_base(field(second, 12, 4), field(first, 0, 4)),
         97 => plain_base(field(second, 12, 4), field(first, 0, 4)),
         98 => can_branch_table(field(first, 0, 4), field(second, 0, 4)),
-        99 => and_reg_w(first, second),
+        99 => and_eor_reg_w(first, second),
         100 => plain2(field(first, 0, 4), field(second, 0, 4)),
         101 => plain3(field(second, 8, 4), field(first, 0, 4), field(second, 0, 4)),
-        102 => orr_reg_w(first, second),
+        102 => orr_orn_reg_w(first, second),
         _ => can_move(
             field(first, 4, 1),
             field(second, 8, 4),
@@ -181,28 +181,8 @@ pub fn from_ldaexh(number: usize, first: u16, second: u16) -> bool
     }
 }
 
-/// The limits of `orn.w rd, rn, rm, shift`.
-pub fn orn_reg_w(first: u16, second: u16) -> bool
-    ensures { result ≡ (if bits first 0 4 == 15 then false else plain3_of (bits second 8 4) (bits first 0 4) (bits second 0 4)) }
-{
-    if field(first, 0, 4) == 15 {
-        return false;
-    }
-    plain3(field(second, 8, 4), field(first, 0, 4), field(second, 0, 4))
-}
-
-/// The limits of `eor.w rd, rn, rm, shift`.
-pub fn eor_reg_w(first: u16, second: u16) -> bool
-    ensures { result ≡ (if bits second 8 4 == 15 then false else plain3_of (bits second 8 4) (bits first 0 4) (bits second 0 4)) }
-{
-    if field(second, 8, 4) == 15 {
-        return false;
-    }
-    plain3(field(second, 8, 4), field(first, 0, 4), field(second, 0, 4))
-}
-
-/// The limits of `add.w rd, rn, rm, shift`.
-pub fn add_reg_w(first: u16, second: u16) -> bool
+/// The limits of `add.w rd, rn, rm, shift` and `sub.w rd, rn, rm, shift`.
+pub fn add_sub_reg_w(first: u16, second: u16) -> bool
     ensures { result ≡ (if bits second 8 4 == 15 then false else can_add_register_of (bits second 8 4) (bits first 0 4) (bits second 0 4) (bits second 4 2) (imm5_of second)) }
 {
     if field(second, 8, 4) == 15 {
@@ -224,11 +204,11 @@ pub fn from_orn_reg_w(number: usize, first: u16, second: u16) -> bool
     ensures { result ≡ limits_at rows number first second }
 {
     match number {
-        104 => orn_reg_w(first, second),
+        104 => orr_orn_reg_w(first, second),
         105 => plain2(field(second, 8, 4), field(second, 0, 4)),
-        106 => eor_reg_w(first, second),
+        106 => and_eor_reg_w(first, second),
         107 => plain2(field(first, 0, 4), field(second, 0, 4)),
-        108 => add_reg_w(first, second),
+        108 => add_sub_reg_w(first, second),
         109 => plain_base(field(second, 0, 4), field(first, 0, 4)),
         110 => plain3(field(second, 8, 4), field(first, 0, 4), field(second, 0, 4)),
         _ => plain3(field(second, 8, 4), field(first, 0, 4), field(second, 0, 4)),

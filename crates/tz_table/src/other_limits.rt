@@ -30,8 +30,8 @@ pub fn from_bl(number: usize, first: u16, second: u16) -> bool
     }
 }
 
-/// The limits of `ldr.w rt, [rn, #i]`.
-pub fn ldr_imm12(first: u16, second: u16) -> bool
+/// The limits of `ldr.w rt, [rn, #i]` and `ldr.w rt, [rn, #-i]`.
+pub fn ldr_offset(first: u16, second: u16) -> bool
     ensures { result ≡ (if bits first 5 2 == 3 || ((bits first 8 1 == 1 && bits first 5 2 == 2) || (bits first 0 4 == 15 || (bits first 5 2 == 0 && bits second 12 4 == 15))) then false else can_load_of (bits first 5 2) (bits second 12 4)) }
 {
     if field(first, 5, 2) == 3 {
@@ -49,8 +49,8 @@ pub fn ldr_imm12(first: u16, second: u16) -> bool
     can_load(field(first, 5, 2), field(second, 12, 4))
 }
 
-/// The limits of `str.w rt, [rn, #i]`.
-pub fn str_imm12(first: u16, second: u16) -> bool
+/// The limits of `str.w rt, [rn, #i]` and `str.w rt, [rn, #-i]`.
+pub fn str_offset(first: u16, second: u16) -> bool
     ensures { result ≡ (if bits first 5 2 == 3 || (bits first 0 4 == 15) then false else can_store_of (bits first 5 2) (bits second 12 4)) }
 {
     if field(first, 5, 2) == 3 {
@@ -62,50 +62,8 @@ pub fn str_imm12(first: u16, second: u16) -> bool
     can_store(field(first, 5, 2), field(second, 12, 4))
 }
 
-/// The limits of `pld`.
-pub fn pld_imm12(first: u16, second: u16) -> bool
-    ensures { result ≡ (if bits first 0 4 == 15 then false else true) }
-{
-    if field(first, 0, 4) == 15 {
-        return false;
-    }
-    true
-}
-
-/// The limits of `ldr.w rt, [rn, #-i]`.
-pub fn ldr_negative(first: u16, second: u16) -> bool
-    ensures { result ≡ (if bits first 5 2 == 3 || ((bits first 8 1 == 1 && bits first 5 2 == 2) || (bits first 0 4 == 15 || (bits first 5 2 == 0 && bits second 12 4 == 15))) then false else can_load_of (bits first 5 2) (bits second 12 4)) }
-{
-    if field(first, 5, 2) == 3 {
-        return false;
-    }
-    if both(field(first, 8, 1) == 1, field(first, 5, 2) == 2) {
-        return false;
-    }
-    if field(first, 0, 4) == 15 {
-        return false;
-    }
-    if both(field(first, 5, 2) == 0, field(second, 12, 4) == 15) {
-        return false;
-    }
-    can_load(field(first, 5, 2), field(second, 12, 4))
-}
-
-/// The limits of `str.w rt, [rn, #-i]`.
-pub fn str_negative(first: u16, second: u16) -> bool
-    ensures { result ≡ (if bits first 5 2 == 3 || (bits first 0 4 == 15) then false else can_store_of (bits first 5 2) (bits second 12 4)) }
-{
-    if field(first, 5, 2) == 3 {
-        return false;
-    }
-    if field(first, 0, 4) == 15 {
-        return false;
-    }
-    can_store(field(first, 5, 2), field(second, 12, 4))
-}
-
-/// The limits of `pld`.
-pub fn pld_negative(first: u16, second: u16) -> bool
+/// The limits of `pld` with an offset.
+pub fn pld_offset(first: u16, second: u16) -> bool
     ensures { result ≡ (if bits first 0 4 == 15 then false else true) }
 {
     if field(first, 0, 4) == 15 {
@@ -138,12 +96,12 @@ pub fn from_udf_w(number: usize, first: u16, second: u16) -> bool
 {
     match number {
         152 => true,
-        153 => ldr_imm12(first, second),
-        154 => str_imm12(first, second),
-        155 => pld_imm12(first, second),
-        156 => ldr_negative(first, second),
-        157 => str_negative(first, second),
-        158 => pld_negative(first, second),
+        153 => ldr_offset(first, second),
+        154 => str_offset(first, second),
+        155 => pld_offset(first, second),
+        156 => ldr_offset(first, second),
+        157 => str_offset(first, second),
+        158 => pld_offset(first, second),
         _ => ldrt(first, second),
     }
 }
