@@ -2,26 +2,14 @@
 
 ghost use Rattle.std.specs.Prelude.{◌≡◌, true};
 ghost use Rattle.tz_state.specs.Slots.{exists};
-ghost use Rattle.tz_state.specs.Escalation.{hard_side};
 ghost use Rattle.tz_frames.specs.Status.{exception_of, frame_exception, raised, faulted, frame_faulted};
 
 use crate::status::{set_frame_status, set_hfsr, set_status};
 use tz_frames::StackFault;
 use tz_model::{Fault, Side, Slot};
 use tz_nvic::Exceptions;
-use tz_prio::{Taken, escalate};
+use tz_prio::{Taken, escalate, hard_side};
 use tz_regs::Core;
-
-/// The side of a HardFault that code of a side raises.
-pub(crate) fn hard_side(exceptions: &Exceptions, side: Side) -> Side
-    ensures { result ≡ hard_side exceptions.now side }
-{
-    if exceptions.fault_side() {
-        side
-    } else {
-        Side::Secure
-    }
-}
 
 /// The exception of a fault of code of a side.
 fn exception_of(exceptions: &Exceptions, side: Side, fault: Fault) -> Slot

@@ -10,13 +10,12 @@ ghost use Rattle.tz_frames.specs.Status.{slot as slot_of, with_hfsr, with_status
 ghost use Rattle.tz_frames.specs.Registers.{taken_registers, scratch_cleared, all_cleared};
 ghost use Rattle.tz_frames.specs.Enter.{Work, exc_return, dcrs_of, handling, is_last_resort, vector_choice, can_harden, vectored};
 
-use crate::raise::hard_side;
 use crate::sides::{is_secure, set_spsel};
 use crate::status::set_hfsr;
 use tz_frames::{Choice, Entering, Frames};
 use tz_model::{Profile, Side, Slot};
 use tz_nvic::Exceptions;
-use tz_prio::can_take;
+use tz_prio::{can_take, hard_side};
 use tz_regs::{Apsr, Core, Registers};
 
 const NO_FLAGS: Apsr = Apsr {
