@@ -2,6 +2,7 @@
 -- its first byte or in its last.
 use Rattle.std.proofs.Common.{◌≡◌, ℕ, ◌+◌, ◌*◌, ◌/◌, ◌%◌, ◌^◌, ◌<◌, ◌⊎◌, inl, inr, Bool, true, false, ◌&&◌, List, [], ◌∷◌, refl, sym, ap, ◌∙◌, arith}
 use Rattle.std.specs.Prelude.{nat_le, nat_lt, not}
+use Rattle.std.proofs.lemmas.Bool.{and_parts}
 use Rattle.std.proofs.lemmas.Bool.Decides.{nat_tests}
 use Rattle.tz_table.specs.declared.units.Side.{Side}
 use Rattle.tz_table.specs.declared.units.Side.TheVariants.{Secure, NonSecure}
@@ -84,14 +85,6 @@ to_block n a b whole e = grind (arith, nat_tests)
 within_blocks : (low high a b : ℕ) → low % 32 ≡ 0 → high % 32 ≡ 31 → a / 32 ≡ b / 32 → within low high a ≡ within low high b
 within_blocks low high a b first last e = rw (from_block low a b first e, to_block high a b last e) refl
 
-and_first : (p q : Bool) → (p && q) ≡ true → p ≡ true
-and_first true q e = refl
-and_first false q e = cc
-
-and_second : (p q : Bool) → (p && q) ≡ true → q ≡ true
-and_second true q e = e
-and_second false q e = cc
-
 in_region_blocks : (r : Region) (a b : ℕ) → is_region r ≡ true → a / 32 ≡ b / 32 → in_region r a ≡ in_region r b
 in_region_blocks r a b is e = grind (arith, nat_tests)
 
@@ -99,19 +92,19 @@ idau_blocks : (rs : List Region) (a b : ℕ) → are_regions rs ≡ true → a /
 unfolding idau_side
 idau_blocks [] a b is e = refl
 idau_blocks (r ∷ rs) a b is e =
-    rw (in_region_blocks r a b (and_first (is_region r) (are_regions rs) is) e, idau_blocks rs a b (and_second (is_region r) (are_regions rs) is) e) refl
+    rw (in_region_blocks r a b (and_parts (is_region r) (are_regions rs) is).0 e, idau_blocks rs a b (and_parts (is_region r) (are_regions rs) is).1 e) refl
 
 mapped_blocks : (rs : List Region) (a b : ℕ) → are_regions rs ≡ true → a / 32 ≡ b / 32 → is_mapped rs a ≡ is_mapped rs b
 unfolding is_mapped
 mapped_blocks [] a b is e = refl
 mapped_blocks (r ∷ rs) a b is e =
-    rw (in_region_blocks r a b (and_first (is_region r) (are_regions rs) is) e, mapped_blocks rs a b (and_second (is_region r) (are_regions rs) is) e) refl
+    rw (in_region_blocks r a b (and_parts (is_region r) (are_regions rs) is).0 e, mapped_blocks rs a b (and_parts (is_region r) (are_regions rs) is).1 e) refl
 
 writable_blocks : (rs : List Region) (a b : ℕ) → are_regions rs ≡ true → a / 32 ≡ b / 32 → is_writable rs a ≡ is_writable rs b
 unfolding is_writable
 writable_blocks [] a b is e = refl
 writable_blocks (r ∷ rs) a b is e =
-    rw (in_region_blocks r a b (and_first (is_region r) (are_regions rs) is) e, writable_blocks rs a b (and_second (is_region r) (are_regions rs) is) e) refl
+    rw (in_region_blocks r a b (and_parts (is_region r) (are_regions rs) is).0 e, writable_blocks rs a b (and_parts (is_region r) (are_regions rs) is).1 e) refl
 
 sau_blocks : (u : SauState) (a b : ℕ) → a / 32 ≡ b / 32 → sau_side u a ≡ sau_side u b
 unfolding sau_side

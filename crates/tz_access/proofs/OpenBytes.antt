@@ -4,7 +4,7 @@ use Rattle.std.specs.Prelude.{is_some, None, Option, Some}
 use Rattle.std.specs.List.{list_any}
 use Rattle.std.specs.FinMap.{get}
 use Rattle.std.proofs.Math.Bool.{or_assoc}
-use Rattle.std.proofs.lemmas.Bool.{and_parts}
+use Rattle.std.proofs.lemmas.Bool.{and_parts, or_parts}
 use Rattle.std.proofs.lemmas.Bool.Decides.{nat_tests}
 use Rattle.tz_model.specs.declared.board.Region.{Region}
 use Rattle.tz_model.specs.declared.board.RegionSide.{RegionSide}
@@ -20,10 +20,6 @@ use Rattle.tz_mem.specs.Difference.{some_from, region_at, IsFilled}
 use Rattle.tz_access.specs.Checks.{IsByBlocks}
 
 -- ---- addresses from one on
-
-not_either : (p q : Bool) → (p || q) ≡ false → (p ≡ false) × (q ≡ false)
-not_either false q e = (refl, e)
-not_either true q e = absurd cc
 
 -- so many addresses and more of them
 split : (p : ℕ → Bool) (a n m : ℕ) → some_from p a (n + m) ≡ (some_from p a n || some_from p (a + n) m)
@@ -47,15 +43,15 @@ none_from p a (suc n) none = rw (none a) (none_from p (a + 1) n none)
 none_at : (p : ℕ → Bool) (a n t : ℕ) → some_from p a n ≡ false → t < n → p (a + t) ≡ false
 unfolding some_from
 none_at p a zero t e l = absurd (omega arith)
-none_at p a (suc n) zero e l = ap p (omega arith) ∙ (not_either (p a) (some_from p (a + 1) n) e).0
-none_at p a (suc n) (suc t) e l = ap p (omega arith) ∙ none_at p (a + 1) n t (not_either (p a) (some_from p (a + 1) n) e).1 (omega arith)
+none_at p a (suc n) zero e l = ap p (omega arith) ∙ (or_parts (p a) (some_from p (a + 1) n) e).0
+none_at p a (suc n) (suc t) e l = ap p (omega arith) ∙ none_at p (a + 1) n t (or_parts (p a) (some_from p (a + 1) n) e).1 (omega arith)
 
 -- a test that asks another first
 none_under : (p d : ℕ → Bool) (a n : ℕ) → ((x : ℕ) → d x ≡ false → p x ≡ false) → some_from d a n ≡ false → some_from p a n ≡ false
 unfolding some_from
 none_under p d a zero under e = refl
 none_under p d a (suc n) under e =
-    let parts = not_either (d a) (some_from d (a + 1) n) e in
+    let parts = or_parts (d a) (some_from d (a + 1) n) e in
     rw (under a parts.0) (none_under p d (a + 1) n under parts.1)
 
 -- and one that has the same answer at all these addresses
@@ -212,7 +208,7 @@ none_mapped : (p : ℕ → Bool) (rs : List Region) (a : ℕ) → list_any (regi
 unfolding is_mapped
 none_mapped p [] a e is = absurd cc
 none_mapped p (r ∷ rs) a e is =
-    let parts = not_either (region_passes p r) (list_any (region_passes p) rs) e in
+    let parts = or_parts (region_passes p r) (list_any (region_passes p) rs) e in
     elim (in_region r a) as (λ b. in_region r a ≡ b → p a ≡ false) [
       | true ↦ λ is.
           let place : (r.base + (a - r.base) ≡ a) × (a - r.base < r.size) = grind (arith, nat_tests) in

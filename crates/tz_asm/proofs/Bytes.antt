@@ -80,7 +80,7 @@ text_bytes-length bytes true = length-append bytes (0 ∷ [])
 text_bytes-length bytes false = refl
 
 -- how many bytes a code has
-code_bytes-length : (width : Width) (code : Code) → length (code_bytes width code) ≡ width_bytes width
+pub code_bytes-length : (width : Width) (code : Code) → length (code_bytes width code) ≡ width_bytes width
 code_bytes-length Narrow code = length-low_first 2 code.first
 code_bytes-length Wide code =
     let both = length-append (low_first 2 code.first) (low_first 2 (unwrap_or code.second 0)) in

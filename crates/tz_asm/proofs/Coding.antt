@@ -1,11 +1,10 @@
 -- The code of an instruction that has some values, by the search for it and by what a code means.
 use Rattle.std.proofs.Common.{◌≡◌, ℕ, Bool, true, false, List, Option, Ok, Err, length, refl, ap, sym, ◌∙◌, subst, ℤ}
-use Rattle.std.proofs.lemmas.Bool.Decides.{Decides-int_eq}
 use Rattle.std.proofs.lemmas.Option.{slice_get_within}
-use Rattle.std.proofs.lemmas.Slice.Eq.{slice_eq-Decides}
 use Rattle.std.specs.Cmp.Lexicographic.{pointwise}
 use Rattle.std.specs.Ordering.{int_eq}
 use Rattle.tz_encode.proofs.Outcomes.{again, encoded_code}
+use Rattle.tz_encode.proofs.Told.{list_same, same_list}
 use Rattle.tz_encode.specs.Encoded.{EncodedIn, FirstCode, code_of, meaning_of}
 use Rattle.tz_encode.specs.Search.{Found}
 use Rattle.tz_bits.specs.Values.{values_of}
@@ -17,15 +16,9 @@ use Rattle.tz_table.specs.declared.units.Code.{Code}
 use Rattle.tz_table.specs.declared.units.Width.{Width}
 use Rattle.tz_asm.specs.Coded.{IsCodeOf, is_instruction, means}
 
-same_values : (xs ys : List ℤ) → pointwise int_eq xs ys ≡ true → xs ≡ ys
-same_values xs ys h = (slice_eq-Decides Decides-int_eq xs ys (pointwise int_eq xs ys) refl).0 h
-
-all_same : (xs : List ℤ) → pointwise int_eq xs xs ≡ true
-all_same xs = (slice_eq-Decides Decides-int_eq xs xs (pointwise int_eq xs xs) refl).1 refl
-
 -- the instruction that a code means, where it has the values
 meant : (d : Decoded) (e : List ℤ) → is_instruction d e ≡ true → (i : Insn) × (values_of i ≡ e)
-meant (One i w) e h = (i, same_values (values_of i) e h)
+meant (One i w) e h = (i, same_list (values_of i) e h)
 meant NoCoprocessor e h = cc
 meant (Undefined w) e h = cc
 
@@ -37,7 +30,7 @@ found_means e w c found h =
 found_not : (e : List ℤ) (w : Width) (c : ℕ × ℕ) → ((i : Insn) → e ≡ values_of i → Found rows w i (length rows) (Ok c)) → means (code_of w c) e ≡ false → (code : Code) → IsCodeOf e w code → ⊥
 found_not e w c found h code x =
     let is : meaning_of (code_of w c) ≡ One x.0 w = again w x.0 c (found x.0 (sym x.1.0)) in
-    let same : pointwise int_eq (values_of x.0) e ≡ true = ap (pointwise int_eq (values_of x.0)) (sym x.1.0) ∙ all_same (values_of x.0) in
+    let same : pointwise int_eq (values_of x.0) e ≡ true = list_same (values_of x.0) e x.1.0 in
     let no : is_instruction (One x.0 w) e ≡ false = sym (ap (λ d. is_instruction d e) is) ∙ h in
     cc
 

@@ -3,7 +3,8 @@ use Rattle.std.proofs.Common.{◌≡◌, ℕ, ◌+◌, ◌*◌, ◌<◌, Bool, t
 use Rattle.std.proofs.lemmas.Bool.{cases_order}
 use Rattle.tz_encode.specs.Encoded.{At, EncodedIn, FirstCode, code_of}
 use Rattle.tz_bits.proofs.Back.{same_values}
-use Rattle.tz_encode.specs.Codes.{IsLeastCode, seconds}
+use Rattle.tz_encode.specs.Codes.{IsLeastCode}
+use Rattle.tz_encode.proofs.Places.{seconds_few}
 use Rattle.tz_syntax.specs.Rows.{TextRow}
 use Rattle.tz_table.specs.Rows.{TableRow}
 use Rattle.tz_table.specs.Table.{rows}
@@ -16,10 +17,6 @@ use Rattle.tz_asm.specs.Coded.{CodedBy, Gives, GivesBy, IsCodeOf, Passes, Passes
 use Rattle.tz_asm.specs.Pieces.{Progress, Site}
 use Rattle.tz_asm.specs.Rows.{row_read}
 use Rattle.tz_asm.specs.declared.code.uncoded.Uncoded.{Uncoded}
-
-seconds_few : (w : Width) (s : ℕ) → s < seconds w → s < 65536
-seconds_few Narrow s h = omega arith
-seconds_few Wide s h = h
 
 same_row : (w : Width) (j k : ℕ) (r s : TableRow) → j ≡ k → At rows w j r → At rows w k s → r ≡ s
 same_row w j k r s e x y =

@@ -1,6 +1,6 @@
 -- Segments that grow one behind the other.
 use Rattle.std.proofs.Common.{◌≡◌, ◌∙◌, ◌+◌, ◌≤◌, ◌<◌, ◌==◌, ℕ, refl, sym, arith, subst, Bool, true, false, ◌||◌, nat_le, nat_lt, if◌then◌else◌, List, [], ◌∷◌, ◌++◌, length, Option, Some, None, Ok, Err}
-use Rattle.std.proofs.lemmas.Bool.{and_from, and_parts, le-leb, leb-true, ltb-false, ne_eqb}
+use Rattle.std.proofs.lemmas.Bool.{and_from, and_parts, le-leb, leb-true, ltb-false, ne_eqb, or_left}
 use Rattle.std.proofs.lemmas.List.{length-append}
 use Rattle.std.proofs.lemmas.List.Sums.{sum_by-cons}
 use Rattle.tz_asm.specs.Growing.{Fits, GrowingValue, end_by, finished, grown, nothing, with_segment}
@@ -8,17 +8,9 @@ use Rattle.tz_asm.specs.Layouts.{IsLayout, advance, behind, byte_count, go_to, p
 use Rattle.tz_asm.specs.Refusals.{OrgBackwards, TooLarge}
 use Rattle.tz_asm.specs.declared.layout.Layout.{Layout}
 use Rattle.tz_model.specs.Board.{most_bytes}
-use Rattle.tz_model.specs.Image.{IsImage, SegmentValue, are_addressed, are_clear, bytes_in, clear_of_all, end_of, is_clear_of}
+use Rattle.tz_model.specs.Image.{IsImage, SegmentValue, are_addressed, are_clear, bytes_in, clear_of_all, end_of}
 use Rattle.tz_asm.specs.Statements.{StatementValue, Nothing, Org, Align, Data, Equ, Space, Text, Instruction}
-
-or_left : (x y : Bool) → x ≡ true → (x || y) ≡ true
-or_left x y h = rw h refl
-
-clear_of_all-push : (s q : SegmentValue) (xs : List SegmentValue) → clear_of_all s xs ≡ true → is_clear_of s q ≡ true → clear_of_all s (xs ++ q ∷ []) ≡ true
-clear_of_all-push s q [] h is = and_from (is_clear_of s q) true is refl
-clear_of_all-push s q (x ∷ xs) h is =
-    let parts = and_parts (is_clear_of s x) (clear_of_all s xs) h in
-    and_from (is_clear_of s x) (clear_of_all s (xs ++ q ∷ [])) parts.0 (clear_of_all-push s q xs parts.1 is)
+use Rattle.tz_elf.proofs.Accepted.{clear_of_all-push}
 
 are_clear-push : (q : SegmentValue) (xs : List SegmentValue) → are_clear xs ≡ true → end_by q.base xs ≡ true → are_clear (xs ++ q ∷ []) ≡ true
 are_clear-push q [] h below = refl

@@ -1,7 +1,7 @@
 -- The segments that a source gives are those of an image, and hold bytes.
 use Rattle.std.proofs.Common.{◌≡◌, ◌∙◌, ℕ, zero, suc, ◌+◌, ◌/◌, ◌%◌, ◌<◌, ◌≤◌, ◌==◌, ◌||◌, Bool, true, false, nat_le, nat_lt, List, [], ◌∷◌, ◌++◌, length, Option, Some, None, unwrap_or, Result, Ok, Err, refl, sym, ap, subst, arith}
 use Rattle.std.specs.Prelude.{if◌then◌else◌, replicate}
-use Rattle.std.proofs.lemmas.Bool.{and_from, and_parts, le-leb, ltb-false, ltb-true, ne_eqb}
+use Rattle.std.proofs.lemmas.Bool.{and_from, and_parts, le-leb, ltb-false, ltb-true, ne_eqb, or_parts}
 use Rattle.std.proofs.lemmas.List.{length-append, length-replicate}
 use Rattle.tz_asm.specs.FirstPass.{first_pass}
 use Rattle.tz_asm.specs.Growing.{Fits, GrowingValue, finished, grown, nothing, with_segment}
@@ -15,7 +15,7 @@ use Rattle.tz_asm.specs.Written.{as_address, code_bytes, coded_bytes, equ_bytes,
 use Rattle.tz_asm.specs.Operands.{ExpressionValue}
 use Rattle.tz_asm.specs.declared.layout.Layout.{Layout}
 use Rattle.tz_asm.specs.declared.values.Value.{Value}
-use Rattle.tz_asm.proofs.Bytes.{data_bytes-length, length-low_first, text_bytes-length}
+use Rattle.tz_asm.proofs.Bytes.{code_bytes-length, data_bytes-length, text_bytes-length}
 use Rattle.tz_asm.proofs.TextBytes.{AreBytes, HoldsBytes, no_bytes, one_more, said_holds}
 use Rattle.tz_asm.proofs.Segments.{Fits-finished, Fits-start, advance-grown}
 use Rattle.tz_syntax.specs.Lines.{lines_of}
@@ -65,20 +65,12 @@ code_puts : (w : Width) (code : Code) → AreBytes (code_bytes w code)
 code_puts Narrow code = low_bytes 2 code.first
 code_puts Wide code = both (low_first 2 code.first) (low_first 2 (unwrap_or code.second 0)) (low_bytes 2 code.first) (low_bytes 2 (unwrap_or code.second 0))
 
-code_count : (w : Width) (code : Code) → length (code_bytes w code) ≡ width_bytes w
-code_count Narrow code = length-low_first 2 code.first
-code_count Wide code =
-    let all = length-append (low_first 2 code.first) (low_first 2 (unwrap_or code.second 0)) in
-    let first = length-low_first 2 code.first in
-    let second = length-low_first 2 (unwrap_or code.second 0) in
-    omega (arith, all, first, second)
-
 abbrev HasWidth : Width → List ℕ → Type 0
 HasWidth w bytes = AreBytes bytes × (length bytes ≡ width_bytes w)
 
 coded_puts : (line : ℕ) (label : Option Value) (w : Width) (r : Result Code Uncoded) (bytes : List ℕ) → coded_bytes line label w r ≡ Ok bytes → HasWidth w bytes
 coded_puts line label w (Err cause) bytes h = cc
-coded_puts line label w (Ok code) bytes h = subst (HasWidth w) (given (code_bytes w code) bytes h) (code_puts w code, code_count w code)
+coded_puts line label w (Ok code) bytes h = subst (HasWidth w) (given (code_bytes w code) bytes h) (code_puts w code, code_bytes-length w code)
 
 equ_puts : (line place : ℕ) (name : List ℕ) (e : ExpressionValue) (o : Option Value) (bytes : List ℕ) → equ_bytes line o ≡ Ok bytes → Puts place (Equ name e) bytes
 unfolding byte_count
@@ -168,11 +160,6 @@ more_apart l g b bytes m are fit small next = record {
   bytes = are;
 }
 
-or_false : (a b : Bool) → (a || b) ≡ false → (a ≡ false) × (b ≡ false)
-or_false false false h = (refl, refl)
-or_false false true h = cc
-or_false true b h = cc
-
 put_more : (line : ℕ) (l next : Layout) (g : GrowingValue) (bytes : List ℕ) → put line (length bytes) l ≡ Ok next → AreBytes bytes → Fits l g → More l g → More next (grown l.inside l.place bytes g)
 unfolding put
 put_more line l next g [] is are fits m = let same : l ≡ next = cc in subst (λ x. More x g) same m
@@ -187,12 +174,12 @@ put_more line l next g (b ∷ bytes) is are fits m =
         → More next (grown l.inside l.place (b ∷ bytes) g)
     by_tests true big inside at few f h = absurd (let no = rw big at h in cc)
     by_tests false big true at few f h =
-        let sizes = or_false (nat_lt 4294967296 (l.place + length (b ∷ bytes))) (nat_lt most_bytes (l.bytes + length (b ∷ bytes))) big in
+        let sizes = or_parts (nat_lt 4294967296 (l.place + length (b ∷ bytes))) (nat_lt most_bytes (l.bytes + length (b ∷ bytes))) big in
         let same : behind l.segments (length (b ∷ bytes)) l ≡ next = let yes = rw (big, at) at h in cc in
         rw at (subst (λ x. More x (record { done = g.done; base = g.base; bytes = g.bytes ++ b ∷ bytes })) same
         (more_inside l g b bytes at fits m are (ltb-false 4294967296 (l.place + length (b ∷ bytes)) sizes.0) (ltb-false most_bytes (l.bytes + length (b ∷ bytes)) sizes.1)))
     by_tests false big false at true f h =
-        let sizes = or_false (nat_lt 4294967296 (l.place + length (b ∷ bytes))) (nat_lt most_bytes (l.bytes + length (b ∷ bytes))) big in
+        let sizes = or_parts (nat_lt 4294967296 (l.place + length (b ∷ bytes))) (nat_lt most_bytes (l.bytes + length (b ∷ bytes))) big in
         let same : behind (l.segments + 1) (length (b ∷ bytes)) l ≡ next = let yes = rw (big, at, f) at h in cc in
         rw at (subst (λ x. More x (record { done = finished g; base = l.place; bytes = b ∷ bytes })) same
         (more_apart l g b bytes m are (ltb-false 4294967296 (l.place + length (b ∷ bytes)) sizes.0) (ltb-false most_bytes (l.bytes + length (b ∷ bytes)) sizes.1)

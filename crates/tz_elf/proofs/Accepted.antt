@@ -29,7 +29,7 @@ placed_in-none all usable index earlier s = by_tests (lies_in all s.base (length
     by_tests true false o h = cc h
     by_tests false b o h = cc h
 
-clear_of_all-push : (q s : SegmentValue) (more : List SegmentValue) → clear_of_all q more ≡ true → is_clear_of q s ≡ true → clear_of_all q (more ++ s ∷ []) ≡ true
+pub clear_of_all-push : (q s : SegmentValue) (more : List SegmentValue) → clear_of_all q more ≡ true → is_clear_of q s ≡ true → clear_of_all q (more ++ s ∷ []) ≡ true
 clear_of_all-push q s [] clear last = rw last refl
 clear_of_all-push q s (p ∷ more) clear last =
     let parts = and_parts (is_clear_of q p) (clear_of_all q more) clear in

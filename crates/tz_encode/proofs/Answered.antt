@@ -8,11 +8,8 @@ use Rattle.std.proofs.Math.Nat.{mod-eq_of_lt}
 use Rattle.std.proofs.lemmas.List.{length-take-le}
 use Rattle.tz_bits.specs.Values.{values_of}
 use Rattle.tz_bits.proofs.Back.{same_values}
-use Rattle.tz_table.specs.Patterns.{in_cube}
 use Rattle.tz_table.specs.Rows.{TableRow}
 use Rattle.tz_table.specs.declared.instruction.Insn.{Insn}
-use Rattle.tz_table.proofs.Scans.{holds_parts}
-use Rattle.tz_table.proofs.Cubes.{in_cube-from}
 use Rattle.tz_encode.specs.Codes.{InRow, Reaches, IsCode, IsLeastCode, Blames, Tried}
 use Rattle.tz_encode.specs.Limits.{limit_holds}
 use Rattle.tz_encode.specs.Numbers.{number_for, value_at, stands_for, takes, take_all, taken, values_in, code_bits, answer}
@@ -27,6 +24,7 @@ use Rattle.tz_encode.proofs.Cubes.{fixed, fixed_bits}
 use Rattle.tz_encode.proofs.Placing.{sum_at_most, sum_bits-append, take_values}
 use Rattle.tz_encode.proofs.Filling.{fill, take_all-none, taken_before, taken_le, taken_stops, taken_all}
 use Rattle.tz_encode.proofs.Making.{LaidOut, made_code}
+use Rattle.tz_encode.proofs.Reading.{cube_of_row}
 
 -- a code that has values which the slots take keeps their limits
 limits_taken : (e : List ℤ) (ts : List Slot) (zs : List ℤ) (f s : ℕ) → take_all e ts zs ≡ true → values_in e ts f s ≡ zs → limits_in e ts f s ≡ true
@@ -59,13 +57,10 @@ coded r form ts zs d o l h =
 
 -- ---- an instruction of which the slots take all values
 
-in_row_cube : (r : TableRow) (f s : ℕ) → InRow r f s → in_cube r.pattern.cube f s ≡ true
-in_row_cube r f s c = in_cube-from r.pattern.cube f s (holds_parts r f s c.held).1
-
 -- what the values add to the fixed bits is no more than a code that has them
 no_less : (h : Half) (r : TableRow) (form : ℕ) (ts : List Slot) (zs : List ℤ) (g t base : ℕ) → Describes r form ts → LaidOut r ts → InRow r g t → values_in (pos form ∷ []) ts g t ≡ zs → sum_bits h (fixed r.pattern.cube) r.pattern.cube.first_value r.pattern.cube.second_value ≡ base → base + code_bits h (pos form ∷ []) ts zs ≤ sum_bits h (fixed r.pattern.cube ++ all_parts ts) g t
 no_less h r form ts zs g t base d o c same e =
-    let bits_same = same_sums h (fixed r.pattern.cube) g t r.pattern.cube.first_value r.pattern.cube.second_value (fixed_bits r.pattern.cube (fixed r.pattern.cube) g t r.pattern.cube.first_value r.pattern.cube.second_value o.covered (in_row_cube r g t c)) in
+    let bits_same = same_sums h (fixed r.pattern.cube) g t r.pattern.cube.first_value r.pattern.cube.second_value (fixed_bits r.pattern.cube (fixed r.pattern.cube) g t r.pattern.cube.first_value r.pattern.cube.second_value o.covered (cube_of_row r g t c)) in
     let rest : code_bits h (pos form ∷ []) ts zs ≤ sum_bits h (all_parts ts) g t = subst (λ l. code_bits h (pos form ∷ []) ts l ≤ sum_bits h (all_parts ts) g t) same (sum_at_most h (pos form ∷ []) ts g t (d.written g t c)) in
     let both = sum_bits-append h (fixed r.pattern.cube) (all_parts ts) g t in
     omega arith

@@ -1,8 +1,7 @@
 -- The answer of a row's slots, one slot after the other.
 use Rattle.std.proofs.Common.{◌≡◌, ℕ, zero, suc, ◌+◌, ◌%◌, ◌<◌, Bool, true, false, List, [], ◌∷◌, ◌++◌, length, take, drop, get_or, Some, None, Result, Ok, Err, ℤ, pos, int_eq, refl, sym, ap, ap₂, ◌∙◌, arith, add-one}
 use Rattle.std.specs.Prelude.{◌==◌, if◌then◌else◌}
-use Rattle.std.proofs.Math.Seq.{drop-cons}
-use Rattle.std.proofs.lemmas.List.{take_more}
+use Rattle.std.proofs.lemmas.List.{drop_more, take_more}
 use Rattle.std.proofs.lemmas.Bool.{and_parts}
 use Rattle.std.proofs.lemmas.Bool.Decides.{nat_tests}
 use Rattle.tz_encode.specs.Slots.{parts_in, placed}
@@ -35,9 +34,6 @@ going_is k f s e (t ∷ ts) (z ∷ zs) hf hs =
     ap (λ r. if takes t e z then r else Err k) next
     ∙ step (takes t e z) (taken (e ++ z ∷ []) ts zs) (length ts) k f s p q (code_bits First (e ++ z ∷ []) ts zs) (code_bits Second (e ++ z ∷ []) ts zs)
 
-drop_cons : {X : Type 0} → (xs : List X) (k : ℕ) (d : X) → k < length xs → drop k xs ≡ get_or xs k d ∷ drop (k + 1) xs
-drop_cons xs k d h = rw add-one (drop-cons xs k d h)
-
 none_if : (b : Bool) (n : ℕ) → None ≡ (if b then Some n else None) → b ≡ false
 none_if true n e = cc
 none_if false n e = refl
@@ -55,7 +51,7 @@ going_stop k f s n ts vs d ht hv e =
     let t : Slot = get_or ts k d in
     let z : ℤ = get_or vs (k + 1) (pos 0) in
     let not_taken : takes t (take (k + 1) vs) z ≡ false = none_if (takes t (take (k + 1) vs) z) n e in
-    ap₂ (going (k + 1) f s (take (k + 1) vs)) (drop_cons ts k d ht) (drop_cons vs (k + 1) (pos 0) hv)
+    ap₂ (going (k + 1) f s (take (k + 1) vs)) (drop_more ts k d ht) (drop_more vs (k + 1) (pos 0) hv)
     ∙ ap (λ b. if b then going (k + 1 + 1) ((f + placed First (parts_in t.parts) (number_for t.coding (take (k + 1) vs) z)) % 65536) ((s + placed Second (parts_in t.parts) (number_for t.coding (take (k + 1) vs) z)) % 65536) (take (k + 1) vs ++ z ∷ []) (drop (k + 1) ts) (drop (k + 1 + 1) vs) else Err (k + 1)) not_taken
 
 -- a slot that takes its value leaves the rest
@@ -68,7 +64,7 @@ going_on k f s m p q ts vs d ht hv e ep eq =
     let first_is : (f + placed First (parts_in t.parts) n) % 65536 ≡ (f + p) % 65536 = added f (placed First (parts_in t.parts) n) p (ep ∙ ap (λ x. placed First (parts_in t.parts) x % 65536) some.1) in
     let second_is : (s + placed Second (parts_in t.parts) n) % 65536 ≡ (s + q) % 65536 = added s (placed Second (parts_in t.parts) n) q (eq ∙ ap (λ x. placed Second (parts_in t.parts) x % 65536) some.1) in
     let more : take (k + 1) vs ++ z ∷ [] ≡ take (k + 1 + 1) vs = sym (take_more vs (k + 1) (pos 0) hv) in
-    ap₂ (going (k + 1) f s (take (k + 1) vs)) (drop_cons ts k d ht) (drop_cons vs (k + 1) (pos 0) hv)
+    ap₂ (going (k + 1) f s (take (k + 1) vs)) (drop_more ts k d ht) (drop_more vs (k + 1) (pos 0) hv)
     ∙ ap (λ b. if b then going (k + 1 + 1) ((f + placed First (parts_in t.parts) n) % 65536) ((s + placed Second (parts_in t.parts) n) % 65536) (take (k + 1) vs ++ z ∷ []) (drop (k + 1) ts) (drop (k + 1 + 1) vs) else Err (k + 1)) some.0
     ∙ ap₂ (λ x y. going (k + 1 + 1) x y (take (k + 1) vs ++ z ∷ []) (drop (k + 1) ts) (drop (k + 1 + 1) vs)) first_is second_is
     ∙ ap (λ v. going (k + 1 + 1) ((f + p) % 65536) ((s + q) % 65536) v (drop (k + 1) ts) (drop (k + 1 + 1) vs)) more

@@ -4,7 +4,7 @@ use Rattle.std.proofs.lemmas.List.{take-take}
 use Rattle.std.proofs.lemmas.Option.{slice_get_cases}
 use Rattle.tz_encode.specs.Encoded.{HasCode, HasForm}
 use Rattle.tz_bits.specs.Values.{values_of}
-use Rattle.tz_encode.specs.Codes.{IsCode, Reaches}
+use Rattle.tz_encode.specs.Codes.{IsCode, Reaches, seconds}
 use Rattle.tz_table.proofs.Data.{count_of_rows}
 use Rattle.tz_table.specs.Rows.{TableRow, row_of, rows_of, same_width}
 use Rattle.tz_table.specs.Table.{rows}
@@ -16,6 +16,11 @@ pub data_at : (rs : List TableRow) (k : ℕ) (r : TableRow) → slice_get rs k �
 data_at [] k r e = cc
 data_at (d ∷ rs) zero r e = let same : d ≡ r = cc in ap (λ z. Some (row_of z)) same
 data_at (d ∷ rs) (suc k) r e = data_at rs k r e
+
+-- a second halfword is one of 65536
+pub seconds_few : (w : Width) (s : ℕ) → s < seconds w → s < 65536
+seconds_few Narrow s h = omega arith
+seconds_few Wide s h = h
 
 pub row_there : (k : ℕ) → k < 189 → (r : TableRow) × (slice_get rows k ≡ Some r)
 row_there k h =

@@ -1,24 +1,23 @@
 -- What is shown of each row and its slots: they tell what a code of the row means and whether it is in the
 -- row, and whatever they took so far can be filled up.
-use Rattle.std.proofs.Common.{◌≡◌, ℕ, zero, suc, ◌<◌, true, false, not, List, [], ◌∷◌, length, sym, ◌∙◌, ap, inl, inr, arith}
+use Rattle.std.proofs.Common.{◌≡◌, ℕ, zero, suc, ◌<◌, true, false, not, List, [], ◌∷◌, length, sym, ◌∙◌, ap, inl, inr}
 use Rattle.std.specs.Prelude.{ℤ, pos}
 use Rattle.std.specs.List.{list_all}
 use Rattle.std.proofs.lemmas.Bool.{and_from, cond-true, cond-false, cases_Bool, both_ways}
 use Rattle.tz_bits.specs.Values.{values_of}
 use Rattle.tz_table.specs.Patterns.{Field, has, in_cube, has_any}
 use Rattle.tz_table.specs.Rows.{TableRow, holds, keeps}
-use Rattle.tz_table.specs.declared.units.Width.{Width}
-use Rattle.tz_table.specs.declared.units.Width.TheVariants.{Narrow, Wide}
 use Rattle.tz_table.proofs.Cubes.{InCube-from, in_cube-from, inside-from, has-from_InCube}
 use Rattle.tz_table.proofs.Reduction.{inside, cube_of}
 use Rattle.tz_table.proofs.Scans.{holds_parts}
-use Rattle.tz_encode.specs.Codes.{InRow, seconds}
+use Rattle.tz_encode.specs.Codes.{InRow}
 use Rattle.tz_encode.specs.Numbers.{take_all, values_in}
 use Rattle.tz_encode.specs.declared.coding.Coding.TheVariants.{Is}
 use Rattle.tz_encode.specs.declared.limit.Limit.TheVariants.{Any}
 use Rattle.tz_encode.specs.declared.slot.Parts.TheVariants.{Zero}
 use Rattle.tz_encode.specs.declared.slot.Slot.{Slot}
 use Rattle.tz_encode.proofs.Describes.{limits_in, Fillable, Holds}
+use Rattle.tz_encode.proofs.Places.{seconds_few}
 use Rattle.tz_encode.proofs.Slots.{stands_alone, fill_alone}
 use Rattle.tz_encode.specs.declared.shapes.TheConstants.{SHAPES}
 
@@ -48,10 +47,6 @@ pub record Reads (r : TableRow) (form : ℕ) (ts : List Slot) : Type 0 where
 
 -- ---- the limits of a row
 
-second_below : (w : Width) (s : ℕ) → s < seconds w → s < 65536
-second_below Narrow s h = omega arith
-second_below Wide s h = h
-
 pub keeps_from : (r : TableRow) (f s : ℕ) → holds r f s ≡ true → keeps r f s ≡ true
 keeps_from r f s h =
     let x = holds_parts r f s h in
@@ -78,7 +73,7 @@ cube_of_row r f s c = in_cube-from r.pattern.cube f s (holds_parts r f s c.held)
 pub read : (r : TableRow) (form : ℕ) (ts : List Slot) → ((f s : ℕ) → InRow r f s → values_of (r.insn f s) ≡ pos form ∷ values_in (pos form ∷ []) ts f s) → ((f s : ℕ) → f < 65536 → s < 65536 → in_cube r.pattern.cube f s ≡ true → keeps r f s ≡ limits_in (pos form ∷ []) ts f s) → Fillable (pos form ∷ []) ts → Reads r form ts
 read r form ts v l t = record {
   values = v;
-  kept = λ f s c. sym (l f s c.first_fits (second_below r.width s c.second_fits) (cube_of_row r f s c)) ∙ keeps_from r f s c.held;
+  kept = λ f s c. sym (l f s c.first_fits (seconds_few r.width s c.second_fits) (cube_of_row r f s c)) ∙ keeps_from r f s c.held;
   held = λ zs f s a b c _ _ _ k. holds_from r f s c (l f s a b c ∙ k);
   fills = t;
 }

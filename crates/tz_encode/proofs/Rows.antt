@@ -2,7 +2,7 @@
 use Rattle.std.proofs.Common.{◌≡◌, ℕ, zero, suc, Bool, true, false, ◌&&◌, List, [], ◌∷◌, length, get_or, refl, sym, ◌∙◌, ap, arith, subst, inl, inr, ◌<◌, ◌≤◌}
 use Rattle.std.specs.Ordering.{int_eq}
 use Rattle.std.specs.Prelude.{ℤ, pos, slice_get, Some, None, Err}
-use Rattle.std.proofs.lemmas.Bool.{and_parts, cond-false}
+use Rattle.std.proofs.lemmas.Bool.{and_parts, cond-false, false_from_ne_true}
 use Rattle.std.proofs.lemmas.Option.{slice_get_cases, slice_get_within}
 use Rattle.tz_bits.specs.Values.{values_of}
 use Rattle.tz_table.specs.Rows.{TableRow, row_of, rows_of}
@@ -14,6 +14,7 @@ use Rattle.tz_encode.specs.Numbers.{answer, sound}
 use Rattle.tz_encode.specs.declared.slot.Slot.{Slot}
 use Rattle.tz_encode.proofs.Codings.{int_eq-true}
 use Rattle.tz_encode.proofs.Answered.{tried}
+use Rattle.tz_encode.proofs.Places.{data_at}
 use Rattle.tz_table.proofs.Data.{count_of_rows}
 use Rattle.tz_encode.specs.declared.shapes.TheConstants.{SHAPES}
 use Rattle.tz_encode.proofs.Described.{AllDescribed, all_laid_out, shaped_at}
@@ -42,19 +43,14 @@ count_of_data : (rs : List TableRow) → length (rows_of rs) ≡ length rs
 count_of_data [] = refl
 count_of_data (r ∷ rs) = ap suc (count_of_data rs)
 
-get_row : (rs : List TableRow) (k : ℕ) (r : TableRow) → slice_get rs k ≡ Some r → slice_get (rows_of rs) k ≡ Some (row_of r)
-get_row [] k r g = cc
-get_row (q ∷ rs) zero r g = let e : q ≡ r = cc in ap (λ x. Some (row_of x)) e
-get_row (q ∷ rs) (suc k) r g = get_row rs k r g
-
 pub no_row : (rs : List TableRow) (k : ℕ) (r : TableRow) → None ≡ slice_get (rows_of rs) k → slice_get rs k ≡ Some r → ⊥
-no_row rs k r n g = let e : None ≡ Some (row_of r) = n ∙ get_row rs k r g in cc
+no_row rs k r n g = let e : None ≡ Some (row_of r) = n ∙ data_at rs k r g in cc
 
 -- the answer of the row's slots is what the row gives
 pub row_tried : AllDescribed rows SHAPES → (k : ℕ) (row : Row) (ts : List Slot) (i : Insn) (vs : List ℤ) (r : TableRow) → Some row ≡ slice_get (rows_of rows) k → Some ts ≡ slice_get SHAPES k → vs ≡ values_of i → length vs ≡ 9 → slice_get rows k ≡ Some r → Tried r i (answer row.form row.first_value row.second_value ts vs)
 row_tried d k row ts i [] r a b v n g = absurd (omega arith)
 row_tried d k row ts i (z ∷ zs) r a b v n g =
-    let same : Some row ≡ Some (row_of r) = a ∙ get_row rows k r g in
+    let same : Some row ≡ Some (row_of r) = a ∙ data_at rows k r g in
     let is : row ≡ row_of r = cc in
     let s = shaped_at rows SHAPES k r ts d laid_out_all g (sym b) in
     subst (λ q. Tried r i (answer q.form q.first_value q.second_value ts (z ∷ zs))) (sym is)
@@ -77,14 +73,10 @@ past_rows k row e h =
     let below : k < length (rows_of rows) = slice_get_within (rows_of rows) k row (sym e) in
     omega (arith, count_of_data rows)
 
-is_false : (b : Bool) → (b ≡ true → ⊥) → b ≡ false
-is_false true h = absurd (h refl)
-is_false false h = refl
-
 -- of another variant the slots answer that place, whatever they are
 other_answer : (form first second : ℕ) (ts : List Slot) (z : ℤ) (zs : List ℤ) → (z ≡ pos form → ⊥) → answer form first second ts (z ∷ zs) ≡ Err 0
 other_answer form first second ts z zs h =
-    cond-false (int_eq (pos form) z) _ _ (is_false (int_eq (pos form) z) (λ e. h (sym (int_eq-true (pos form) z e))))
+    cond-false (int_eq (pos form) z) _ _ (false_from_ne_true (int_eq (pos form) z) (λ e. h (sym (int_eq-true (pos form) z e))))
 
 pub other_variant : AllDescribed rows SHAPES → (k : ℕ) (row : Row) (i : Insn) (vs : List ℤ) (r : TableRow) → Some row ≡ slice_get (rows_of rows) k → vs ≡ values_of i → length vs ≡ 9 → slice_get rows k ≡ Some r → (get_or vs 0 (pos 0) ≡ pos row.form → ⊥) → Tried r i (Err 0)
 other_variant d k row i [] r a v n g h = absurd (omega arith)

@@ -7,7 +7,7 @@ use Rattle.std.specs.Ordering.{int_eq}
 use Rattle.std.proofs.lemmas.Bool.{and_from, and_parts, cases_lt, cases_order, lt-ltb, ltb-true}
 use Rattle.std.proofs.lemmas.Bool.Decides.{Decides-int_eq}
 use Rattle.std.proofs.lemmas.Slice.Eq.{slice_eq-Decides}
-use Rattle.tz_encode.proofs.Places.{same_width_is, same_width_not}
+use Rattle.tz_encode.proofs.Places.{seconds_few, same_width_is, same_width_not}
 use Rattle.tz_encode.specs.Encoded.{At, EncodedIn, FirstCode, HasCode, code_of}
 use Rattle.tz_encode.specs.Told.{first_from, halves, is_code, least_code, code_where, first_code, code_with}
 use Rattle.tz_bits.proofs.Back.{same_values}
@@ -65,10 +65,10 @@ first_none test k (suc n) e j l u = by_test _ refl (λ f a b. first_none test (k
 
 -- ---- codes of a row
 
-same_list : (xs ys : List ℤ) → pointwise int_eq xs ys ≡ true → xs ≡ ys
+pub same_list : (xs ys : List ℤ) → pointwise int_eq xs ys ≡ true → xs ≡ ys
 same_list xs ys h = (slice_eq-Decides Decides-int_eq xs ys (pointwise int_eq xs ys) refl).0 h
 
-list_same : (xs ys : List ℤ) → xs ≡ ys → pointwise int_eq xs ys ≡ true
+pub list_same : (xs ys : List ℤ) → xs ≡ ys → pointwise int_eq xs ys ≡ true
 list_same xs ys h = (slice_eq-Decides Decides-int_eq xs ys (pointwise int_eq xs ys) refl).1 h
 
 -- a code of a row by its number
@@ -89,10 +89,6 @@ code_of_held : (r : TableRow) (i : Insn) (n : ℕ) → Held r (values_of i) n �
 code_of_held r i n h = record { code = h.code; means = same_values (r.insn (n / 65536) (n % 65536)) i h.means }
 
 -- the number of a code
-seconds_few : (w : Width) (s : ℕ) → s < seconds w → s < 65536
-seconds_few Narrow s h = omega arith
-seconds_few Wide s h = h
-
 is_code_of : (r : TableRow) (i : Insn) (f s : ℕ) → IsCode r i f s → is_code r (values_of i) f s ≡ true
 is_code_of r i f s h =
     and_from (nat_lt s (seconds r.width)) (holds r f s && pointwise int_eq (values_of (r.insn f s)) (values_of i)) (lt-ltb s (seconds r.width) h.code.second_fits)

@@ -12,7 +12,7 @@ use tz_bits::{field_name, values};
 use tz_table::{Code, Insn, Width};
 
 /// Two halfwords as a code of the width: a narrow code has no second one.
-fn code(width: Width, halves: (u16, u16)) -> Code
+pub fn code_of_halves(width: Width, halves: (u16, u16)) -> Code
     ensures { result ≡ code_of width halves }
 {
     let second = match width {
@@ -47,7 +47,7 @@ pub fn encode(insn: &Insn, width: Width) -> Result<Code, EncodeError>
     ensures again { IfOk result (λ code. meaning_of code ≡ One insn.now width) }
 {
     match find(&values(insn), width) {
-        Ok(halves) => Ok(code(width, halves)),
+        Ok(halves) => Ok(code_of_halves(width, halves)),
         Err(blamed) => Err(error_of(insn, width, blamed)),
     }
 }

@@ -25,7 +25,7 @@ mod words;
 mod writing;
 
 pub use coding::Coding;
-pub use encoding::encode;
+pub use encoding::{code_of_halves, encode};
 pub use error::EncodeError;
 pub use limit::Limit;
 pub use search::find;

@@ -2,7 +2,6 @@
 
 ghost use Rattle.std.specs.Prelude.{◌≡◌, true};
 ghost use Rattle.tz_state.specs.Slots.{exists};
-ghost use Rattle.tz_state.specs.Escalation.{hard_side};
 ghost use Rattle.tz_frames.specs.Status.{exception_slot, exception_of, frame_exception, raised, faulted, frame_faulted};
 
 use crate::effect::effect_of;
@@ -10,20 +9,12 @@ use crate::status::{set_frame_status, set_hfsr, set_status};
 use tz_frames::{FaultException, StackFault};
 use tz_model::{Fault, Side, Slot};
 use tz_nvic::Exceptions;
-use tz_prio::{Taken, escalate};
+use tz_prio::{Taken, escalate, hard_side};
 use tz_regs::Core;
 use tz_regs::fault_bits::FORCED;
-
-/// The side of a HardFault that code of a side raises.
-pub(crate) fn hard_side(exceptions: &Exceptions, side: Side) -> Side
-    ensures { result ≡ hard_side exceptions.now side }
-{
-    if exceptions.fault_side() {
-        side
-    } else {
-        Side::Secure
-    }
-}
+use tz_state::exception::{
+    BUS_FAULT, HARD_FAULT, MEM_MANAGE, SECURE_FAULT, SV_CALL, USAGE_FAULT,
+};
 
 /// The slot of an exception of a side. HardFault is of the side that BFHFNMINS gives it.
 fn exception_slot(exceptions: &Exceptions, side: Side, exception: FaultException) -> Slot
@@ -31,12 +22,12 @@ fn exception_slot(exceptions: &Exceptions, side: Side, exception: FaultException
     ensures exists { exists exceptions.now result ≡ true }
 {
     let (number, side) = match exception {
-        FaultException::MemManage => (4, side),
-        FaultException::BusFault => (5, side),
-        FaultException::UsageFault => (6, side),
-        FaultException::HardFault => (3, hard_side(exceptions, side)),
-        FaultException::SecureFault => (7, side),
-        FaultException::SVCall => (11, side),
+        FaultException::MemManage => (MEM_MANAGE, side),
+        FaultException::BusFault => (BUS_FAULT, side),
+        FaultException::UsageFault => (USAGE_FAULT, side),
+        FaultException::HardFault => (HARD_FAULT, hard_side(exceptions, side)),
+        FaultException::SecureFault => (SECURE_FAULT, side),
+        FaultException::SVCall => (SV_CALL, side),
     };
     Slot { number, side }
 }
@@ -75,7 +66,10 @@ fn raise(core: &mut Core, exceptions: &mut Exceptions, slot: Slot) -> bool
         }
         Taken::Hard(side) => {
             set_hfsr(&mut core.status, FORCED);
-            exceptions.pend(Slot { number: 3, side });
+            exceptions.pend(Slot {
+                number: HARD_FAULT,
+                side,
+            });
             false
         }
         Taken::Lockup => {

@@ -13,7 +13,6 @@ ghost use Rattle.tz_frames.specs.Registers.{taken_registers, scratch_cleared, al
 ghost use Rattle.tz_frames.specs.Enter.{exc_return, dcrs_of, handling, is_last_resort, vector_choice, can_harden, vectored};
 ghost use Rattle.tz_excret.specs.Lent.{work_of, SameLoans};
 
-use crate::raise::hard_side;
 use crate::sides::{is_secure, set_spsel};
 use crate::status::set_hfsr;
 use crate::work::Work;
@@ -24,7 +23,7 @@ use tz_frames::return_bits::{
 use tz_frames::{Choice, Entering, Frames};
 use tz_model::{Profile, Side, Slot};
 use tz_nvic::Exceptions;
-use tz_prio::can_take;
+use tz_prio::{can_take, hard_side};
 use tz_regs::fault_bits::VECTTBL;
 use tz_regs::{Apsr, Core, Registers};
 use tz_state::exception::{HARD_FAULT, NMI};

@@ -10,6 +10,7 @@ use Rattle.tz_regs.specs.declared.parts.Status.{Status}
 use Rattle.tz_regs.specs.FaultBits.{forced}
 use Rattle.tz_state.specs.declared.taken.Taken.{Taken}
 use Rattle.tz_state.specs.declared.taken.Taken.TheVariants.{AsIs, Hard, Lockup}
+use Rattle.tz_state.specs.ExceptionNumbers.{hard_fault, mem_manage, bus_fault, usage_fault, secure_fault, sv_call}
 use Rattle.tz_state.specs.Slots.{ExceptionsValue}
 use Rattle.tz_state.specs.SlotChanges.{pended}
 use Rattle.tz_state.specs.Escalation.{hard_side, escalated}
@@ -95,12 +96,12 @@ slot number side = record { number = number; side = side }
 
 -- an exception of a side; HardFault is of the side that BFHFNMINS gives it
 abbrev pub exception_slot : ExceptionsValue → Side → FaultException → Slot
-exception_slot e side MemManage = slot 4 side
-exception_slot e side BusFault = slot 5 side
-exception_slot e side UsageFault = slot 6 side
-exception_slot e side HardFault = slot 3 (hard_side e side)
-exception_slot e side SecureFault = slot 7 side
-exception_slot e side SVCall = slot 11 side
+exception_slot e side MemManage = slot mem_manage side
+exception_slot e side BusFault = slot bus_fault side
+exception_slot e side UsageFault = slot usage_fault side
+exception_slot e side HardFault = slot hard_fault (hard_side e side)
+exception_slot e side SecureFault = slot secure_fault side
+exception_slot e side SVCall = slot sv_call side
 
 -- the exception of a fault of code of a side
 abbrev pub exception_of : ExceptionsValue → Side → Fault → Slot
@@ -128,7 +129,7 @@ with_status c status = record c { status = status }
 abbrev pub raised_as : Taken → Slot → Core → ExceptionsValue → Raised
 raised_as AsIs given c e = record { core = c; exceptions = pended e given; locks = false }
 raised_as (Hard side) given c e =
-    record { core = with_status c (with_hfsr forced c.status); exceptions = pended e (slot 3 side); locks = false }
+    record { core = with_status c (with_hfsr forced c.status); exceptions = pended e (slot hard_fault side); locks = false }
 raised_as Lockup given c e = record { core = with_status c (with_hfsr forced c.status); exceptions = e; locks = true }
 
 abbrev pub raised : Slot → Core → ExceptionsValue → Raised

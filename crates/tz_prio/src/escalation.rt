@@ -10,8 +10,8 @@ use tz_nvic::Exceptions;
 use tz_regs::{Core, Masks};
 use tz_state::Taken;
 
-/// The side of the HardFault that an exception of a side becomes.
-fn hard_side(exceptions: &Exceptions, side: Side) -> Side
+/// The side of the HardFault that code of a side raises, and that an exception of that side becomes.
+pub fn hard_side(exceptions: &Exceptions, side: Side) -> Side
     ensures { result ≡ hard_side exceptions.now side }
 {
     if exceptions.fault_side() {

@@ -9,7 +9,7 @@ mod execution;
 mod masks;
 mod negative;
 
-pub use escalation::escalate;
+pub use escalation::{escalate, hard_side};
 pub use execution::{can_take, execution_priority, raw_priority, takes_first, wakes};
 pub use negative::is_negative;
 pub use tz_state::Taken;

@@ -5,6 +5,7 @@ use Rattle.tz_table.specs.declared.decoded.Decoded.{Decoded}
 use Rattle.tz_table.specs.declared.decoded.Decoded.TheVariants.{One, NoCoprocessor, Undefined}
 use Rattle.tz_syntax.specs.Digits.{hex_byte, hex_half, hex_word}
 use Rattle.tz_syntax.specs.Text.{text_of}
+use Rattle.tz_text.specs.Instruction.{code_text}
 use Rattle.tz_text.specs.declared.disassembly.fronts.Front.{Front}
 use Rattle.tz_text.specs.declared.disassembly.fronts.Front.TheVariants.{Byte, Half, Whole}
 
@@ -64,14 +65,10 @@ size_of (Byte b) = 1
 size_of (Half h) = 2
 size_of (Whole code) = code_size code.second
 
-abbrev pub second_digits : Option ℕ → List ℕ
-second_digits None = []
-second_digits (Some second) = hex_half second
-
 abbrev pub digits_of : Front → List ℕ
 digits_of (Byte b) = hex_byte b
 digits_of (Half h) = hex_half h
-digits_of (Whole code) = hex_half code.first ++ second_digits code.second
+digits_of (Whole code) = code_text code
 
 -- a line with its line feed: the address, the code, and the text
 abbrev pub line_of : ℕ → Front → List ℕ

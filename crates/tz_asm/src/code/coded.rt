@@ -1,7 +1,6 @@
 //! Statements: the width of a mnemonic, whether operands have a shape, and the code.
 
 ghost use Rattle.std.specs.Prelude.{◌≡◌, MatchOption, map, option_map};
-ghost use Rattle.tz_encode.specs.Encoded.{code_of as code_of_halves_of};
 ghost use Rattle.tz_asm.specs.Coded.{Coded, FixedWidth, Gives, IsCodeOf, OneAnswer, Passes, means, shaped};
 ghost use Rattle.tz_asm.specs.Mnemonics.{width_of_word};
 ghost use Rattle.tz_asm.specs.CodeViews.{progress_view};
@@ -14,7 +13,7 @@ use crate::code::progress::Reading;
 use crate::code::rows::row_read;
 use crate::code::uncoded::Uncoded;
 use tz_decode::decode;
-use tz_encode::find;
+use tz_encode::{code_of_halves, find};
 use tz_syntax::Token;
 use tz_table::{Code, Decoded, Width};
 
@@ -53,20 +52,6 @@ fn means(code: Code, values: &[i32; 9]) -> bool
     match decode(code.first, code.second.unwrap_or(0)) {
         Decoded::One(insn, _) => tz_bits::values(&insn) == *values,
         _ => false,
-    }
-}
-
-/// Two halfwords as a code of the width: a narrow code has no second one.
-fn code_of_halves(width: Width, halves: (u16, u16)) -> Code
-    ensures { result ≡ code_of_halves_of width halves }
-{
-    let second = match width {
-        Width::Narrow => None,
-        Width::Wide => Some(halves.1),
-    };
-    Code {
-        first: halves.0,
-        second,
     }
 }
 
