@@ -1,0 +1,17 @@
+mod boards;
+mod codes;
+mod decoding;
+mod doubles;
+mod edges;
+mod encoding;
+mod failing;
+mod fields;
+mod images;
+mod instructions;
+mod lines;
+mod operations;
+mod pieces;
+mod rows;
+mod slots;
+mod tokens;
+mod told_cases;

@@ -1,0 +1,80 @@
+//! The registers of the SAU and of the MPUs, and what the units tell of an address.
+
+use crate::units::asked::Asked;
+use crate::units::faults::{tell_index, tell_region};
+use tz_access::Bus;
+use tz_state::Kind;
+use tz_testing::{Case, side_word};
+
+/// RNR of the SAU; RBAR and RLAR stand behind it.
+const SAU_RNR: u32 = 0xe000_edd8;
+
+/// The same of an MPU.
+const MPU_RNR: u32 = 0xe000_ed98;
+
+/// Sets RBAR and RLAR of a region by registers that begin with this RNR.
+fn set_region(bus: &mut Bus, rnr: u32, asked: &Asked, case: &mut Case<'_>) {
+    bus.set_register(rnr, asked.side, asked.numbers[0]);
+    bus.set_register(rnr.wrapping_add(4), asked.side, asked.numbers[1]);
+    bus.set_register(rnr.wrapping_add(8), asked.side, asked.numbers[2]);
+    case.tell("set")
+}
+
+/// Tells the side of an address for a read or a fetch of a side, whether it is callable, and the numbers of the regions
+/// of the SAU and of the board.
+fn tell_attribute(bus: &Bus, asked: &Asked, case: &mut Case<'_>) {
+    let fetch = asked.kind == Kind::Fetch;
+    let word = bus.sau().attribute(asked.numbers[0], fetch, asked.side);
+    case.tell(side_word(word.side));
+    case.tell(if word.callable { " callable " } else { " " });
+    tell_index(case, word.sregion, "none");
+    case.tell(" ");
+    tell_index(case, word.iregion, "none")
+}
+
+/// A step of the SAU and of the MPUs.
+pub enum UnitStep {
+    Set,
+    Get,
+    Sau,
+    Mpu,
+    SauRegion,
+    MpuRegion,
+    Attribute,
+    Target,
+}
+
+/// Takes a step: `set REGISTER NUMBER` and `get REGISTER` of a side; `sau REGION RBAR RLAR`, and `mpu` of a side;
+/// `sau_region REGION`, and `mpu_region` of a side, RBAR and RLAR of it; `attribute ADDRESS` of a side; and `target
+/// ADDRESS` of a side, the word of TT.
+pub fn step(bus: &mut Bus, step: &UnitStep, asked: &Asked, case: &mut Case<'_>) {
+    let [first, second, ..] = asked.numbers;
+    let side = asked.side;
+    match (step, asked.count) {
+        (UnitStep::Set, 2) => {
+            bus.set_register(first, side, second);
+            case.tell("set")
+        }
+        (UnitStep::Get, 1) => case.tell_hex(bus.register(first, side)),
+        (UnitStep::Sau, 3) => set_region(bus, SAU_RNR, asked, case),
+        (UnitStep::Mpu, 3) => set_region(bus, MPU_RNR, asked, case),
+        (UnitStep::SauRegion, 1) => {
+            let region = case.byte_in(first);
+            tell_region(case, bus.sau().region(region))
+        }
+        (UnitStep::MpuRegion, 1) => {
+            let region = case.byte_in(first);
+            tell_region(case, bus.mpu(side).region(region))
+        }
+        (UnitStep::Attribute, 1) => tell_attribute(bus, asked, case),
+        (UnitStep::Target, 1) => case.tell_hex(bus.test_target(
+            first,
+            side,
+            asked.privileged,
+            asked.negative,
+            asked.alternate,
+            asked.unprivileged,
+        )),
+        _ => case.refuse(),
+    }
+}

@@ -1,4 +1,0 @@
-use Rattle.tz_unit_rows.proofs.systems.looks.settle.Given as goal
-
-abbrev pub ghosts-settle_by : goal.ghosts-settle_by
-ghosts-settle_by a = record { name = a.blank.name; parts = a.blank.parts }
