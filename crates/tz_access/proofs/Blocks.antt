@@ -21,7 +21,7 @@ use Rattle.tz_state.specs.Attribution.{MapState, SauState, sau_side, idau_side, 
 use Rattle.tz_state.specs.Protection.{MpuState, permission, permission_by, default_permits, is_executable}
 use Rattle.tz_state.specs.declared.request.Request.{Request}
 use Rattle.tz_state.specs.State.{Bus, mpu_of}
-use Rattle.tz_state.specs.Access.{is_mapped, is_writable, takes, lets}
+use Rattle.tz_state.specs.Access.{is_mapped, is_writable, is_accessible, lets}
 use Rattle.tz_state.specs.Fetch.{is_own_byte, is_entry, lets_run}
 use Rattle.tz_access.specs.Checks.{IsByBlocks, last_of}
 
@@ -179,7 +179,7 @@ runs_by_blocks b side privileged negative = record {
       rw (below_block x y e, permission_blocks b.board.profile (mpu_of side b) x y kinds.Fetch privileged negative e) refl;
 }
 
-pub takes_by_blocks : (rs : List Region) (kind : Kind) → are_regions rs ≡ true → IsByBlocks (takes rs kind)
+pub takes_by_blocks : (rs : List Region) (kind : Kind) → are_regions rs ≡ true → IsByBlocks (is_accessible rs kind)
 takes_by_blocks rs kinds.Read is = record { same = λ a b e. mapped_blocks rs a b is e }
 takes_by_blocks rs kinds.Write is = record { same = λ a b e. writable_blocks rs a b is e }
 takes_by_blocks rs kinds.Fetch is = record { same = λ a b e. mapped_blocks rs a b is e }

@@ -12,7 +12,7 @@ use Rattle.tz_model.specs.declared.report.Fault.TheVariants.{Precise}
 use Rattle.tz_state.specs.declared.request.Request.{Request}
 use Rattle.tz_state.specs.Memory.{every}
 use Rattle.tz_state.specs.State.{Bus}
-use Rattle.tz_state.specs.Access.{takes}
+use Rattle.tz_state.specs.Access.{is_accessible}
 use Rattle.tz_access.specs.declared.place.Place.{Place}
 use Rattle.tz_access.specs.declared.place.Place.TheVariants.{Memory, System}
 
@@ -23,12 +23,12 @@ is_system System = true
 
 -- the map's word on an access
 abbrev pub by_map : Bus → Request → Option Fault
-by_map b q = if not (every (takes b.board.regions q.kind) q.addr q.size) then Some (Precise q.addr) else None
+by_map b q = if not (every (is_accessible b.board.regions q.kind) q.addr q.size) then Some (Precise q.addr) else None
 
 -- what is left of the checks of an access that no check before the map refuses
-abbrev pub left_by : Place → Bus → Request → Option Fault
-left_by Memory b q = by_map b q
-left_by System b q = None
+abbrev pub place_verdict : Place → Bus → Request → Option Fault
+place_verdict Memory b q = by_map b q
+place_verdict System b q = None
 
 -- a test that answers the same at each address of a block of 32 bytes
 pub record IsByBlocks (p : ℕ → Bool) : Type 0 where

@@ -125,7 +125,6 @@ impl Bus {
         self.memory.put_segment(segment);
     }
 
-    /// The board.
     pub fn board(&self) -> &Board
         ensures { result.now ≡ self.now.board }
     {

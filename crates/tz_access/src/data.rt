@@ -4,8 +4,8 @@ ghost use Rattle.std.specs.Prelude.{◌≡◌, MatchResult, None, Some, if◌the
 ghost use Rattle.tz_state.specs.declared.request.Kind.TheVariants.{Read, Write};
 ghost use Rattle.tz_state.specs.Memory.{every, value_at, with_value};
 ghost use Rattle.tz_state.specs.State.{map_in, with_memory};
-ghost use Rattle.tz_state.specs.Access.{is_aligned, is_crooked, may_touch, is_let, lets, takes, is_private, verdict, request_by};
-ghost use Rattle.tz_access.specs.Checks.{is_system, left_by};
+ghost use Rattle.tz_state.specs.Access.{is_aligned, is_crooked, may_touch, is_let, lets, is_accessible, is_private, verdict, request_by};
+ghost use Rattle.tz_access.specs.Checks.{is_system, place_verdict};
 
 use crate::bus::Bus;
 use crate::place::Place;
@@ -81,17 +81,18 @@ impl Bus {
 
     /// Whether the map takes each byte of an access.
     fn all_taken(&self, kind: Kind, size: Size, addr: u32) -> bool
-        ensures { result ≡ every (takes self.now.board.regions kind) addr size }
+        ensures { result ≡ every (is_accessible self.now.board.regions kind) addr size }
     {
         let last = last_of(size, addr);
-        self.takes(kind, addr) && (is_one_block(addr, last) || self.takes(kind, last))
+        self.is_accessible(kind, addr)
+            && (is_one_block(addr, last) || self.is_accessible(kind, last))
     }
 
     /// All checks of an access but the map's.
     #[tactic(auto, unfolding(tz_state::specs::Access::verdict))]
     fn guard(&self, request: &Request) -> Result<Place, Fault>
         ensures { MatchResult result
-            (λ place. (verdict self.now request.now ≡ left_by place self.now request.now) × (is_system place ≡ is_private request.now.addr))
+            (λ place. (verdict self.now request.now ≡ place_verdict place self.now request.now) × (is_system place ≡ is_private request.now.addr))
             (λ fault. verdict self.now request.now ≡ Some fault) }
     {
         let addr = request.addr;

@@ -12,14 +12,23 @@ use tz_state::{Kind, Probe};
 
 // The bits of the word, each as the word that has it alone; a field is told by its lowest bit.
 const TT_SREGION: u32 = 1 << 8;
+
 const TT_MRVALID: u32 = 1 << 16;
+
 const TT_SRVALID: u32 = 1 << 17;
+
 const TT_R: u32 = 1 << 18;
+
 const TT_RW: u32 = 1 << 19;
+
 const TT_NSR: u32 = 1 << 20;
+
 const TT_NSRW: u32 = 1 << 21;
+
 const TT_S: u32 = 1 << 22;
+
 const TT_IRVALID: u32 = 1 << 23;
+
 const TT_IREGION: u32 = 1 << 24;
 
 /// What the SAU and the board tell of an address.
@@ -71,7 +80,7 @@ fn iregion_bits(region: Option<u8>) -> u32
     }
 }
 
-/// The state whose MPU is looked at.
+/// The state whose MPU is asked.
 fn examined(side: Side, alternate: bool) -> Side
     ensures { result ≡ examined side alternate }
 {
@@ -160,7 +169,7 @@ impl Bus {
     }
 
     /// What TT tells code of a side about an address. `privileged` is its privilege in the state whose MPU is
-    /// looked at, which is the Non-secure one with `alternate`; `user` asks for an access without privilege;
+    /// asked, which is the Non-secure one with `alternate`; `user` asks for an access without privilege;
     /// `negative` says that the execution priority is below 0.
     #[tactic(auto, unfolding(tz_state::specs::Target::target_word))]
     pub fn test_target(

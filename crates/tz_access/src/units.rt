@@ -2,7 +2,7 @@
 
 ghost use Rattle.std.specs.Prelude.{◌≡◌, true};
 ghost use Rattle.tz_access.specs.Checks.{IsByBlocks};
-ghost use Rattle.tz_state.specs.Access.{is_mapped, is_writable, takes, lets, is_private};
+ghost use Rattle.tz_state.specs.Access.{is_mapped, is_writable, is_accessible, lets, is_private};
 ghost use Rattle.tz_state.specs.Attribution.{is_open};
 ghost use Rattle.tz_state.specs.Fetch.{is_own_byte, lets_run, is_entry};
 ghost use Rattle.tz_state.specs.Protection.{permits};
@@ -115,9 +115,9 @@ impl Bus {
 
     /// Whether the map takes an access of a kind at a byte.
     #[tactic(auto, using(crate::proofs::Blocks::takes_by_blocks))]
-    pub(crate) fn takes(&self, kind: Kind, addr: u32) -> bool
-        ensures value { result ≡ takes self.now.board.regions kind addr }
-        ensures blocks { IsByBlocks (takes self.now.board.regions kind) }
+    pub(crate) fn is_accessible(&self, kind: Kind, addr: u32) -> bool
+        ensures value { result ≡ is_accessible self.now.board.regions kind addr }
+        ensures blocks { IsByBlocks (is_accessible self.now.board.regions kind) }
     {
         self.know_regions();
         match kind {

@@ -3,7 +3,7 @@
 ghost use Rattle.std.specs.Prelude.{◌≡◌, ℕ, Bool, ◌&&◌, ◌==◌, nat_lt, unwrap_or};
 ghost use Rattle.tz_bits.specs.Shifts.{shifted, carry_after};
 ghost use Rattle.tz_bits.specs.Constants.{imm_of};
-ghost use Rattle.tz_regs.specs.Registers.{limit_of};
+ghost use Rattle.tz_regs.specs.Registers.{pointer_limit_of};
 ghost use Rattle.tz_sem.specs.Alu.{places as places_of, is_comparison as compares, is_limited as limits, concluded, operated, finish_constant, finish_register, finish_shift, finish_add_wide};
 ghost use Rattle.tz_alu.specs.Part.{part, left};
 
@@ -54,7 +54,7 @@ fn is_limited(op: DataOp) -> bool
 
 /// Whether a result is an SP below its limit.
 fn is_below_limit(registers: &Registers, own: &Stacks, op: DataOp, rd: u8, value: u32) -> bool
-    ensures { result ≡ (rd == 13 && limits op && nat_lt value (limit_of registers.now.ipsr own.now)) }
+    ensures { result ≡ (rd == 13 && limits op && nat_lt value (pointer_limit_of registers.now.ipsr own.now)) }
 {
     rd == 13 && is_limited(op) && value < own.limit(registers.ipsr)
 }

@@ -1,7 +1,7 @@
 //! What instructions leave: values of registers, and flags.
 
 ghost use Rattle.std.specs.Prelude.{◌≡◌, if◌then◌else◌};
-ghost use Rattle.tz_regs.specs.Registers.{told_by, with_reg, with_reg_stacks};
+ghost use Rattle.tz_regs.specs.Registers.{with_n_and_z, with_reg, with_reg_stacks};
 ghost use Rattle.tz_sem.specs.Alu.{flags_by, sets_flags};
 
 use tz_model::Flags;
@@ -41,7 +41,7 @@ pub(crate) fn set_flags(registers: &mut Registers, flags: Flags, by: &Computed)
 
 /// Tells a product in N and Z, where its instruction sets the flags.
 pub(crate) fn tell_product(registers: &mut Registers, flags: Flags, value: u32)
-    ensures { registers.new ≡ record registers.old { apsr = if sets_flags flags registers.old then told_by value registers.old.apsr else registers.old.apsr } }
+    ensures { registers.new ≡ record registers.old { apsr = if sets_flags flags registers.old then with_n_and_z value registers.old.apsr else registers.old.apsr } }
 {
     if is_setting(registers, flags) {
         registers.apsr.tell(value);

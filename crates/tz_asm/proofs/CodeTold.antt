@@ -6,7 +6,7 @@ use Rattle.tz_encode.specs.Encoded.{EncodedIn, FirstCode, code_of}
 use Rattle.tz_encode.specs.Told.{first_code, code_with}
 use Rattle.tz_encode.proofs.Told.{IsTold, means_some, told_of}
 use Rattle.tz_bits.specs.Values.{values_of}
-use Rattle.tz_syntax.specs.Rows.{TextRow}
+use Rattle.tz_syntax.specs.Rows.{TextRowValue}
 use Rattle.tz_table.specs.Table.{rows}
 use Rattle.tz_table.specs.declared.instruction.Insn.{Insn}
 use Rattle.tz_table.specs.declared.units.Code.{Code}
@@ -77,7 +77,7 @@ passes_told (Some p) w label x = passes_by (p.labelled && is_none label) p w x
 
 -- ---- rows
 
-rows_told : (texts : List TextRow) (mnemonic : List ℕ) (tokens : List TokenValue) (s : Site) (label : Option ℕ) (result : Result Code Uncoded)
+rows_told : (texts : List TextRowValue) (mnemonic : List ℕ) (tokens : List TokenValue) (s : Site) (label : Option ℕ) (result : Result Code Uncoded)
     → CodedBy texts mnemonic tokens s label result → first_answer texts mnemonic tokens s label ≡ result
 unfolding CodedBy first_answer
 rows_told [] mnemonic tokens s label result x = sym x

@@ -5,7 +5,7 @@ use Rattle.tz_encode.specs.Encoded.{At, EncodedIn, FirstCode, code_of}
 use Rattle.tz_bits.proofs.Back.{same_values}
 use Rattle.tz_encode.specs.Codes.{IsLeastCode}
 use Rattle.tz_encode.proofs.Places.{seconds_few}
-use Rattle.tz_syntax.specs.Rows.{TextRow}
+use Rattle.tz_syntax.specs.Rows.{TextRowValue}
 use Rattle.tz_table.specs.Rows.{TableRow}
 use Rattle.tz_table.specs.Table.{rows}
 use Rattle.tz_table.specs.declared.instruction.Insn.{Insn}
@@ -78,7 +78,7 @@ not_both None w label a x y = x
 not_both (Some p) w label a x y = not_by_both (p.labelled && is_none label) p w a x y
 
 -- so do rows
-pub once : (texts : List TextRow) (mnemonic : List ℕ) (tokens : List TokenValue) (s : Site) (label : Option ℕ) (a b : Result Code Uncoded) → CodedBy texts mnemonic tokens s label a → CodedBy texts mnemonic tokens s label b → a ≡ b
+pub once : (texts : List TextRowValue) (mnemonic : List ℕ) (tokens : List TokenValue) (s : Site) (label : Option ℕ) (a b : Result Code Uncoded) → CodedBy texts mnemonic tokens s label a → CodedBy texts mnemonic tokens s label b → a ≡ b
 unfolding CodedBy
 once [] mnemonic tokens s label a b x y = x ∙ sym y
 once (r ∷ texts) mnemonic tokens s label a b x y =

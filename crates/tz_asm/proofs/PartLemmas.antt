@@ -5,7 +5,7 @@ use Rattle.std.proofs.lemmas.Slice.Eq.{bytes_eq-Decides}
 use Rattle.std.proofs.lemmas.Str.Ascii.{lowercase-lowercase}
 use Rattle.std.specs.List.{list_all}
 use Rattle.std.specs.Str.{bytes_eq}
-use Rattle.tz_syntax.specs.Rows.{TextRow}
+use Rattle.tz_syntax.specs.Rows.{TextRowValue}
 use Rattle.tz_syntax.specs.Text.{texts}
 use Rattle.tz_asm.specs.Index.{between, letter_sum, part_in, part_of, rows_at, named_at}
 use Rattle.tz_asm.specs.Mnemonics.{behind, ends_well, is_named, lettered, texts_of}
@@ -14,14 +14,14 @@ use Rattle.tz_asm.specs.declared.code.index.TheConstants.{PARTS, PLACES}
 -- ---- the parts hold the numbers of the rows that are in them
 
 -- the numbers of the rows that pass a test, from number k on
-abbrev pub places_of : (TextRow → Bool) → ℕ → List TextRow → List ℕ
+abbrev pub places_of : (TextRowValue → Bool) → ℕ → List TextRowValue → List ℕ
 places_of p k [] = []
 places_of p k (r ∷ rs) = if p r then k ∷ places_of p (k + 1) rs else places_of p (k + 1) rs
 
-abbrev pub in_part : ℕ → TextRow → Bool
+abbrev pub in_part : ℕ → TextRowValue → Bool
 in_part k r = part_of r.mnemonic == k
 
-abbrev pub parts_hold : List TextRow → ℕ → List (List ℕ) → Bool
+abbrev pub parts_hold : List TextRowValue → ℕ → List (List ℕ) → Bool
 parts_hold rows k [] = true
 parts_hold rows k (places ∷ parts) = bytes_eq places (places_of (in_part k) 0 rows) && parts_hold rows (k + 1) parts
 
@@ -32,7 +32,7 @@ parts_hold_here : parts_hold texts 0 parts ≡ true
 unfolding texts
 parts_hold_here = refl
 
-part_holds : (rows : List TextRow) (ps : List (List ℕ)) (k j n : ℕ) → k + j ≡ n → parts_hold rows k ps ≡ true → j < length ps → part_in ps j ≡ places_of (in_part n) 0 rows
+part_holds : (rows : List TextRowValue) (ps : List (List ℕ)) (k j n : ℕ) → k + j ≡ n → parts_hold rows k ps ≡ true → j < length ps → part_in ps j ≡ places_of (in_part n) 0 rows
 part_holds rows [] k j n e h l = absurd (omega arith)
 part_holds rows (p ∷ ps) k zero n e h l =
     let same : k ≡ n = omega arith in
@@ -44,7 +44,7 @@ part_holds rows (p ∷ ps) k (suc j) n e h l =
 
 -- ---- the rows with these numbers
 
-drop_here : (all rs : List TextRow) (k : ℕ) (r : TextRow) → drop k all ≡ r ∷ rs → (slice_get all k ≡ Some r) × (drop (k + 1) all ≡ rs)
+drop_here : (all rs : List TextRowValue) (k : ℕ) (r : TextRowValue) → drop k all ≡ r ∷ rs → (slice_get all k ≡ Some r) × (drop (k + 1) all ≡ rs)
 drop_here [] rs zero r h = cc
 drop_here [] rs (suc k) r h = cc
 drop_here (x ∷ xs) rs zero r h = (cc, cc)
@@ -53,7 +53,7 @@ drop_here (x ∷ xs) rs (suc k) r h =
     let behind : drop (suc k) xs ≡ rs = rw add-one at later.1 in
     (later.0, rw add-one behind)
 
-rows_of_places : (all : List TextRow) (p : TextRow → Bool) (k : ℕ) (rs : List TextRow) → drop k all ≡ rs → filter_map (λ j. slice_get all j) (places_of p k rs) ≡ filter p rs
+rows_of_places : (all : List TextRowValue) (p : TextRowValue → Bool) (k : ℕ) (rs : List TextRowValue) → drop k all ≡ rs → filter_map (λ j. slice_get all j) (places_of p k rs) ≡ filter p rs
 rows_of_places all p k [] h = refl
 rows_of_places all p k (r ∷ rs) h =
     let here = drop_here all rs k r h in
@@ -81,7 +81,7 @@ abbrev pub fine_by : Option (ℕ × ℕ) → List ℕ → Bool
 fine_by None m = true
 fine_by (Some places) m = bytes_eq m (codes "it")
 
-abbrev pub fine : TextRow → Bool
+abbrev pub fine : TextRowValue → Bool
 fine r = fine_by (lettered r.pieces) r.mnemonic
 
 all_fine : list_all fine texts ≡ true
@@ -106,10 +106,10 @@ named_part (Some places) m w f h = named_lettered places m w (behind m w) ((byte
 
 -- ---- so its rows are all there
 
-filter_one : (p q : TextRow → Bool) (r : TextRow) (rows : List TextRow) → (p r ≡ true → q r ≡ true) → filter p (filter q rows) ≡ filter p rows → filter p (filter q (r ∷ rows)) ≡ filter p (r ∷ rows)
+filter_one : (p q : TextRowValue → Bool) (r : TextRowValue) (rows : List TextRowValue) → (p r ≡ true → q r ≡ true) → filter p (filter q rows) ≡ filter p rows → filter p (filter q (r ∷ rows)) ≡ filter p (r ∷ rows)
 filter_one p q r rows here later = grind arith
 
-filter_filter : (p q : TextRow → Bool) (rows : List TextRow) → ((r : TextRow) → fine r ≡ true → p r ≡ true → q r ≡ true) → list_all fine rows ≡ true → filter p (filter q rows) ≡ filter p rows
+filter_filter : (p q : TextRowValue → Bool) (rows : List TextRowValue) → ((r : TextRowValue) → fine r ≡ true → p r ≡ true → q r ≡ true) → list_all fine rows ≡ true → filter p (filter q rows) ≡ filter p rows
 filter_filter p q [] along h = refl
 filter_filter p q (r ∷ rows) along h =
     let parts : (fine r ≡ true) × (list_all fine rows ≡ true) = and_parts (fine r) (list_all fine rows) h in
@@ -117,7 +117,7 @@ filter_filter p q (r ∷ rows) along h =
     let here : p r ≡ true → q r ≡ true = along r parts.0 in
     filter_one p q r rows here later
 
-named_in_part : (w : List ℕ) (r : TextRow) → fine r ≡ true → is_named w r ≡ true → in_part (part_of w) r ≡ true
+named_in_part : (w : List ℕ) (r : TextRowValue) → fine r ≡ true → is_named w r ≡ true → in_part (part_of w) r ≡ true
 named_in_part w r f h = eq-eqb _ _ (named_part (lettered r.pieces) r.mnemonic w f h)
 
 rows_of_part : (k : ℕ) → rows_at (places_of (in_part k) 0 texts) ≡ filter (in_part k) texts

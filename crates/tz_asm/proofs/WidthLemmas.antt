@@ -6,7 +6,7 @@ use Rattle.std.specs.Char.{to_ascii_lowercase}
 use Rattle.std.specs.List.{AllByRecursion, list_all}
 use Rattle.std.specs.Str.{bytes_eq}
 use Rattle.tz_encode.specs.Encoded.{EncodedIn, code_of}
-use Rattle.tz_syntax.specs.Rows.{TextRow}
+use Rattle.tz_syntax.specs.Rows.{TextRowValue}
 use Rattle.tz_syntax.specs.Text.{texts}
 use Rattle.tz_table.specs.Rows.{same_width}
 use Rattle.tz_table.specs.Table.{rows}
@@ -77,28 +77,28 @@ is_width_same (Some Narrow) Wide h = cc
 is_width_same (Some Wide) Narrow h = cc
 is_width_same (Some Wide) Wide h = refl
 
-abbrev agrees : TextRow → Bool
+abbrev agrees : TextRowValue → Bool
 agrees r = fine_by (lettered r.pieces) r.mnemonic && is_width (width_named r.mnemonic) r.width
 
 all_agree : list_all agrees texts ≡ true
 unfolding texts width_named
 all_agree = refl
 
-has_width : (w : List ℕ) (r : TextRow) → agrees r ≡ true → is_named w r ≡ true → width_named (name_of w) ≡ Some r.width
+has_width : (w : List ℕ) (r : TextRowValue) → agrees r ≡ true → is_named w r ≡ true → width_named (name_of w) ≡ Some r.width
 has_width w r a h =
     let both : (fine_by (lettered r.pieces) r.mnemonic ≡ true) × (is_width (width_named r.mnemonic) r.width ≡ true) = and_parts (fine_by (lettered r.pieces) r.mnemonic) (is_width (width_named r.mnemonic) r.width) a in
     let name : r.mnemonic ≡ name_of w = named_by (lettered r.pieces) r.mnemonic w both.0 h in
     ap width_named (sym name) ∙ is_width_same (width_named r.mnemonic) r.width both.1
 
 -- the width that the rows have
-abbrev HasWidth : Option Width → TextRow → Type 0
+abbrev HasWidth : Option Width → TextRowValue → Type 0
 HasWidth o r = o ≡ Some r.width
 
-one_more : (w : List ℕ) (r : TextRow) (rs : List TextRow) (named : Bool) → is_named w r ≡ named → (is_named w r ≡ true → width_named (name_of w) ≡ Some r.width) → AllByRecursion (HasWidth (width_named (name_of w))) (filter (is_named w) rs) → AllByRecursion (HasWidth (width_named (name_of w))) (filter (is_named w) (r ∷ rs))
+one_more : (w : List ℕ) (r : TextRowValue) (rs : List TextRowValue) (named : Bool) → is_named w r ≡ named → (is_named w r ≡ true → width_named (name_of w) ≡ Some r.width) → AllByRecursion (HasWidth (width_named (name_of w))) (filter (is_named w) rs) → AllByRecursion (HasWidth (width_named (name_of w))) (filter (is_named w) (r ∷ rs))
 one_more w r rs true is h later = rw is (h is, later)
 one_more w r rs false is h later = rw is later
 
-all_have_width : (w : List ℕ) (rs : List TextRow) → list_all agrees rs ≡ true → AllByRecursion (HasWidth (width_named (name_of w))) (filter (is_named w) rs)
+all_have_width : (w : List ℕ) (rs : List TextRowValue) → list_all agrees rs ≡ true → AllByRecursion (HasWidth (width_named (name_of w))) (filter (is_named w) rs)
 all_have_width w [] h = tt
 all_have_width w (r ∷ rs) h =
     let both : (agrees r ≡ true) × (list_all agrees rs ≡ true) = and_parts (agrees r) (list_all agrees rs) h in
@@ -124,7 +124,7 @@ given_width : (o : Option Progress) (w : Width) (label : Option ℕ) (code : Cod
 given_width None w label code x = absurd x
 given_width (Some p) w label code x = given_by_width (p.labelled && is_none label) p w code x
 
-coded_has : (o : Option Width) (rs : List TextRow) (mnemonic : List ℕ) (tokens : List TokenValue) (s : Site) (label : Option ℕ) (code : Code) → AllByRecursion (HasWidth o) rs → CodedBy rs mnemonic tokens s label (Ok code) → o ≡ Some (width_of_code code)
+coded_has : (o : Option Width) (rs : List TextRowValue) (mnemonic : List ℕ) (tokens : List TokenValue) (s : Site) (label : Option ℕ) (code : Code) → AllByRecursion (HasWidth o) rs → CodedBy rs mnemonic tokens s label (Ok code) → o ≡ Some (width_of_code code)
 unfolding CodedBy
 coded_has o [] mnemonic tokens s label code all x = cc
 coded_has o (r ∷ rs) mnemonic tokens s label code all x =
@@ -133,7 +133,7 @@ coded_has o (r ∷ rs) mnemonic tokens s label code all x =
       | inr g ↦ coded_has o rs mnemonic tokens s label code all.1 g.1
     ]
 
-first_has : (o : Option Width) (rs : List TextRow) (mnemonic : List ℕ) (tokens : List TokenValue) (s : Site) (label : Option ℕ) (code : Code) → AllByRecursion (HasWidth o) rs → CodedBy rs mnemonic tokens s label (Ok code) → first_width rs ≡ o
+first_has : (o : Option Width) (rs : List TextRowValue) (mnemonic : List ℕ) (tokens : List TokenValue) (s : Site) (label : Option ℕ) (code : Code) → AllByRecursion (HasWidth o) rs → CodedBy rs mnemonic tokens s label (Ok code) → first_width rs ≡ o
 unfolding CodedBy
 first_has o [] mnemonic tokens s label code all x = cc
 first_has o (r ∷ rs) mnemonic tokens s label code all x = sym all.0

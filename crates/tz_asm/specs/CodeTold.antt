@@ -2,7 +2,7 @@
 use Rattle.std.specs.Prelude.{ℕ, ◌&&◌, List, [], ◌∷◌, Option, Some, None, if◌then◌else◌, is_none, option_map, unwrap_or, Result, Ok, Err}
 use Rattle.tz_syntax.specs.Tokens.{TokenValue}
 use Rattle.tz_encode.specs.Told.{code_with}
-use Rattle.tz_syntax.specs.Rows.{TextRow}
+use Rattle.tz_syntax.specs.Rows.{TextRowValue}
 use Rattle.tz_table.specs.declared.units.Code.{Code}
 use Rattle.tz_table.specs.declared.units.Width.{Width}
 use Rattle.tz_asm.specs.Mnemonics.{texts_of}
@@ -24,7 +24,7 @@ answer_of None w label = None
 answer_of (Some p) w label = answer_by p w label
 
 -- the answer of the first of some rows that has one
-unfoldable pub first_answer : List TextRow → List ℕ → List TokenValue → Site → Option ℕ → Result Code Uncoded
+unfoldable pub first_answer : List TextRowValue → List ℕ → List TokenValue → Site → Option ℕ → Result Code Uncoded
 first_answer [] mnemonic tokens s label = Err Range
 first_answer (r ∷ texts) mnemonic tokens s label = unwrap_or (answer_of (row_read r mnemonic tokens s) r.width label) (first_answer texts mnemonic tokens s label)
 

@@ -6,7 +6,7 @@ use Rattle.std.specs.Ordering.{int_eq}
 use Rattle.tz_syntax.specs.Tokens.{TokenValue}
 use Rattle.tz_encode.specs.Encoded.{EncodedIn, meaning_of}
 use Rattle.tz_bits.specs.Values.{values_of}
-use Rattle.tz_syntax.specs.Rows.{TextRow}
+use Rattle.tz_syntax.specs.Rows.{TextRowValue}
 use Rattle.tz_table.specs.Table.{rows}
 use Rattle.tz_table.specs.declared.decoded.Decoded.{Decoded}
 use Rattle.tz_table.specs.declared.decoded.Decoded.TheVariants.{One, NoCoprocessor, Undefined}
@@ -21,7 +21,7 @@ use Rattle.tz_asm.specs.declared.code.uncoded.Uncoded.{Uncoded}
 use Rattle.tz_asm.specs.declared.code.uncoded.Uncoded.TheVariants.{NoLabel, Range}
 
 -- the operands have the shape of one of some rows. The place and the label have no part in it
-abbrev pub has_shape_in : List TextRow → List ℕ → List TokenValue → Bool
+abbrev pub has_shape_in : List TextRowValue → List ℕ → List TokenValue → Bool
 has_shape_in texts mnemonic tokens = list_any (λ r. is_some (row_read r mnemonic tokens (record { place = 0; label = 0 }))) texts
 
 -- the operands have the shape of a text of the mnemonic
@@ -62,7 +62,7 @@ Passes None w label = Unit {0}
 Passes (Some p) w label = PassesBy (p.labelled && is_none label) p w
 
 -- the answer of the first of some rows that has one; where none has, no row holds the values
-unfoldable pub CodedBy : List TextRow → List ℕ → List TokenValue → Site → Option ℕ → Result Code Uncoded → Type 0
+unfoldable pub CodedBy : List TextRowValue → List ℕ → List TokenValue → Site → Option ℕ → Result Code Uncoded → Type 0
 CodedBy [] mnemonic tokens s label result = result ≡ Err Range
 CodedBy (r ∷ texts) mnemonic tokens s label result =
     Gives (row_read r mnemonic tokens s) r.width label result

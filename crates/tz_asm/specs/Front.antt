@@ -33,11 +33,12 @@ word_at (values.Word word ∷ more) = Some (word, more)
 word_at (values.Number n ∷ more) = None
 word_at (values.Mark byte ∷ more) = None
 
-abbrev pub number_at : List TokenValue → Option (ℕ × List TokenValue)
-number_at [] = None
-number_at (values.Word word ∷ more) = None
-number_at (values.Number n ∷ more) = Some (n, more)
-number_at (values.Mark byte ∷ more) = None
+-- the number in front of tokens, and the tokens behind it
+abbrev pub leading_number : List TokenValue → Option (ℕ × List TokenValue)
+leading_number [] = None
+leading_number (values.Word word ∷ more) = None
+leading_number (values.Number n ∷ more) = Some (n, more)
+leading_number (values.Mark byte ∷ more) = None
 
 -- a number with a sign before it that was read
 abbrev pub with_sign : Bool → Option (ℕ × List TokenValue) → Option (Bool × ℕ × List TokenValue)
@@ -46,8 +47,8 @@ with_sign negative (Some number) = Some (negative, number.0, number.1)
 
 -- behind a minus, where there is one, else from the first token on
 abbrev pub behind_minus : Option (List TokenValue) → List TokenValue → Option (Bool × ℕ × List TokenValue)
-behind_minus None tokens = with_sign false (number_at tokens)
-behind_minus (Some more) tokens = with_sign true (number_at more)
+behind_minus None tokens = with_sign false (leading_number tokens)
+behind_minus (Some more) tokens = with_sign true (leading_number more)
 
 -- a number with its sign: whether a minus (45) stands before it, and the number behind that
 unfoldable pub signed_at : List TokenValue → Option (Bool × ℕ × List TokenValue)

@@ -1,7 +1,7 @@
 -- Where the rows of a mnemonic are looked up: the rows are parted by the sum of the letters of their mnemonics.
 use Rattle.std.specs.Prelude.{ℕ, ◌+◌, ◌-◌, ◌%◌, nat_le, ◌&&◌, if◌then◌else◌, List, [], ◌∷◌, codes, drop, filter, filter_map, is_some, length, slice_get, take, unwrap_or}
 use Rattle.std.specs.Char.{to_ascii_lowercase}
-use Rattle.tz_syntax.specs.Rows.{TextRow}
+use Rattle.tz_syntax.specs.Rows.{TextRowValue}
 use Rattle.tz_syntax.specs.Text.{texts}
 use Rattle.tz_asm.specs.Mnemonics.{behind, is_named}
 
@@ -22,9 +22,9 @@ abbrev pub part_in : List (List ℕ) → ℕ → List ℕ
 part_in parts place = unwrap_or (slice_get parts place) []
 
 -- the rows with these numbers
-abbrev pub rows_at : List ℕ → List TextRow
+abbrev pub rows_at : List ℕ → List TextRowValue
 rows_at places = filter_map (λ k. slice_get texts k) places
 
 -- those of them that have the mnemonic
-abbrev pub named_at : List ℕ → List ℕ → List TextRow
+abbrev pub named_at : List ℕ → List ℕ → List TextRowValue
 named_at word places = filter (is_named word) (rows_at places)

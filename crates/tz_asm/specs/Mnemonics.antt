@@ -3,7 +3,7 @@ use Rattle.std.specs.Prelude.{ℕ, ◌==◌, nat_le, Bool, false, ◌&&◌, ◌|
 use Rattle.std.specs.Char.{to_ascii_lowercase}
 use Rattle.std.specs.List.{list_all}
 use Rattle.tz_table.specs.declared.units.Width.{Width}
-use Rattle.tz_syntax.specs.Rows.{TextRow}
+use Rattle.tz_syntax.specs.Rows.{TextRowValue}
 use Rattle.tz_syntax.specs.Text.{texts}
 use Rattle.tz_syntax.specs.declared.row.Piece.{Piece}
 use Rattle.tz_syntax.specs.declared.row.Piece.TheVariants as pieces
@@ -41,15 +41,15 @@ ends_well places None = false
 ends_well places (Some bytes) = may_end places bytes
 
 -- the word is the mnemonic of the row
-abbrev pub is_named : List ℕ → TextRow → Bool
+abbrev pub is_named : List ℕ → TextRowValue → Bool
 is_named word row = ends_well (lettered row.pieces) (behind row.mnemonic word)
 
 -- all rows of a mnemonic, in their order
-unfoldable pub texts_of : List ℕ → List TextRow
+unfoldable pub texts_of : List ℕ → List TextRowValue
 texts_of word = filter (is_named word) texts
 
 -- the width of the first of some rows
-abbrev pub first_width : List TextRow → Option Width
+abbrev pub first_width : List TextRowValue → Option Width
 first_width [] = None
 first_width (row ∷ rows) = Some row.width
 

@@ -12,8 +12,8 @@ use Rattle.tz_asm.specs.declared.source.statement.Statement.{Statement}
 use Rattle.tz_asm.specs.declared.source.statement.Statement.TheVariants.{Nothing, Org, Align, Data, Equ, Space, Text, Instruction}
 use Rattle.tz_asm.specs.declared.source.statement.Ending.{Ending}
 use Rattle.tz_asm.specs.declared.source.statement.Ending.TheVariants as ending
-use Rattle.tz_asm.specs.declared.reading.Found.{Found}
-use Rattle.tz_asm.specs.declared.reading.Found.TheVariants as found
+use Rattle.tz_asm.specs.declared.reading.EndingKind.{EndingKind}
+use Rattle.tz_asm.specs.declared.reading.EndingKind.TheVariants as found
 use Rattle.tz_asm.specs.Texts.{EndingValue}
 use Rattle.tz_asm.specs.Texts as endings
 use Rattle.tz_syntax.specs.Tokens.{TokenValue}
@@ -40,7 +40,7 @@ statement_view (Text bytes ends) = statements.Text bytes.now ends
 statement_view (Instruction width mnemonic operands) = statements.Instruction width mnemonic.now (views operands.now)
 
 -- what the line ends with, of which the text's bytes are these
-abbrev pub found_view : Found → List ℕ → EndingValue
+abbrev pub found_view : EndingKind → List ℕ → EndingValue
 found_view found.Tokens bytes = endings.Tokens
 found_view found.Text bytes = endings.Text bytes
 found_view found.More bytes = endings.More

@@ -64,7 +64,6 @@ impl Growing {
         Ok(())
     }
 
-    /// The segments.
     pub fn segments(mut self, alloc: Global) -> Result<Vec<Segment>, AllocError>
         ensures { IfOk result (λ v. v.items ≡ finished (growing_view self)) }
     {

@@ -14,7 +14,7 @@ use tz_syntax::{Token, read_tokens, without_comment};
 
 /// What was found behind the tokens of a line.
 #[derive(Clone, Copy)]
-pub enum Found {
+pub enum EndingKind {
     /// Nothing.
     Tokens,
     /// A text.
@@ -30,7 +30,7 @@ fn read_ending<'s>(
     line: &'s [u8],
     tokens: &mut Vec<Token<'s>>,
     bytes: &mut Vec<u8>,
-) -> Result<Option<Found>, AllocError>
+) -> Result<Option<EndingKind>, AllocError>
     ensures { IfOk result (λ found. ending_of line.now
         ≡ option_map (λ f. found_view f bytes.new.items) found) }
 {
@@ -41,9 +41,9 @@ fn read_ending<'s>(
         return Ok(None);
     }
     if tokens.is_empty() {
-        Ok(Some(Found::Text))
+        Ok(Some(EndingKind::Text))
     } else {
-        Ok(Some(Found::More))
+        Ok(Some(EndingKind::More))
     }
 }
 
@@ -53,13 +53,13 @@ fn read_parts<'s>(
     line: &'s [u8],
     tokens: &mut Vec<Token<'s>>,
     bytes: &mut Vec<u8>,
-) -> Result<Option<Found>, AllocError>
+) -> Result<Option<EndingKind>, AllocError>
     ensures { IfOk result (λ found. line_read line.now
         ≡ option_map (λ f. (views tokens.new.items, found_view f bytes.new.items)) found) }
 {
     let Some((head, rest)) = quoted_at(line) else {
         if read_tokens(without_comment(line), tokens)? {
-            return Ok(Some(Found::Tokens));
+            return Ok(Some(EndingKind::Tokens));
         }
         return Ok(None);
     };
@@ -80,7 +80,7 @@ pub fn tokens_in<'s>(
     text: &'s [u8],
     tokens: &mut Vec<Token<'s>>,
     bytes: &mut Vec<u8>,
-) -> Result<Found, AsmError>
+) -> Result<EndingKind, AsmError>
     ensures ok { IfOk result (λ f. line_read text.now
         ≡ Some (views tokens.new.items, found_view f bytes.new.items)) }
     ensures err { IfErr result (λ e. IsRefusal e (said line text.now)) }
@@ -93,13 +93,13 @@ pub fn tokens_in<'s>(
 }
 
 /// The ending that was found, of which the text's bytes are these.
-fn ending_of<'t>(found: Found, bytes: &'t [u8]) -> Ending<'t>
+fn ending_of<'t>(found: EndingKind, bytes: &'t [u8]) -> Ending<'t>
     ensures { ending_view result ≡ found_view found bytes.now }
 {
     match found {
-        Found::Tokens => Ending::Tokens,
-        Found::Text => Ending::Text(bytes),
-        Found::More => Ending::More,
+        EndingKind::Tokens => Ending::Tokens,
+        EndingKind::Text => Ending::Text(bytes),
+        EndingKind::More => Ending::More,
     }
 }
 
@@ -107,7 +107,7 @@ fn ending_of<'t>(found: Found, bytes: &'t [u8]) -> Ending<'t>
 pub fn said_by<'t, 's>(
     line: u32,
     tokens: &'t [Token<'s>],
-    found: Found,
+    found: EndingKind,
     bytes: &'t [u8],
 ) -> Result<SourceLine<'t, 's>, AsmError>
     ensures ok { IfOk result (λ l. at_line line (line_of (views tokens.now) (found_view found bytes.now))

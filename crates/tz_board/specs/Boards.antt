@@ -88,8 +88,9 @@ in_range place low high unit (pos n) = if within low high n && n % unit == 0 the
 in_range place low high unit (negsuc n) = Err (Range place)
 
 -- the number at a key
-abbrev pub number_at : Place → ℕ → ℕ → ℕ → Members → Read ℕ
-number_at place low high unit ms = do
+-- the number at a key, which is within bounds and a multiple of a unit
+abbrev pub bounded_number_at : Place → ℕ → ℕ → ℕ → Members → Read ℕ
+bounded_number_at place low high unit ms = do
   d ← required place (found_at place ms)
   z ← of_kind place (as_integer d)
   in_range place low high unit z
@@ -142,8 +143,8 @@ profile_at place ms = profile_in place (found_at place ms)
 -- a region: its base, and a size that ends it at or below 0xE0000000
 abbrev pub region_in : ℕ → Members → Read RegionValue
 region_in index ms = do
-  base ← number_at (InRegion index Base) 0 0xFFFFFFFF 32 ms
-  size ← number_at (InRegion index Size) 32 (0xE0000000 - base) 32 ms
+  base ← bounded_number_at (InRegion index Base) 0 0xFFFFFFFF 32 ms
+  size ← bounded_number_at (InRegion index Size) 32 (0xE0000000 - base) 32 ms
   kind ← kind_at (InRegion index Kind) ms
   side ← side_at (InRegion index Side) ms
   Ok (record { base = base; size = size; kind = kind; side = side })
@@ -155,8 +156,8 @@ last_in_block place n = if n % 32 == 31 then Ok n else Err (Range place)
 -- an SAU region: its first byte, and its last one, which isn't below it
 abbrev pub sau_region_in : ℕ → Members → Read SauRegion
 sau_region_in index ms = do
-  base ← number_at (InSau index Base) 0 0xFFFFFFFF 32 ms
-  limit ← number_at (InSau index Limit) base 0xFFFFFFFF 1 ms >>= last_in_block (InSau index Limit)
+  base ← bounded_number_at (InSau index Base) 0 0xFFFFFFFF 32 ms
+  limit ← bounded_number_at (InSau index Limit) base 0xFFFFFFFF 1 ms >>= last_in_block (InSau index Limit)
   nsc ← flag_at (InSau index Nsc) ms
   Ok (record { base = base; limit = limit; nsc = nsc })
 
@@ -255,12 +256,12 @@ pub record Numbers : Type 0 where
 -- the numbers in their order, each with its range
 abbrev pub numbers_at : Members → Read Numbers
 numbers_at ms = do
-  secure_vtor ← number_at (Top SecureVtor) 0 0xFFFFFFFF 128 ms
-  nonsecure_vtor ← number_at (Top NonsecureVtor) 0 0xFFFFFFFF 128 ms
-  interrupts ← number_at (Top Interrupts) 1 240 1 ms
-  sau_regions ← number_at (Top SauRegions) 0 8 1 ms
-  mpu_secure ← number_at (Top MpuSecure) 0 16 1 ms
-  mpu_nonsecure ← number_at (Top MpuNonsecure) 0 16 1 ms
+  secure_vtor ← bounded_number_at (Top SecureVtor) 0 0xFFFFFFFF 128 ms
+  nonsecure_vtor ← bounded_number_at (Top NonsecureVtor) 0 0xFFFFFFFF 128 ms
+  interrupts ← bounded_number_at (Top Interrupts) 1 240 1 ms
+  sau_regions ← bounded_number_at (Top SauRegions) 0 8 1 ms
+  mpu_secure ← bounded_number_at (Top MpuSecure) 0 16 1 ms
+  mpu_nonsecure ← bounded_number_at (Top MpuNonsecure) 0 16 1 ms
   Ok (record {
     secure_vtor = secure_vtor;
     nonsecure_vtor = nonsecure_vtor;

@@ -3,7 +3,7 @@
 ghost use Rattle.std.specs.Prelude.{◌≡◌, ◌^◌, ◌<◌, ◌≤◌, length, IfOk, IfErr, IsTrue, Ok};
 ghost use Rattle.toml.specs.View.{table_view};
 ghost use Rattle.tz_model.specs.Board.{are_regions, are_sau_regions};
-ghost use Rattle.tz_board.specs.Boards.{board_in, board_of, board_with, document_of, documented, number_at, numbers_at, within_limits};
+ghost use Rattle.tz_board.specs.Boards.{board_in, board_of, board_with, document_of, documented, bounded_number_at, numbers_at, within_limits};
 ghost use Rattle.tz_board.specs.BoardErrors.{AreWithin, IsBoardRefusal, numbers_of, place_of};
 
 use crate::error::{BoardError, Key, Place};
@@ -25,8 +25,8 @@ struct Numbers {
 
 /// A small number at the top.
 fn count(table: &Table, key: Key, low: u8, high: u8) -> Result<u8, BoardError>
-    ensures ok { IfOk result (λ n. number_at (place_of (Place.Top key)) low high 1 (table_view table.now) ≡ Ok n) }
-    ensures err { IfErr result (λ e. IsBoardRefusal e (number_at (place_of (Place.Top key)) low high 1 (table_view table.now))) }
+    ensures ok { IfOk result (λ n. bounded_number_at (place_of (Place.Top key)) low high 1 (table_view table.now) ≡ Ok n) }
+    ensures err { IfErr result (λ e. IsBoardRefusal e (bounded_number_at (place_of (Place.Top key)) low high 1 (table_view table.now))) }
     ensures within { IfOk result (λ n. (low ≤ n) × (n ≤ high)) }
 {
     let number = keys::number(table, Place::Top(key), u32::from(low), u32::from(high), 1)?;

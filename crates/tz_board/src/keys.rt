@@ -2,7 +2,7 @@
 
 ghost use Rattle.std.specs.Prelude.{◌≡◌, ◌<◌, ◌≤◌, ◌%◌, IfOk, IfErr, Ok, option_map};
 ghost use Rattle.toml.specs.View.{table_view, view};
-ghost use Rattle.tz_board.specs.Boards.{found_at, flag_at, in_range, kind_at, number_at, profile_at, profile_named, side_at, text_at};
+ghost use Rattle.tz_board.specs.Boards.{found_at, flag_at, in_range, kind_at, bounded_number_at, profile_at, profile_named, side_at, text_at};
 ghost use Rattle.tz_board.specs.BoardErrors.{IsBoardRefusal, place_of};
 
 use crate::error::{BoardError, Place};
@@ -42,8 +42,8 @@ pub fn number(
     unit: u32,
 ) -> Result<u32, BoardError>
     requires { 0 < unit }
-    ensures ok { IfOk result (λ n. number_at (place_of place) low high unit (table_view table.now) ≡ Ok n) }
-    ensures err { IfErr result (λ e. IsBoardRefusal e (number_at (place_of place) low high unit (table_view table.now))) }
+    ensures ok { IfOk result (λ n. bounded_number_at (place_of place) low high unit (table_view table.now) ≡ Ok n) }
+    ensures err { IfErr result (λ e. IsBoardRefusal e (bounded_number_at (place_of place) low high unit (table_view table.now))) }
     ensures within { IfOk result (λ n. (low ≤ n) × (n ≤ high) × (n % unit ≡ 0)) }
 {
     match value_at(table, place) {
@@ -108,7 +108,6 @@ pub fn side(table: &Table, place: Place) -> Result<RegionSide, BoardError>
     }
 }
 
-/// The profile with a name.
 fn profile_named(place: Place, text: &str) -> Result<Profile, BoardError>
     ensures ok { IfOk result (λ p. profile_named (place_of place) text.now ≡ Ok p) }
     ensures err { IfErr result (λ e. IsBoardRefusal e (profile_named (place_of place) text.now)) }

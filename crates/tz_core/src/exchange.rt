@@ -2,7 +2,7 @@
 
 ghost use Rattle.std.specs.Prelude.{◌≡◌, ◌+◌, Some};
 ghost use Rattle.tz_model.specs.Words.{wrap};
-ghost use Rattle.tz_sem.specs.Exchange.{core_back, looking};
+ghost use Rattle.tz_sem.specs.Exchange.{core_back, touching};
 ghost use Rattle.tz_sem.specs.Step.{is_call};
 
 use crate::changes::Stores;
@@ -26,9 +26,9 @@ pub(crate) fn ran_by(cause: Cause, course: Course, code: &Code) -> Ending
     }
 }
 
-/// The course of a step that looks at Secure state.
-fn looking(course: Course) -> Course
-    ensures { result ≡ looking course }
+/// The course of a step that touches Secure state.
+fn touching(course: Course) -> Course
+    ensures { result ≡ touching course }
 {
     Course {
         touched: true,
@@ -91,10 +91,10 @@ impl Machine {
     {
         let mut frames = frames_over(&mut self.bus, &self.core, course.negative);
         match function_return(&mut self.core, &mut frames) {
-            Ok(()) => ran_by(Cause::CameBack, looking(course), code),
+            Ok(()) => ran_by(Cause::CameBack, touching(course), code),
             Err(fault) => {
                 take_back(&mut self.core, before);
-                self.fault(looking(course), fault)
+                self.fault(touching(course), fault)
             }
         }
     }

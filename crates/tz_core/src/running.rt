@@ -12,7 +12,7 @@ use crate::it_rules::{ignores_condition, is_misplaced, is_passed_over};
 use std::marker::Model;
 use tz_access::Bus;
 use tz_decode::{Decoded, decode};
-use tz_excret::takes;
+use tz_excret::takes_first_uncounted;
 use tz_gate::secure_gateway;
 use tz_model::{Board, Code, Fault, Insn, Outcome, Report, ScriptEvent, Side, Sleep};
 use tz_nvic::Exceptions;
@@ -70,7 +70,7 @@ impl Machine {
     ghost use Rattle.tz_state.specs.State.{side_of};
     ghost use Rattle.tz_sem.specs.Exec.{executed};
     ghost use Rattle.tz_model.specs.Codes.{meaning_of};
-    ghost use Rattle.tz_sem.specs.Step.{past, goes_next, skips, goes_on, concludes, executes, faulting, placed, decoded, enters, looks, unready, course_in, instructs, idles, by_sleep, takes, ended, step};
+    ghost use Rattle.tz_sem.specs.Step.{past, goes_next, skips, goes_on, concludes, executes, faulting, placed, decoded, runs_gateway, touches_secure, unready, course_in, instructs, idles, by_sleep, takes_exception, ended, step};
     ghost use Rattle.tz_twin.specs.Integrity.{LeavesSecure, EntersSecure};
     ghost use Rattle.tz_twin.specs.Ways.{TellsWay};
 
@@ -88,14 +88,12 @@ impl Machine {
         self.core.run.locked
     }
 
-    /// The board.
     pub fn board(&self) -> &Board
         ensures { result.now ≡ self.now.bus.board }
     {
         self.bus.board()
     }
 
-    /// The core.
     pub fn core(&self) -> &Core
         ensures { result.now ≡ self.now.core }
     {
@@ -189,8 +187,8 @@ impl Machine {
     }
 
     /// SG, reached from Non-secure state.
-    fn enter(&mut self, course: Course, code: &Code) -> Ending
-        ensures { enters self.old course code.now ≡ record { state = self.new; stores = []; ending = result } }
+    fn run_gateway(&mut self, course: Course, code: &Code) -> Ending
+        ensures { runs_gateway self.old course code.now ≡ record { state = self.new; stores = []; ending = result } }
     {
         secure_gateway(&mut self.core);
         ran_by(Cause::Went, course, code)
@@ -246,9 +244,9 @@ impl Machine {
         }
     }
 
-    /// Whether a step that fetches nothing looks at Secure state.
-    fn looks(&self) -> bool
-        ensures { result ≡ looks self.now.core.run.side self.now }
+    /// Whether a step that fetches nothing touches Secure state.
+    fn touches_secure(&self) -> bool
+        ensures { result ≡ touches_secure self.now.core.run.side self.now }
     {
         match self.core.run.side {
             Side::Secure => true,
@@ -270,7 +268,7 @@ impl Machine {
         }
     }
 
-    /// The course of a step that has looked at Secure state, or hasn't.
+    /// The course of a step that has touched Secure state, or hasn't.
     fn course(&self, touched: bool) -> Course
         ensures { result ≡ course_in self.now touched }
     {
@@ -282,9 +280,9 @@ impl Machine {
 
     /// Faults before anything is fetched, since T is 0.
     fn fault_unready(&mut self) -> Ending
-        ensures { faulting self.old (course_in self.old (looks self.old.core.run.side self.old)) (unready (looks self.old.core.run.side self.old) self.old.core.run.side) ≡ record { state = self.new; stores = []; ending = result } }
+        ensures { faulting self.old (course_in self.old (touches_secure self.old.core.run.side self.old)) (unready (touches_secure self.old.core.run.side self.old) self.old.core.run.side) ≡ record { state = self.new; stores = []; ending = result } }
     {
-        let touched = self.looks();
+        let touched = self.touches_secure();
         let fault = self.unready(touched);
         let course = self.course(touched);
         self.fault(course, fault)
@@ -308,7 +306,7 @@ impl Machine {
             Err(fault) => self.fault(course, fault),
             Ok(fetched) => {
                 if fetched.gateway {
-                    self.enter(course, &fetched.code)
+                    self.run_gateway(course, &fetched.code)
                 } else {
                     self.run_code(&fetched.code, course, stores)
                 }
@@ -367,7 +365,7 @@ impl Machine {
 
     /// Takes the exception that comes first before an instruction, which ends a sleep.
     fn take(&mut self) -> Ending
-        ensures { takes self.old ≡ record { state = self.new; stores = []; ending = result } }
+        ensures { takes_exception self.old ≡ record { state = self.new; stores = []; ending = result } }
     {
         let course = self.course(self.core.run.side == Side::Secure);
         let back = self.core.registers.pc;
@@ -384,7 +382,7 @@ impl Machine {
         if self.core.run.locked {
             return self.lock(true);
         }
-        if takes(&self.core, &mut self.exceptions) {
+        if takes_first_uncounted(&self.core, &mut self.exceptions) {
             return self.take();
         }
         self.go_by_sleep(stores)
@@ -415,7 +413,7 @@ impl Machine {
     /// Makes one step at which these events are due, and tells what it did. An event of an interrupt that the
     /// board hasn't is passed over.
     ///
-    /// It is the step relation. Where Non-secure code runs and doesn't look at Secure state, that stays
+    /// It is the step relation. Where Non-secure code runs and doesn't touch Secure state, that stays
     /// as it was, but for the count of the Secure timer and for what pends and is active; where Non-secure code gets to
     /// Secure code, SG ran where it may call, an exception of the Secure side was taken and is active, it returned by
     /// FNC_RETURN to what the Secure stack of the mode holds, with a number that agrees, or it returned by EXC_RETURN to

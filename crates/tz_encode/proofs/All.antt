@@ -2,7 +2,7 @@
 use Rattle.std.proofs.Common.{ℕ, zero, suc, List, [], ◌∷◌, take, drop}
 use Rattle.tz_table.specs.Rows.{TableRow}
 use Rattle.tz_table.specs.Table.{rows}
-use Rattle.tz_encode.specs.declared.slot.Slot.{Slot}
+use Rattle.tz_encode.specs.declared.slot.CodeSlot.{CodeSlot}
 use Rattle.tz_encode.specs.declared.shapes.TheConstants.{SHAPES}
 use Rattle.tz_encode.proofs.ArithmeticDescribed.{arithmetic_described}
 use Rattle.tz_encode.proofs.BranchDescribed.{branch_described}
@@ -13,7 +13,7 @@ use Rattle.tz_encode.proofs.MultipleDescribed.{multiple_described}
 use Rattle.tz_encode.proofs.NarrowDescribed.{narrow_described}
 
 -- the first n rows, and those after them
-both_described : (n : ℕ) (rs : List TableRow) (tss : List (List Slot)) → AllDescribed (take n rs) (take n tss) → AllDescribed (drop n rs) (drop n tss) → AllDescribed rs tss
+both_described : (n : ℕ) (rs : List TableRow) (tss : List (List CodeSlot)) → AllDescribed (take n rs) (take n tss) → AllDescribed (drop n rs) (drop n tss) → AllDescribed rs tss
 both_described zero rs tss d e = e
 both_described (suc n) [] tss d e = tt
 both_described (suc n) (r ∷ rs) [] d e = d

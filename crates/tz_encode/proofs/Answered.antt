@@ -16,7 +16,7 @@ use Rattle.tz_encode.specs.Numbers.{number_for, value_at, stands_for, takes, tak
 use Rattle.tz_encode.specs.Slots.{parts_in, gathered, held_by}
 use Rattle.tz_encode.specs.declared.slot.Half.{Half}
 use Rattle.tz_encode.specs.declared.slot.Half.TheVariants.{First, Second}
-use Rattle.tz_encode.specs.declared.slot.Slot.{Slot}
+use Rattle.tz_encode.specs.declared.slot.CodeSlot.{CodeSlot}
 use Rattle.tz_encode.proofs.Apart.{all_parts}
 use Rattle.tz_encode.proofs.Describes.{Describes, limits_in}
 use Rattle.tz_encode.proofs.Writes.{sum_bits, sums_le, same_sums}
@@ -27,7 +27,7 @@ use Rattle.tz_encode.proofs.Making.{LaidOut, made_code}
 use Rattle.tz_encode.proofs.Reading.{cube_of_row}
 
 -- a code that has values which the slots take keeps their limits
-limits_taken : (e : List ℤ) (ts : List Slot) (zs : List ℤ) (f s : ℕ) → take_all e ts zs ≡ true → values_in e ts f s ≡ zs → limits_in e ts f s ≡ true
+limits_taken : (e : List ℤ) (ts : List CodeSlot) (zs : List ℤ) (f s : ℕ) → take_all e ts zs ≡ true → values_in e ts f s ≡ zs → limits_in e ts f s ≡ true
 limits_taken e [] zs f s h same = refl
 limits_taken e (t ∷ ts) [] f s h same = cc
 limits_taken e (t ∷ ts) (z ∷ zs) f s h same =
@@ -39,11 +39,11 @@ limits_taken e (t ∷ ts) (z ∷ zs) f s h same =
     (limits_taken (e ++ value_at t.coding e (gathered (parts_in t.parts) f s) f s ∷ []) ts zs f s (subst (λ w. take_all (e ++ w ∷ []) ts zs ≡ true) (sym head) x.1) tail)
 
 -- the code of such values
-pub record Coded (r : TableRow) (form : ℕ) (ts : List Slot) (zs : List ℤ) (f s : ℕ) : Type 0 where
+pub record Coded (r : TableRow) (form : ℕ) (ts : List CodeSlot) (zs : List ℤ) (f s : ℕ) : Type 0 where
   pub code : InRow r f s
   pub values : values_of (r.insn f s) ≡ pos form ∷ zs
 
-pub coded : (r : TableRow) (form : ℕ) (ts : List Slot) (zs : List ℤ) → Describes r form ts → LaidOut r ts → length ts ≡ length zs → take_all (pos form ∷ []) ts zs ≡ true → Coded r form ts zs (r.pattern.cube.first_value + code_bits First (pos form ∷ []) ts zs) (r.pattern.cube.second_value + code_bits Second (pos form ∷ []) ts zs)
+pub coded : (r : TableRow) (form : ℕ) (ts : List CodeSlot) (zs : List ℤ) → Describes r form ts → LaidOut r ts → length ts ≡ length zs → take_all (pos form ∷ []) ts zs ≡ true → Coded r form ts zs (r.pattern.cube.first_value + code_bits First (pos form ∷ []) ts zs) (r.pattern.cube.second_value + code_bits Second (pos form ∷ []) ts zs)
 coded r form ts zs d o l h =
     let m = made_code r (pos form ∷ []) ts zs o l h in
     let told = d.told zs (r.pattern.cube.first_value + code_bits First (pos form ∷ []) ts zs) (r.pattern.cube.second_value + code_bits Second (pos form ∷ []) ts zs) l h m.numbers in
@@ -58,7 +58,7 @@ coded r form ts zs d o l h =
 -- ---- an instruction of which the slots take all values
 
 -- what the values add to the fixed bits is no more than a code that has them
-no_less : (h : Half) (r : TableRow) (form : ℕ) (ts : List Slot) (zs : List ℤ) (g t base : ℕ) → Describes r form ts → LaidOut r ts → InRow r g t → values_in (pos form ∷ []) ts g t ≡ zs → sum_bits h (fixed r.pattern.cube) r.pattern.cube.first_value r.pattern.cube.second_value ≡ base → base + code_bits h (pos form ∷ []) ts zs ≤ sum_bits h (fixed r.pattern.cube ++ all_parts ts) g t
+no_less : (h : Half) (r : TableRow) (form : ℕ) (ts : List CodeSlot) (zs : List ℤ) (g t base : ℕ) → Describes r form ts → LaidOut r ts → InRow r g t → values_in (pos form ∷ []) ts g t ≡ zs → sum_bits h (fixed r.pattern.cube) r.pattern.cube.first_value r.pattern.cube.second_value ≡ base → base + code_bits h (pos form ∷ []) ts zs ≤ sum_bits h (fixed r.pattern.cube ++ all_parts ts) g t
 no_less h r form ts zs g t base d o c same e =
     let bits_same = same_sums h (fixed r.pattern.cube) g t r.pattern.cube.first_value r.pattern.cube.second_value (fixed_bits r.pattern.cube (fixed r.pattern.cube) g t r.pattern.cube.first_value r.pattern.cube.second_value o.covered (cube_of_row r g t c)) in
     let rest : code_bits h (pos form ∷ []) ts zs ≤ sum_bits h (all_parts ts) g t = subst (λ l. code_bits h (pos form ∷ []) ts l ≤ sum_bits h (all_parts ts) g t) same (sum_at_most h (pos form ∷ []) ts g t (d.written g t c)) in
@@ -71,10 +71,10 @@ lexical f s g t h k = omega arith
 tail_of : (z : ℤ) (xs ys : List ℤ) → z ∷ xs ≡ z ∷ ys → xs ≡ ys
 tail_of z xs ys h = cc
 
-values_of_code : (r : TableRow) (form : ℕ) (ts : List Slot) (i : Insn) (zs : List ℤ) (g t : ℕ) → Describes r form ts → values_of i ≡ pos form ∷ zs → IsCode r i g t → values_in (pos form ∷ []) ts g t ≡ zs
+values_of_code : (r : TableRow) (form : ℕ) (ts : List CodeSlot) (i : Insn) (zs : List ℤ) (g t : ℕ) → Describes r form ts → values_of i ≡ pos form ∷ zs → IsCode r i g t → values_in (pos form ∷ []) ts g t ≡ zs
 values_of_code r form ts i zs g t d v c = tail_of (pos form) (values_in (pos form ∷ []) ts g t) zs (sym (d.values g t c.code) ∙ ap values_of c.means ∙ v)
 
-least_code : (r : TableRow) (form : ℕ) (ts : List Slot) (i : Insn) (zs : List ℤ) → Describes r form ts → LaidOut r ts → values_of i ≡ pos form ∷ zs → length ts ≡ length zs → take_all (pos form ∷ []) ts zs ≡ true → IsLeastCode r i (r.pattern.cube.first_value + code_bits First (pos form ∷ []) ts zs) (r.pattern.cube.second_value + code_bits Second (pos form ∷ []) ts zs)
+least_code : (r : TableRow) (form : ℕ) (ts : List CodeSlot) (i : Insn) (zs : List ℤ) → Describes r form ts → LaidOut r ts → values_of i ≡ pos form ∷ zs → length ts ≡ length zs → take_all (pos form ∷ []) ts zs ≡ true → IsLeastCode r i (r.pattern.cube.first_value + code_bits First (pos form ∷ []) ts zs) (r.pattern.cube.second_value + code_bits Second (pos form ∷ []) ts zs)
 least_code r form ts i zs d o v l h =
     let c = coded r form ts zs d o l h in
     record {
@@ -90,7 +90,7 @@ least_code r form ts i zs d o v l h =
 -- ---- an instruction of which they don't
 
 -- a code with the first n values
-reach : (r : TableRow) (form : ℕ) (ts : List Slot) (i : Insn) (zs : List ℤ) → Describes r form ts → LaidOut r ts → (n : ℕ) → n ≤ length ts → n ≤ length zs → values_of i ≡ pos form ∷ zs → take_all (pos form ∷ []) ts (take n zs) ≡ true → (f : ℕ) × ((s : ℕ) × Reaches r (suc n) i f s)
+reach : (r : TableRow) (form : ℕ) (ts : List CodeSlot) (i : Insn) (zs : List ℤ) → Describes r form ts → LaidOut r ts → (n : ℕ) → n ≤ length ts → n ≤ length zs → values_of i ≡ pos form ∷ zs → take_all (pos form ∷ []) ts (take n zs) ≡ true → (f : ℕ) × ((s : ℕ) × Reaches r (suc n) i f s)
 reach r form ts i zs d o n a b v h =
     let long : length (take n zs) ≡ n = length-take-le n zs b in
     let w = fill (pos form ∷ []) ts (take n zs) d.fills h (omega arith) in
@@ -106,24 +106,24 @@ reach r form ts i zs d o n a b v h =
       ),
     )
 
-length-values_in : (e : List ℤ) (ts : List Slot) (f s : ℕ) → length (values_in e ts f s) ≡ length ts
+length-values_in : (e : List ℤ) (ts : List CodeSlot) (f s : ℕ) → length (values_in e ts f s) ≡ length ts
 length-values_in e [] f s = refl
 length-values_in e (t ∷ ts) f s = ap suc (length-values_in (e ++ value_at t.coding e (gathered (parts_in t.parts) f s) f s ∷ []) ts f s)
 
 -- no code has one value more than the slots take
-no_more : (r : TableRow) (form : ℕ) (ts : List Slot) (i : Insn) (zs : List ℤ) → Describes r form ts → values_of i ≡ pos form ∷ zs → length ts ≡ length zs → taken (pos form ∷ []) ts zs < length ts → (f s : ℕ) → Reaches r (suc (suc (taken (pos form ∷ []) ts zs))) i f s → ⊥
+no_more : (r : TableRow) (form : ℕ) (ts : List CodeSlot) (i : Insn) (zs : List ℤ) → Describes r form ts → values_of i ≡ pos form ∷ zs → length ts ≡ length zs → taken (pos form ∷ []) ts zs < length ts → (f s : ℕ) → Reaches r (suc (suc (taken (pos form ∷ []) ts zs))) i f s → ⊥
 no_more r form ts i zs d v l lt f s c =
     let agree : pos form ∷ take (suc (taken (pos form ∷ []) ts zs)) (values_in (pos form ∷ []) ts f s) ≡ pos form ∷ take (suc (taken (pos form ∷ []) ts zs)) zs = sym (ap (take (suc (suc (taken (pos form ∷ []) ts zs)))) (d.values f s c.code)) ∙ c.means ∙ ap (take (suc (suc (taken (pos form ∷ []) ts zs)))) v in
     taken_stops (pos form ∷ []) ts zs (values_in (pos form ∷ []) ts f s) (take_values (pos form ∷ []) ts f s (d.written f s c.code) (d.kept f s c.code)) lt l (sym (length-values_in (pos form ∷ []) ts f s)) (tail_of (pos form) _ _ agree)
 
-blamed : (r : TableRow) (form : ℕ) (ts : List Slot) (i : Insn) (zs : List ℤ) → Describes r form ts → LaidOut r ts → values_of i ≡ pos form ∷ zs → length ts ≡ length zs → taken (pos form ∷ []) ts zs < length ts → Blames r i (suc (taken (pos form ∷ []) ts zs))
+blamed : (r : TableRow) (form : ℕ) (ts : List CodeSlot) (i : Insn) (zs : List ℤ) → Describes r form ts → LaidOut r ts → values_of i ≡ pos form ∷ zs → length ts ≡ length zs → taken (pos form ∷ []) ts zs < length ts → Blames r i (suc (taken (pos form ∷ []) ts zs))
 blamed r form ts i zs d o v l lt = record {
   before = reach r form ts i zs d o (taken (pos form ∷ []) ts zs) (omega arith) (omega arith) v (taken_before (pos form ∷ []) ts zs);
   never = no_more r form ts i zs d v l lt;
 }
 
 -- an instruction of another variant
-other_form : (r : TableRow) (form : ℕ) (ts : List Slot) (i : Insn) (z : ℤ) (zs : List ℤ) → Describes r form ts → LaidOut r ts → values_of i ≡ z ∷ zs → int_eq (pos form) z ≡ false → Blames r i 0
+other_form : (r : TableRow) (form : ℕ) (ts : List CodeSlot) (i : Insn) (z : ℤ) (zs : List ℤ) → Describes r form ts → LaidOut r ts → values_of i ≡ z ∷ zs → int_eq (pos form) z ≡ false → Blames r i 0
 other_form r form ts i z zs d o v h =
     let w = fill (pos form ∷ []) ts [] d.fills (take_all-none (pos form ∷ []) ts) (omega arith) in
     let c = coded r form ts w.all d o (sym w.long) w.taken in
@@ -144,10 +144,10 @@ below_length : (n m : ℕ) → n ≤ m → (n ≡ m → ⊥) → n < m
 below_length n m h d = omega arith
 
 -- what the slots answer of an instruction of the variant
-abbrev Given : TableRow → ℕ → List Slot → List ℤ → Result (ℕ × ℕ) ℕ
+abbrev Given : TableRow → ℕ → List CodeSlot → List ℤ → Result (ℕ × ℕ) ℕ
 Given r form ts zs = if taken (pos form ∷ []) ts zs == length ts then Ok ((r.pattern.cube.first_value + code_bits First (pos form ∷ []) ts zs) % 65536, (r.pattern.cube.second_value + code_bits Second (pos form ∷ []) ts zs) % 65536) else Err (1 + taken (pos form ∷ []) ts zs)
 
-given : (r : TableRow) (form : ℕ) (ts : List Slot) (i : Insn) (zs : List ℤ) → Describes r form ts → LaidOut r ts → length ts ≡ 8 → values_of i ≡ pos form ∷ zs → length zs ≡ 8 → Tried r i (Given r form ts zs)
+given : (r : TableRow) (form : ℕ) (ts : List CodeSlot) (i : Insn) (zs : List ℤ) → Describes r form ts → LaidOut r ts → length ts ≡ 8 → values_of i ≡ pos form ∷ zs → length zs ≡ 8 → Tried r i (Given r form ts zs)
 unfolding Tried
 given r form ts i zs d o lt v lz =
     let l : length ts ≡ length zs = lt ∙ sym lz in
@@ -170,7 +170,7 @@ given r form ts i zs d o lt v lz =
     ]
 
 -- what the slots of a row answer is its least code, or the first value that no code has
-pub tried : (r : TableRow) (form : ℕ) (ts : List Slot) (i : Insn) (z : ℤ) (zs : List ℤ) → Describes r form ts → LaidOut r ts → length ts ≡ 8 → values_of i ≡ z ∷ zs → length zs ≡ 8 → Tried r i (answer form r.pattern.cube.first_value r.pattern.cube.second_value ts (z ∷ zs))
+pub tried : (r : TableRow) (form : ℕ) (ts : List CodeSlot) (i : Insn) (z : ℤ) (zs : List ℤ) → Describes r form ts → LaidOut r ts → length ts ≡ 8 → values_of i ≡ z ∷ zs → length zs ≡ 8 → Tried r i (answer form r.pattern.cube.first_value r.pattern.cube.second_value ts (z ∷ zs))
 unfolding Tried
 tried r form ts i z zs d o lt v lz =
     elim (cases_Bool (int_eq (pos form) z)) [

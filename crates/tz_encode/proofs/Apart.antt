@@ -4,7 +4,7 @@ use Rattle.tz_encode.specs.Slots.{parts_in}
 use Rattle.tz_encode.specs.declared.slot.Half.{Half}
 use Rattle.tz_encode.specs.declared.slot.Half.TheVariants.{First, Second}
 use Rattle.tz_encode.specs.declared.slot.Part.{Part}
-use Rattle.tz_encode.specs.declared.slot.Slot.{Slot}
+use Rattle.tz_encode.specs.declared.slot.CodeSlot.{CodeSlot}
 
 abbrev pub same_half : Half → Half → Bool
 same_half First First = true
@@ -25,6 +25,6 @@ abbrev pub all_apart : List Part → Bool
 all_apart [] = true
 all_apart (p ∷ ps) = apart_from p ps && all_apart ps
 
-abbrev pub all_parts : List Slot → List Part
+abbrev pub all_parts : List CodeSlot → List Part
 all_parts [] = []
 all_parts (t ∷ ts) = (parts_in t.parts) ++ all_parts ts

@@ -5,7 +5,7 @@ use Rattle.std.proofs.lemmas.Bool.{and_parts, eqb-true, leb-true}
 use Rattle.tz_table.specs.Rows.{TableRow, row_of}
 use Rattle.tz_encode.specs.Codes.{InRow}
 use Rattle.tz_encode.specs.Numbers.{take_all, values_in}
-use Rattle.tz_encode.specs.declared.slot.Slot.{Slot}
+use Rattle.tz_encode.specs.declared.slot.CodeSlot.{CodeSlot}
 use Rattle.tz_encode.proofs.Describes.{Describes, AllWritten, Holds}
 use Rattle.tz_encode.specs.declared.limit.Limit.{Limit}
 use Rattle.tz_encode.specs.declared.limit.Limit.TheVariants.{Any, NonZero}
@@ -21,7 +21,7 @@ use Rattle.tz_encode.proofs.NarrowLimited.{ldm_reads}
 use Rattle.tz_encode.proofs.Reading.{Reads, shape, slot}
 
 -- slots that write and tell their values by themselves
-pub regular : (r : TableRow) (form : ℕ) (ts : List Slot) → Reads r form ts → all_regular ts ≡ true → all_tell ts ≡ true → Describes r form ts
+pub regular : (r : TableRow) (form : ℕ) (ts : List CodeSlot) → Reads r form ts → all_regular ts ≡ true → all_tell ts ≡ true → Describes r form ts
 regular r form ts d w t = record {
   values = d.values;
   kept = d.kept;
@@ -32,7 +32,7 @@ regular r form ts d w t = record {
 }
 
 -- a shifted register: kind and amount tell each other
-pub shifted : (r : TableRow) (form : ℕ) (a c d g h i : Slot) (l m : Limit) → Reads r form (a ∷ kind_slot l ∷ c ∷ d ∷ g ∷ h ∷ i ∷ amount_slot m ∷ []) → (is_regular a && is_regular c && is_regular d && is_regular g && is_regular h && is_regular i) ≡ true → (tells a.coding && tells c.coding && tells d.coding && tells g.coding && tells h.coding && tells i.coding) ≡ true → Describes r form (a ∷ kind_slot l ∷ c ∷ d ∷ g ∷ h ∷ i ∷ amount_slot m ∷ [])
+pub shifted : (r : TableRow) (form : ℕ) (a c d g h i : CodeSlot) (l m : Limit) → Reads r form (a ∷ kind_slot l ∷ c ∷ d ∷ g ∷ h ∷ i ∷ amount_slot m ∷ []) → (is_regular a && is_regular c && is_regular d && is_regular g && is_regular h && is_regular i) ≡ true → (tells a.coding && tells c.coding && tells d.coding && tells g.coding && tells h.coding && tells i.coding) ≡ true → Describes r form (a ∷ kind_slot l ∷ c ∷ d ∷ g ∷ h ∷ i ∷ amount_slot m ∷ [])
 shifted r form a c d g h i l m x w t = record {
   values = x.values;
   kept = x.kept;
@@ -43,7 +43,7 @@ shifted r form a c d g h i l m x w t = record {
 }
 
 -- slots of which one is written again beside another place
-pub written_by : (r : TableRow) (form : ℕ) (ts : List Slot) → Reads r form ts → ((f s : ℕ) → InRow r f s → AllWritten (pos form ∷ []) ts f s) → all_tell ts ≡ true → Describes r form ts
+pub written_by : (r : TableRow) (form : ℕ) (ts : List CodeSlot) → Reads r form ts → ((f s : ℕ) → InRow r f s → AllWritten (pos form ∷ []) ts f s) → all_tell ts ≡ true → Describes r form ts
 written_by r form ts d w t = record {
   values = d.values;
   kept = d.kept;
@@ -106,22 +106,22 @@ ldm_described = record {
 -- ---- all rows
 
 -- each row is described by its slots, which lie beside its fixed bits
-abbrev pub AllDescribed : List TableRow → List (List Slot) → Type 0
+abbrev pub AllDescribed : List TableRow → List (List CodeSlot) → Type 0
 AllDescribed [] tss = Unit {0}
 AllDescribed (r ∷ rs) [] = ⊥
 AllDescribed (r ∷ rs) (ts ∷ tss) = Describes r (row_of r).form ts × AllDescribed rs tss
 
-abbrev pub all_laid_out : List TableRow → List (List Slot) → Bool
+abbrev pub all_laid_out : List TableRow → List (List CodeSlot) → Bool
 all_laid_out [] tss = true
 all_laid_out (r ∷ rs) [] = false
 all_laid_out (r ∷ rs) (ts ∷ tss) = laid_out r ts && (length ts == 8) && all_laid_out rs tss
 
-pub record Shaped (r : TableRow) (ts : List Slot) : Type 0 where
+pub record Shaped (r : TableRow) (ts : List CodeSlot) : Type 0 where
   pub described : Describes r (row_of r).form ts
   pub laid : LaidOut r ts
   pub eight : length ts ≡ 8
 
-pub shaped_at : (rs : List TableRow) (tss : List (List Slot)) (k : ℕ) (r : TableRow) (ts : List Slot) → AllDescribed rs tss → all_laid_out rs tss ≡ true → slice_get rs k ≡ Some r → slice_get tss k ≡ Some ts → Shaped r ts
+pub shaped_at : (rs : List TableRow) (tss : List (List CodeSlot)) (k : ℕ) (r : TableRow) (ts : List CodeSlot) → AllDescribed rs tss → all_laid_out rs tss ≡ true → slice_get rs k ≡ Some r → slice_get tss k ≡ Some ts → Shaped r ts
 shaped_at [] tss k r ts d l a b = cc
 shaped_at (q ∷ rs) [] k r ts d l a b = absurd d
 shaped_at (q ∷ rs) (us ∷ tss) zero r ts d l a b =

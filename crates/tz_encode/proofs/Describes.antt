@@ -8,15 +8,15 @@ use Rattle.tz_encode.specs.Limits.{limit_holds}
 use Rattle.tz_encode.specs.Numbers.{number_for, value_at, stands_for, takes, take_all, values_in}
 use Rattle.tz_encode.specs.Slots.{parts_in, bits_at, digit, gathered, held_by}
 use Rattle.tz_encode.specs.declared.slot.Part.{Part}
-use Rattle.tz_encode.specs.declared.slot.Slot.{Slot}
+use Rattle.tz_encode.specs.declared.slot.CodeSlot.{CodeSlot}
 
 -- the values of a code keep the limits of the slots
-abbrev pub limits_in : List ℤ → List Slot → ℕ → ℕ → Bool
+abbrev pub limits_in : List ℤ → List CodeSlot → ℕ → ℕ → Bool
 limits_in e [] f s = true
 limits_in e (t ∷ ts) f s = let z = value_at t.coding e (gathered (parts_in t.parts) f s) f s in limit_holds t.limit e z && limits_in (e ++ z ∷ []) ts f s
 
 -- whatever the slots before a slot took, it takes something
-abbrev pub Fillable : List ℤ → List Slot → Type 0
+abbrev pub Fillable : List ℤ → List CodeSlot → Type 0
 Fillable e [] = Unit {0}
 Fillable e (t ∷ ts) = ((z : ℤ) × (takes t e z ≡ true)) × ((z : ℤ) → takes t e z ≡ true → Fillable (e ++ z ∷ []) ts)
 
@@ -26,24 +26,24 @@ AtMost [] m f s = Unit {0}
 AtMost (p ∷ ps) m f s = (digit p m ≤ bits_at p f s) × AtMost ps m f s
 
 -- number m, by which z is written, fits the parts and stands for z, and no code that has z is less there
-pub record IsWritten (t : Slot) (e : List ℤ) (z : ℤ) (f s : ℕ) : Type 0 where
+pub record IsWritten (t : CodeSlot) (e : List ℤ) (z : ℤ) (f s : ℕ) : Type 0 where
   pub fits : held_by (parts_in t.parts) (number_for t.coding e z) ≡ number_for t.coding e z
   pub stands : stands_for t.coding e (number_for t.coding e z) z ≡ true
   pub least : AtMost (parts_in t.parts) (number_for t.coding e z) f s
 
 -- so it is with each value of a code
-abbrev pub AllWritten : List ℤ → List Slot → ℕ → ℕ → Type 0
+abbrev pub AllWritten : List ℤ → List CodeSlot → ℕ → ℕ → Type 0
 AllWritten e [] f s = Unit {0}
 AllWritten e (t ∷ ts) f s = let z = value_at t.coding e (gathered (parts_in t.parts) f s) f s in IsWritten t e z f s × AllWritten (e ++ z ∷ []) ts f s
 
 -- the code holds the numbers of the values
-abbrev pub Holds : List ℤ → List Slot → List ℤ → ℕ → ℕ → Type 0
+abbrev pub Holds : List ℤ → List CodeSlot → List ℤ → ℕ → ℕ → Type 0
 Holds e [] zs f s = Unit {0}
 Holds e (t ∷ ts) [] f s = Unit {0}
 Holds e (t ∷ ts) (z ∷ zs) f s = (gathered (parts_in t.parts) f s ≡ number_for t.coding e z) × Holds (e ++ z ∷ []) ts zs f s
 
 -- the slots take what each code of the row means, and no other values
-pub record Describes (r : TableRow) (form : ℕ) (ts : List Slot) : Type 0 where
+pub record Describes (r : TableRow) (form : ℕ) (ts : List CodeSlot) : Type 0 where
   -- the values of a code are those of its instruction
   pub values : (f s : ℕ) → InRow r f s → values_of (r.insn f s) ≡ pos form ∷ values_in (pos form ∷ []) ts f s
   -- a code of the row keeps the limits of the slots

@@ -3,17 +3,17 @@ use Rattle.std.proofs.Common.{◌≡◌, suc, ◌+◌, ◌<◌, ◌≤◌, true,
 use Rattle.std.specs.Prelude.{ℤ}
 use Rattle.std.proofs.lemmas.Bool.{and_parts, and_from, cond-true, cond-false, cases_Bool, both_ways}
 use Rattle.tz_encode.specs.Numbers.{takes, take_all, taken}
-use Rattle.tz_encode.specs.declared.slot.Slot.{Slot}
+use Rattle.tz_encode.specs.declared.slot.CodeSlot.{CodeSlot}
 use Rattle.tz_encode.proofs.Describes.{Fillable}
 
 -- values for all slots that begin with those taken so far
-pub record Filled (e : List ℤ) (ts : List Slot) (zs : List ℤ) : Type 0 where
+pub record Filled (e : List ℤ) (ts : List CodeSlot) (zs : List ℤ) : Type 0 where
   pub all : List ℤ
   pub long : length all ≡ length ts
   pub taken : take_all e ts all ≡ true
   pub begins : take (length zs) all ≡ zs
 
-filled_cons : (e : List ℤ) (t : Slot) (ts : List Slot) (z : ℤ) (zs : List ℤ) → takes t e z ≡ true → Filled (e ++ z ∷ []) ts zs → Filled e (t ∷ ts) (z ∷ zs)
+filled_cons : (e : List ℤ) (t : CodeSlot) (ts : List CodeSlot) (z : ℤ) (zs : List ℤ) → takes t e z ≡ true → Filled (e ++ z ∷ []) ts zs → Filled e (t ∷ ts) (z ∷ zs)
 filled_cons e t ts z zs h f = record {
   all = z ∷ f.all;
   long = ap suc f.long;
@@ -21,11 +21,11 @@ filled_cons e t ts z zs h f = record {
   begins = ap (λ l. z ∷ l) f.begins;
 }
 
-pub take_all-none : (e : List ℤ) (ts : List Slot) → take_all e ts [] ≡ true
+pub take_all-none : (e : List ℤ) (ts : List CodeSlot) → take_all e ts [] ≡ true
 take_all-none e [] = refl
 take_all-none e (t ∷ ts) = refl
 
-pub fill : (e : List ℤ) (ts : List Slot) (zs : List ℤ) → Fillable e ts → take_all e ts zs ≡ true → length zs ≤ length ts → Filled e ts zs
+pub fill : (e : List ℤ) (ts : List CodeSlot) (zs : List ℤ) → Fillable e ts → take_all e ts zs ≡ true → length zs ≤ length ts → Filled e ts zs
 fill e [] [] f h l = record { all = []; long = refl; taken = refl; begins = refl }
 fill e [] (z ∷ zs) f h l = absurd (omega arith)
 fill e (t ∷ ts) [] f h l =
@@ -37,14 +37,14 @@ fill e (t ∷ ts) (z ∷ zs) f h l =
 
 -- ---- the first value that isn't taken
 
-taken_more : (e : List ℤ) (t : Slot) (ts : List Slot) (z : ℤ) (zs : List ℤ) → takes t e z ≡ true → taken e (t ∷ ts) (z ∷ zs) ≡ suc (taken (e ++ z ∷ []) ts zs)
+taken_more : (e : List ℤ) (t : CodeSlot) (ts : List CodeSlot) (z : ℤ) (zs : List ℤ) → takes t e z ≡ true → taken e (t ∷ ts) (z ∷ zs) ≡ suc (taken (e ++ z ∷ []) ts zs)
 taken_more e t ts z zs h = cond-true (takes t e z) (1 + taken (e ++ z ∷ []) ts zs) 0 h ∙ omega arith
 
-taken_none : (e : List ℤ) (t : Slot) (ts : List Slot) (z : ℤ) (zs : List ℤ) → takes t e z ≡ false → taken e (t ∷ ts) (z ∷ zs) ≡ 0
+taken_none : (e : List ℤ) (t : CodeSlot) (ts : List CodeSlot) (z : ℤ) (zs : List ℤ) → takes t e z ≡ false → taken e (t ∷ ts) (z ∷ zs) ≡ 0
 taken_none e t ts z zs h = cond-false (takes t e z) (1 + taken (e ++ z ∷ []) ts zs) 0 h
 
 -- those before it are
-pub taken_before : (e : List ℤ) (ts : List Slot) (zs : List ℤ) → take_all e ts (take (taken e ts zs) zs) ≡ true
+pub taken_before : (e : List ℤ) (ts : List CodeSlot) (zs : List ℤ) → take_all e ts (take (taken e ts zs) zs) ≡ true
 taken_before e [] zs = refl
 taken_before e (t ∷ ts) [] = refl
 taken_before e (t ∷ ts) (z ∷ zs) =
@@ -53,7 +53,7 @@ taken_before e (t ∷ ts) (z ∷ zs) =
       | inr h ↦ ap (λ n. take_all e (t ∷ ts) (take n (z ∷ zs))) (taken_none e t ts z zs h)
     ]
 
-pub taken_le : (e : List ℤ) (ts : List Slot) (zs : List ℤ) → (taken e ts zs ≤ length ts) × (taken e ts zs ≤ length zs)
+pub taken_le : (e : List ℤ) (ts : List CodeSlot) (zs : List ℤ) → (taken e ts zs ≤ length ts) × (taken e ts zs ≤ length zs)
 taken_le e [] zs = (omega arith, omega arith)
 taken_le e (t ∷ ts) [] = (omega arith, omega arith)
 taken_le e (t ∷ ts) (z ∷ zs) =
@@ -63,7 +63,7 @@ taken_le e (t ∷ ts) (z ∷ zs) =
     ]
 
 -- no values that are all taken agree with these up to it
-pub taken_stops : (e : List ℤ) (ts : List Slot) (zs ws : List ℤ) → take_all e ts ws ≡ true → taken e ts zs < length ts → length ts ≡ length zs → length ts ≡ length ws → take (suc (taken e ts zs)) ws ≡ take (suc (taken e ts zs)) zs → ⊥
+pub taken_stops : (e : List ℤ) (ts : List CodeSlot) (zs ws : List ℤ) → take_all e ts ws ≡ true → taken e ts zs < length ts → length ts ≡ length zs → length ts ≡ length ws → take (suc (taken e ts zs)) ws ≡ take (suc (taken e ts zs)) zs → ⊥
 taken_stops e [] zs ws a lt lz lw same = omega arith
 taken_stops e (t ∷ ts) [] ws a lt lz lw same = omega arith
 taken_stops e (t ∷ ts) (z ∷ zs) [] a lt lz lw same = omega arith
@@ -84,7 +84,7 @@ taken_stops e (t ∷ ts) (z ∷ zs) (w ∷ ws) a lt lz lw same =
     ]
 
 -- all are taken
-pub taken_all : (e : List ℤ) (ts : List Slot) (zs : List ℤ) → taken e ts zs ≡ length ts → take_all e ts zs ≡ true
+pub taken_all : (e : List ℤ) (ts : List CodeSlot) (zs : List ℤ) → taken e ts zs ≡ length ts → take_all e ts zs ≡ true
 taken_all e [] zs h = refl
 taken_all e (t ∷ ts) [] h = refl
 taken_all e (t ∷ ts) (z ∷ zs) h =

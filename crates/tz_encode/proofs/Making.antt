@@ -13,7 +13,7 @@ use Rattle.tz_encode.specs.Slots.{lies_in}
 use Rattle.tz_encode.specs.declared.slot.Half.{Half}
 use Rattle.tz_encode.specs.declared.slot.Half.TheVariants.{First, Second}
 use Rattle.tz_encode.specs.declared.slot.Part.{Part}
-use Rattle.tz_encode.specs.declared.slot.Slot.{Slot}
+use Rattle.tz_encode.specs.declared.slot.CodeSlot.{CodeSlot}
 use Rattle.tz_encode.proofs.Apart.{all_apart, all_parts, same_half}
 use Rattle.tz_encode.proofs.Describes.{Holds}
 use Rattle.tz_encode.proofs.Writes.{Write, parts_of, after, after_all, written_all, below_all, all_below, sum_bits}
@@ -30,7 +30,7 @@ abbrev pub second_fits : Width → ℕ → List Part → Bool
 second_fits Narrow s ps = s == 0 && only_first ps
 second_fits Wide s ps = true
 
-abbrev pub laid_out : TableRow → List Slot → Bool
+abbrev pub laid_out : TableRow → List CodeSlot → Bool
 laid_out r ts =
     let c = r.pattern.cube in
     let ps = all_parts ts in
@@ -38,7 +38,7 @@ laid_out r ts =
     let s = c.second_value in
     all_apart ps && (all_apart_from (fixed c) ps && (all_apart (fixed c ++ ps) && (slots_zero ts f s && (all_below 16 ps && (inside (cube_of_all (fields_at (fixed c) f s)) c && (all_fixed c (fixed c) f s && (sum_bits First (fixed c) f s == f && (sum_bits Second (fixed c) f s == s && (nat_lt f 65536 && (nat_lt s 65536 && second_fits r.width s ps))))))))))
 
-pub record LaidOut (r : TableRow) (ts : List Slot) : Type 0 where
+pub record LaidOut (r : TableRow) (ts : List CodeSlot) : Type 0 where
   pub apart : all_apart (all_parts ts) ≡ true
   pub fixed_apart : all_apart_from (fixed r.pattern.cube) (all_parts ts) ≡ true
   pub both_apart : all_apart (fixed r.pattern.cube ++ all_parts ts) ≡ true
@@ -52,7 +52,7 @@ pub record LaidOut (r : TableRow) (ts : List Slot) : Type 0 where
   pub second_below : r.pattern.cube.second_value < 65536
   pub second : second_fits r.width r.pattern.cube.second_value (all_parts ts) ≡ true
 
-pub LaidOut-from : (r : TableRow) (ts : List Slot) → laid_out r ts ≡ true → LaidOut r ts
+pub LaidOut-from : (r : TableRow) (ts : List CodeSlot) → laid_out r ts ≡ true → LaidOut r ts
 LaidOut-from r ts h =
     let a = and_parts _ _ h in
     let b = and_parts _ _ a.1 in
@@ -107,14 +107,14 @@ below_16 : (n : ℕ) → n / 2 ^ 16 ≡ 0 → n < 65536
 below_16 n h = omega arith
 
 -- a code with the row's fixed bits that holds the numbers of the values
-pub record Made (r : TableRow) (e : List ℤ) (ts : List Slot) (zs : List ℤ) (f s : ℕ) : Type 0 where
+pub record Made (r : TableRow) (e : List ℤ) (ts : List CodeSlot) (zs : List ℤ) (f s : ℕ) : Type 0 where
   pub first_fits : f < 65536
   pub second_fits : s < seconds r.width
   pub second_below : s < 65536
   pub fixed_bits : in_cube r.pattern.cube f s ≡ true
   pub numbers : Holds e ts zs f s
 
-pub made_code : (r : TableRow) (e : List ℤ) (ts : List Slot) (zs : List ℤ) → LaidOut r ts → length ts ≡ length zs → take_all e ts zs ≡ true → Made r e ts zs (r.pattern.cube.first_value + code_bits First e ts zs) (r.pattern.cube.second_value + code_bits Second e ts zs)
+pub made_code : (r : TableRow) (e : List ℤ) (ts : List CodeSlot) (zs : List ℤ) → LaidOut r ts → length ts ≡ length zs → take_all e ts zs ≡ true → Made r e ts zs (r.pattern.cube.first_value + code_bits First e ts zs) (r.pattern.cube.second_value + code_bits Second e ts zs)
 made_code r e ts zs o l h =
     let ws = writes_of e ts zs in
     let f = r.pattern.cube.first_value in

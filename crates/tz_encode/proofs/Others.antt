@@ -14,7 +14,7 @@ use Rattle.tz_encode.specs.declared.limit.Limit.{Limit}
 use Rattle.tz_encode.specs.declared.limit.Limit.TheVariants.{LoadList}
 use Rattle.tz_encode.specs.declared.slot.Parts.{Parts}
 use Rattle.tz_encode.specs.declared.slot.Parts.TheVariants.{Zero}
-use Rattle.tz_encode.specs.declared.slot.Slot.{Slot}
+use Rattle.tz_encode.specs.declared.slot.CodeSlot.{CodeSlot}
 use Rattle.tz_encode.proofs.Codings.{int_eq-self, int_eq-true}
 use Rattle.tz_encode.proofs.Describes.{IsWritten}
 use Rattle.tz_encode.proofs.Regaining.{spread}
@@ -23,7 +23,7 @@ use Rattle.tz_encode.proofs.Telling.{top_of, written_same}
 width_back : (low high : ℕ) → low ≤ high → low + (high + 1 - low) - 1 ≡ high
 width_back low high h = omega arith
 
-abbrev pub up_to_slot : Limit → Parts → Slot
+abbrev pub up_to_slot : Limit → Parts → CodeSlot
 up_to_slot l ps = record { coding = UpTo; limit = l; parts = ps }
 
 -- a width is written again where its highest bit isn't below its lowest
@@ -31,14 +31,14 @@ pub up_to_written : (l : Limit) (ps : Parts) (e : List ℤ) (f s : ℕ) → spre
 up_to_written l ps e f s a h =
     written_same (up_to_slot l ps) e (top_of (parts_in ps)) (value_at UpTo e (gathered (parts_in ps) f s) f s) f s a (width_back (number_at e 7) (gathered (parts_in ps) f s) h) (int_eq-self (value_at UpTo e (gathered (parts_in ps) f s) f s))
 
-abbrev pub again_slot : Limit → Parts → Slot
+abbrev pub again_slot : Limit → Parts → CodeSlot
 again_slot l ps = record { coding = Again; limit = l; parts = ps }
 
 -- a register that stands twice is written again where both are the same
 pub again_written : (l : Limit) (ps : Parts) (e : List ℤ) (f s : ℕ) → spread (parts_in ps) (top_of (parts_in ps)) ≡ true → number_at e 6 ≡ gathered (parts_in ps) f s → IsWritten (again_slot l ps) e (value_at Again e (gathered (parts_in ps) f s) f s) f s
 again_written l ps e f s a h = written_same (again_slot l ps) e (top_of (parts_in ps)) (pos 0) f s a h refl
 
-abbrev pub unlisted_slot : Limit → Slot
+abbrev pub unlisted_slot : Limit → CodeSlot
 unlisted_slot l = record { coding = Unlisted; limit = l; parts = Zero }
 
 rewritten : (a b c d n m : ℕ) → a ≡ b → c ≡ d → n ≡ m → (if a == 1 then not (is_listed n c) else is_listed n c) ≡ true → (if b == 1 then not (is_listed m d) else is_listed m d) ≡ true
@@ -60,7 +60,7 @@ told_so y false lt h =
     ]
 
 -- whether a base is listed is told by the list
-pub unlisted_told : (l : Limit) (d e : List ℤ) (y : ℤ) (t : Slot) (z : ℤ) (f s : ℕ) → t.limit ≡ LoadList 2 5 → number_at e 2 ≡ nat_abs y → number_at e 5 ≡ bits f 8 3 → nat_abs z ≡ bits f 0 8 → takes (unlisted_slot l) d y ≡ true → takes t e z ≡ true → value_at Unlisted d 0 f s ≡ y
+pub unlisted_told : (l : Limit) (d e : List ℤ) (y : ℤ) (t : CodeSlot) (z : ℤ) (f s : ℕ) → t.limit ≡ LoadList 2 5 → number_at e 2 ≡ nat_abs y → number_at e 5 ≡ bits f 8 3 → nat_abs z ≡ bits f 0 8 → takes (unlisted_slot l) d y ≡ true → takes t e z ≡ true → value_at Unlisted d 0 f s ≡ y
 unlisted_told l d e y t z f s same two five list a b =
     let p = and_parts (nat_lt (nat_abs y) 2 && int_eq (pos (nat_abs y)) y) (limit_holds l d y) a in
     let q = and_parts (nat_lt (nat_abs y) 2) (int_eq (pos (nat_abs y)) y) p.0 in

@@ -10,7 +10,7 @@ use Rattle.tz_encode.specs.Slots.{parts_in, bits_at, lies_in, scaled, gathered, 
 use Rattle.tz_encode.specs.declared.slot.Half.{Half}
 use Rattle.tz_encode.specs.declared.slot.Half.TheVariants.{First, Second}
 use Rattle.tz_encode.specs.declared.slot.Part.{Part}
-use Rattle.tz_encode.specs.declared.slot.Slot.{Slot}
+use Rattle.tz_encode.specs.declared.slot.CodeSlot.{CodeSlot}
 use Rattle.tz_encode.proofs.Apart.{all_parts}
 use Rattle.tz_encode.proofs.Describes.{Holds, AtMost, AllWritten, limits_in}
 use Rattle.tz_encode.proofs.Writes.{Write, after_all, parts_of, Clear, Written, sum_bits}
@@ -21,7 +21,7 @@ abbrev pub put_parts : List Part → ℕ → List Write → List Write
 put_parts [] n ws = ws
 put_parts (p ∷ ps) n ws = record { part = p; digit = digit p n } ∷ put_parts ps n ws
 
-abbrev pub writes_of : List ℤ → List Slot → List ℤ → List Write
+abbrev pub writes_of : List ℤ → List CodeSlot → List ℤ → List Write
 writes_of e [] zs = []
 writes_of e (t ∷ ts) [] = []
 writes_of e (t ∷ ts) (z ∷ zs) = put_parts (parts_in t.parts) (number_for t.coding e z) (writes_of (e ++ z ∷ []) ts zs)
@@ -31,7 +31,7 @@ after_put h [] m ws n = ap (after_all h ws) (omega arith)
 after_put h (p ∷ ps) m ws n = after_put h ps m ws (n + lies_in h p.half (digit p m * 2 ^ p.low)) ∙ ap (after_all h ws) (add_assoc n (lies_in h p.half (digit p m * 2 ^ p.low)) (placed h ps m))
 
 -- the code of the writes is the sum
-pub after_writes : (h : Half) (e : List ℤ) (ts : List Slot) (zs : List ℤ) (n : ℕ) → after_all h (writes_of e ts zs) n ≡ n + code_bits h e ts zs
+pub after_writes : (h : Half) (e : List ℤ) (ts : List CodeSlot) (zs : List ℤ) (n : ℕ) → after_all h (writes_of e ts zs) n ≡ n + code_bits h e ts zs
 after_writes h e [] zs n = omega arith
 after_writes h e (t ∷ ts) [] n = omega arith
 after_writes h e (t ∷ ts) (z ∷ zs) n =
@@ -44,7 +44,7 @@ parts_put [] n ws = refl
 parts_put (p ∷ ps) n ws = ap (λ l. p ∷ l) (parts_put ps n ws)
 
 -- they go to the parts of the slots
-pub parts_of_writes : (e : List ℤ) (ts : List Slot) (zs : List ℤ) → length ts ≡ length zs → parts_of (writes_of e ts zs) ≡ all_parts ts
+pub parts_of_writes : (e : List ℤ) (ts : List CodeSlot) (zs : List ℤ) → length ts ≡ length zs → parts_of (writes_of e ts zs) ≡ all_parts ts
 parts_of_writes e [] zs h = refl
 parts_of_writes e (t ∷ ts) [] h = absurd (omega arith)
 parts_of_writes e (t ∷ ts) (z ∷ zs) h =
@@ -57,7 +57,7 @@ abbrev pub all_zero : List Part → ℕ → ℕ → Bool
 all_zero [] f s = true
 all_zero (p ∷ ps) f s = bits_at p f s == 0 && all_zero ps f s
 
-abbrev pub slots_zero : List Slot → ℕ → ℕ → Bool
+abbrev pub slots_zero : List CodeSlot → ℕ → ℕ → Bool
 slots_zero [] f s = true
 slots_zero (t ∷ ts) f s = all_zero (parts_in t.parts) f s && slots_zero ts f s
 
@@ -67,7 +67,7 @@ clear_put (p ∷ ps) n ws f s z c =
     let x = and_parts (bits_at p f s == 0) (all_zero ps f s) z in
     (eqb-true _ _ x.0, mod-lt (n / 2 ^ p.shift) (pow_pos p.width), clear_put ps n ws f s x.1 c)
 
-pub clear_writes : (e : List ℤ) (ts : List Slot) (zs : List ℤ) (f s : ℕ) → slots_zero ts f s ≡ true → Clear (writes_of e ts zs) f s
+pub clear_writes : (e : List ℤ) (ts : List CodeSlot) (zs : List ℤ) (f s : ℕ) → slots_zero ts f s ≡ true → Clear (writes_of e ts zs) f s
 clear_writes e [] zs f s z = tt
 clear_writes e (t ∷ ts) [] f s z = tt
 clear_writes e (t ∷ ts) (y ∷ zs) f s z =
@@ -110,7 +110,7 @@ split_written [] n ws f s h = (tt, h)
 split_written (p ∷ ps) n ws f s h = let x = split_written ps n ws f s h.1 in ((h.0, x.0), x.1)
 
 -- a code with the writes of values that the slots take holds their numbers
-pub holds_written : (e : List ℤ) (ts : List Slot) (zs : List ℤ) (f s : ℕ) → take_all e ts zs ≡ true → Written (writes_of e ts zs) f s → Holds e ts zs f s
+pub holds_written : (e : List ℤ) (ts : List CodeSlot) (zs : List ℤ) (f s : ℕ) → take_all e ts zs ≡ true → Written (writes_of e ts zs) f s → Holds e ts zs f s
 holds_written e [] zs f s h w = tt
 holds_written e (t ∷ ts) [] f s h w = tt
 holds_written e (t ∷ ts) (z ∷ zs) f s h w =
@@ -142,7 +142,7 @@ sum_bits-append h [] qs f s = omega arith
 sum_bits-append h (p ∷ ps) qs f s = ap (λ x. lies_in h p.half (bits_at p f s * 2 ^ p.low) + x) (sum_bits-append h ps qs f s) ∙ sym (add_assoc (lies_in h p.half (bits_at p f s * 2 ^ p.low)) (sum_bits h ps f s) (sum_bits h qs f s))
 
 -- the values of a code, written again, add no more than the code has
-pub sum_at_most : (h : Half) (e : List ℤ) (ts : List Slot) (f s : ℕ) → AllWritten e ts f s → code_bits h e ts (values_in e ts f s) ≤ sum_bits h (all_parts ts) f s
+pub sum_at_most : (h : Half) (e : List ℤ) (ts : List CodeSlot) (f s : ℕ) → AllWritten e ts f s → code_bits h e ts (values_in e ts f s) ≤ sum_bits h (all_parts ts) f s
 sum_at_most h e [] f s a = omega arith
 sum_at_most h e (t ∷ ts) f s a =
     let z = value_at t.coding e (gathered (parts_in t.parts) f s) f s in
@@ -150,7 +150,7 @@ sum_at_most h e (t ∷ ts) f s a =
     omega (arith, below, sum_bits-append h (parts_in t.parts) (all_parts ts) f s)
 
 -- the slots take the values of a code
-pub take_values : (e : List ℤ) (ts : List Slot) (f s : ℕ) → AllWritten e ts f s → limits_in e ts f s ≡ true → take_all e ts (values_in e ts f s) ≡ true
+pub take_values : (e : List ℤ) (ts : List CodeSlot) (f s : ℕ) → AllWritten e ts f s → limits_in e ts f s ≡ true → take_all e ts (values_in e ts f s) ≡ true
 take_values e [] f s a l = refl
 take_values e (t ∷ ts) f s a l =
     let z = value_at t.coding e (gathered (parts_in t.parts) f s) f s in

@@ -15,31 +15,31 @@ use Rattle.tz_encode.specs.Numbers.{take_all, values_in}
 use Rattle.tz_encode.specs.declared.coding.Coding.TheVariants.{Is}
 use Rattle.tz_encode.specs.declared.limit.Limit.TheVariants.{Any}
 use Rattle.tz_encode.specs.declared.slot.Parts.TheVariants.{Zero}
-use Rattle.tz_encode.specs.declared.slot.Slot.{Slot}
+use Rattle.tz_encode.specs.declared.slot.CodeSlot.{CodeSlot}
 use Rattle.tz_encode.proofs.Describes.{limits_in, Fillable, Holds}
 use Rattle.tz_encode.proofs.Places.{seconds_few}
 use Rattle.tz_encode.proofs.Slots.{stands_alone, fill_alone}
 use Rattle.tz_encode.specs.declared.shapes.TheConstants.{SHAPES}
 
-abbrev pub nth : List (List Slot) → ℕ → List Slot
+abbrev pub nth : List (List CodeSlot) → ℕ → List CodeSlot
 nth [] k = []
 nth (ts ∷ tss) zero = ts
 nth (ts ∷ tss) (suc k) = nth tss k
 
 -- the slots of row k
-abbrev pub shape : ℕ → List Slot
+abbrev pub shape : ℕ → List CodeSlot
 shape k = nth SHAPES k
 
-abbrev pub slot_in : List Slot → ℕ → Slot
+abbrev pub slot_in : List CodeSlot → ℕ → CodeSlot
 slot_in [] k = record { coding = Is (pos 0); limit = Any; parts = Zero }
 slot_in (t ∷ ts) zero = t
 slot_in (t ∷ ts) (suc k) = slot_in ts k
 
 -- slot j of row k
-abbrev pub slot : ℕ → ℕ → Slot
+abbrev pub slot : ℕ → ℕ → CodeSlot
 slot k j = slot_in (shape k) j
 
-pub record Reads (r : TableRow) (form : ℕ) (ts : List Slot) : Type 0 where
+pub record Reads (r : TableRow) (form : ℕ) (ts : List CodeSlot) : Type 0 where
   pub values : (f s : ℕ) → InRow r f s → values_of (r.insn f s) ≡ pos form ∷ values_in (pos form ∷ []) ts f s
   pub kept : (f s : ℕ) → InRow r f s → limits_in (pos form ∷ []) ts f s ≡ true
   pub held : (zs : List ℤ) (f s : ℕ) → f < 65536 → s < 65536 → in_cube r.pattern.cube f s ≡ true → length ts ≡ length zs → take_all (pos form ∷ []) ts zs ≡ true → Holds (pos form ∷ []) ts zs f s → limits_in (pos form ∷ []) ts f s ≡ true → holds r f s ≡ true
@@ -70,7 +70,7 @@ pub cube_of_row : (r : TableRow) (f s : ℕ) → InRow r f s → in_cube r.patte
 cube_of_row r f s c = in_cube-from r.pattern.cube f s (holds_parts r f s c.held).1
 
 -- a row whose limits are those of its slots, for codes with its fixed bits
-pub read : (r : TableRow) (form : ℕ) (ts : List Slot) → ((f s : ℕ) → InRow r f s → values_of (r.insn f s) ≡ pos form ∷ values_in (pos form ∷ []) ts f s) → ((f s : ℕ) → f < 65536 → s < 65536 → in_cube r.pattern.cube f s ≡ true → keeps r f s ≡ limits_in (pos form ∷ []) ts f s) → Fillable (pos form ∷ []) ts → Reads r form ts
+pub read : (r : TableRow) (form : ℕ) (ts : List CodeSlot) → ((f s : ℕ) → InRow r f s → values_of (r.insn f s) ≡ pos form ∷ values_in (pos form ∷ []) ts f s) → ((f s : ℕ) → f < 65536 → s < 65536 → in_cube r.pattern.cube f s ≡ true → keeps r f s ≡ limits_in (pos form ∷ []) ts f s) → Fillable (pos form ∷ []) ts → Reads r form ts
 read r form ts v l t = record {
   values = v;
   kept = λ f s c. sym (l f s c.first_fits (seconds_few r.width s c.second_fits) (cube_of_row r f s c)) ∙ keeps_from r f s c.held;
@@ -79,9 +79,9 @@ read r form ts v l t = record {
 }
 
 -- a row where this holds of all numbers
-pub read_all : (r : TableRow) (form : ℕ) (ts : List Slot) → ((f s : ℕ) → values_of (r.insn f s) ≡ pos form ∷ values_in (pos form ∷ []) ts f s) → ((f s : ℕ) → keeps r f s ≡ limits_in (pos form ∷ []) ts f s) → Fillable (pos form ∷ []) ts → Reads r form ts
+pub read_all : (r : TableRow) (form : ℕ) (ts : List CodeSlot) → ((f s : ℕ) → values_of (r.insn f s) ≡ pos form ∷ values_in (pos form ∷ []) ts f s) → ((f s : ℕ) → keeps r f s ≡ limits_in (pos form ∷ []) ts f s) → Fillable (pos form ∷ []) ts → Reads r form ts
 read_all r form ts v l t = read r form ts (λ f s c. v f s) (λ f s a b c. l f s) t
 
 -- such a row, each slot of which takes something whatever stands before it
-pub read_alone : (r : TableRow) (form : ℕ) (ts : List Slot) → ((f s : ℕ) → values_of (r.insn f s) ≡ pos form ∷ values_in (pos form ∷ []) ts f s) → ((f s : ℕ) → keeps r f s ≡ limits_in (pos form ∷ []) ts f s) → list_all stands_alone ts ≡ true → Reads r form ts
+pub read_alone : (r : TableRow) (form : ℕ) (ts : List CodeSlot) → ((f s : ℕ) → values_of (r.insn f s) ≡ pos form ∷ values_in (pos form ∷ []) ts f s) → ((f s : ℕ) → keeps r f s ≡ limits_in (pos form ∷ []) ts f s) → list_all stands_alone ts ≡ true → Reads r form ts
 read_alone r form ts v l t = read_all r form ts v l (fill_alone ts (pos form ∷ []) t)

@@ -11,7 +11,7 @@ use Rattle.tz_table.specs.declared.rows.Row.{Row}
 use Rattle.tz_table.specs.declared.instruction.Insn.{Insn}
 use Rattle.tz_encode.specs.Codes.{Tried}
 use Rattle.tz_encode.specs.Numbers.{answer, sound}
-use Rattle.tz_encode.specs.declared.slot.Slot.{Slot}
+use Rattle.tz_encode.specs.declared.slot.CodeSlot.{CodeSlot}
 use Rattle.tz_encode.proofs.Codings.{int_eq-true}
 use Rattle.tz_encode.proofs.Answered.{tried}
 use Rattle.tz_encode.proofs.Places.{data_at}
@@ -24,19 +24,19 @@ pub laid_out_all : all_laid_out rows SHAPES ≡ true
 unfolding rows
 laid_out_all = refl
 
-abbrev all_sound : List (List Slot) → Bool
+abbrev all_sound : List (List CodeSlot) → Bool
 all_sound [] = true
 all_sound (ts ∷ tss) = sound ts && all_sound tss
 
 sound_all : all_sound SHAPES ≡ true
 sound_all = refl
 
-sound_in : (tss : List (List Slot)) (k : ℕ) (ts : List Slot) → all_sound tss ≡ true → slice_get tss k ≡ Some ts → sound ts ≡ true
+sound_in : (tss : List (List CodeSlot)) (k : ℕ) (ts : List CodeSlot) → all_sound tss ≡ true → slice_get tss k ≡ Some ts → sound ts ≡ true
 sound_in [] k ts h g = cc
 sound_in (us ∷ tss) zero ts h g = let e : us ≡ ts = cc in ap sound (sym e) ∙ (and_parts _ _ h).0
 sound_in (us ∷ tss) (suc k) ts h g = sound_in tss k ts (and_parts _ _ h).1 g
 
-pub sound_at : (k : ℕ) (ts : List Slot) → slice_get SHAPES k ≡ Some ts → sound ts ≡ true
+pub sound_at : (k : ℕ) (ts : List CodeSlot) → slice_get SHAPES k ≡ Some ts → sound ts ≡ true
 sound_at k ts g = sound_in SHAPES k ts sound_all g
 
 count_of_data : (rs : List TableRow) → length (rows_of rs) ≡ length rs
@@ -47,7 +47,7 @@ pub no_row : (rs : List TableRow) (k : ℕ) (r : TableRow) → None ≡ slice_ge
 no_row rs k r n g = let e : None ≡ Some (row_of r) = n ∙ data_at rs k r g in cc
 
 -- the answer of the row's slots is what the row gives
-pub row_tried : AllDescribed rows SHAPES → (k : ℕ) (row : Row) (ts : List Slot) (i : Insn) (vs : List ℤ) (r : TableRow) → Some row ≡ slice_get (rows_of rows) k → Some ts ≡ slice_get SHAPES k → vs ≡ values_of i → length vs ≡ 9 → slice_get rows k ≡ Some r → Tried r i (answer row.form row.first_value row.second_value ts vs)
+pub row_tried : AllDescribed rows SHAPES → (k : ℕ) (row : Row) (ts : List CodeSlot) (i : Insn) (vs : List ℤ) (r : TableRow) → Some row ≡ slice_get (rows_of rows) k → Some ts ≡ slice_get SHAPES k → vs ≡ values_of i → length vs ≡ 9 → slice_get rows k ≡ Some r → Tried r i (answer row.form row.first_value row.second_value ts vs)
 row_tried d k row ts i [] r a b v n g = absurd (omega arith)
 row_tried d k row ts i (z ∷ zs) r a b v n g =
     let same : Some row ≡ Some (row_of r) = a ∙ data_at rows k r g in
@@ -74,7 +74,7 @@ past_rows k row e h =
     omega (arith, count_of_data rows)
 
 -- of another variant the slots answer that place, whatever they are
-other_answer : (form first second : ℕ) (ts : List Slot) (z : ℤ) (zs : List ℤ) → (z ≡ pos form → ⊥) → answer form first second ts (z ∷ zs) ≡ Err 0
+other_answer : (form first second : ℕ) (ts : List CodeSlot) (z : ℤ) (zs : List ℤ) → (z ≡ pos form → ⊥) → answer form first second ts (z ∷ zs) ≡ Err 0
 other_answer form first second ts z zs h =
     cond-false (int_eq (pos form) z) _ _ (false_from_ne_true (int_eq (pos form) z) (λ e. h (sym (int_eq-true (pos form) z e))))
 

@@ -14,7 +14,7 @@ use Rattle.tz_encode.specs.declared.limit.Limit.{Limit}
 use Rattle.tz_encode.specs.declared.slot.Half.TheVariants.{Second}
 use Rattle.tz_encode.specs.declared.slot.Part.{Part}
 use Rattle.tz_encode.specs.declared.slot.Parts.TheVariants.{Zero, Three}
-use Rattle.tz_encode.specs.declared.slot.Slot.{Slot}
+use Rattle.tz_encode.specs.declared.slot.CodeSlot.{CodeSlot}
 use Rattle.tz_encode.proofs.Codings.{int_eq-self, int_eq-true, tells}
 use Rattle.tz_encode.proofs.Describes.{IsWritten, AllWritten, Holds}
 use Rattle.tz_encode.proofs.Telling.{is_regular, written, written_same, told, values_told, eight}
@@ -26,13 +26,13 @@ comes_again n = amount_number (shift_number (imm_shift_of (n / 32) (n % 32))) (i
 again : (n : ℕ) → n < 128 → amount_number (shift_number (imm_shift_of (n / 32) (n % 32))) (imm_amount_of (n / 32) (n % 32)) ≡ n
 again n h = eqb-true _ _ (agree_below_at comes_again (λ n. true) 128 n refl h)
 
-abbrev pub kind_slot : Limit → Slot
+abbrev pub kind_slot : Limit → CodeSlot
 kind_slot l = record { coding = Kind; limit = l; parts = Zero }
 
 abbrev pub part : ℕ → ℕ → ℕ → Part
 part low width shift = record { half = Second; low = low; width = width; shift = shift }
 
-abbrev pub amount_slot : Limit → Slot
+abbrev pub amount_slot : Limit → CodeSlot
 amount_slot l = record { coding = Amount; limit = l; parts = Three (part 4 2 5) (part 12 3 2) (part 6 2 0) }
 
 -- the number in the slot
@@ -93,7 +93,7 @@ kind_told l m d e y z f s k a b g =
 
 -- ---- eight slots of which the second is a kind and the last an amount
 
-pub shifted_written : (form : ℤ) (a c d g h i : Slot) (l m : Limit) (f s : ℕ) → (is_regular a && is_regular c && is_regular d && is_regular g && is_regular h && is_regular i) ≡ true → AllWritten (form ∷ []) (a ∷ kind_slot l ∷ c ∷ d ∷ g ∷ h ∷ i ∷ amount_slot m ∷ []) f s
+pub shifted_written : (form : ℤ) (a c d g h i : CodeSlot) (l m : Limit) (f s : ℕ) → (is_regular a && is_regular c && is_regular d && is_regular g && is_regular h && is_regular i) ≡ true → AllWritten (form ∷ []) (a ∷ kind_slot l ∷ c ∷ d ∷ g ∷ h ∷ i ∷ amount_slot m ∷ []) f s
 shifted_written form a c d g h i l m f s r =
     let r1 = and_parts _ _ r in
     let r2 = and_parts _ _ r1.0 in
@@ -102,7 +102,7 @@ shifted_written form a c d g h i l m f s r =
     let r5 = and_parts _ _ r4.0 in
     (written a _ f s r5.0, (written (kind_slot l) _ f s refl, (written c _ f s r5.1, (written d _ f s r4.1, (written g _ f s r3.1, (written h _ f s r2.1, (written i _ f s r1.1, (amount_written m _ f s refl, tt))))))))
 
-shifted_eight : (form : ℤ) (a c d g h i : Slot) (l m : Limit) (z1 z2 z3 z4 z5 z6 z7 z8 : ℤ) (f s : ℕ) → (tells a.coding && tells c.coding && tells d.coding && tells g.coding && tells h.coding && tells i.coding) ≡ true → take_all (form ∷ []) (a ∷ kind_slot l ∷ c ∷ d ∷ g ∷ h ∷ i ∷ amount_slot m ∷ []) (z1 ∷ z2 ∷ z3 ∷ z4 ∷ z5 ∷ z6 ∷ z7 ∷ z8 ∷ []) ≡ true → Holds (form ∷ []) (a ∷ kind_slot l ∷ c ∷ d ∷ g ∷ h ∷ i ∷ amount_slot m ∷ []) (z1 ∷ z2 ∷ z3 ∷ z4 ∷ z5 ∷ z6 ∷ z7 ∷ z8 ∷ []) f s → values_in (form ∷ []) (a ∷ kind_slot l ∷ c ∷ d ∷ g ∷ h ∷ i ∷ amount_slot m ∷ []) f s ≡ z1 ∷ z2 ∷ z3 ∷ z4 ∷ z5 ∷ z6 ∷ z7 ∷ z8 ∷ []
+shifted_eight : (form : ℤ) (a c d g h i : CodeSlot) (l m : Limit) (z1 z2 z3 z4 z5 z6 z7 z8 : ℤ) (f s : ℕ) → (tells a.coding && tells c.coding && tells d.coding && tells g.coding && tells h.coding && tells i.coding) ≡ true → take_all (form ∷ []) (a ∷ kind_slot l ∷ c ∷ d ∷ g ∷ h ∷ i ∷ amount_slot m ∷ []) (z1 ∷ z2 ∷ z3 ∷ z4 ∷ z5 ∷ z6 ∷ z7 ∷ z8 ∷ []) ≡ true → Holds (form ∷ []) (a ∷ kind_slot l ∷ c ∷ d ∷ g ∷ h ∷ i ∷ amount_slot m ∷ []) (z1 ∷ z2 ∷ z3 ∷ z4 ∷ z5 ∷ z6 ∷ z7 ∷ z8 ∷ []) f s → values_in (form ∷ []) (a ∷ kind_slot l ∷ c ∷ d ∷ g ∷ h ∷ i ∷ amount_slot m ∷ []) f s ≡ z1 ∷ z2 ∷ z3 ∷ z4 ∷ z5 ∷ z6 ∷ z7 ∷ z8 ∷ []
 shifted_eight form a c d g h i l m z1 z2 z3 z4 z5 z6 z7 z8 f s r k x =
     let r1 = and_parts _ _ r in
     let r2 = and_parts _ _ r1.0 in
@@ -140,7 +140,7 @@ shifted_eight form a c d g h i l m z1 z2 z3 z4 z5 z6 z7 z8 f s r k x =
       ),
     )
 
-pub shifted_told : (form : ℤ) (a c d g h i : Slot) (l m : Limit) (zs : List ℤ) (f s : ℕ) → (tells a.coding && tells c.coding && tells d.coding && tells g.coding && tells h.coding && tells i.coding) ≡ true → 8 ≡ length zs → take_all (form ∷ []) (a ∷ kind_slot l ∷ c ∷ d ∷ g ∷ h ∷ i ∷ amount_slot m ∷ []) zs ≡ true → Holds (form ∷ []) (a ∷ kind_slot l ∷ c ∷ d ∷ g ∷ h ∷ i ∷ amount_slot m ∷ []) zs f s → values_in (form ∷ []) (a ∷ kind_slot l ∷ c ∷ d ∷ g ∷ h ∷ i ∷ amount_slot m ∷ []) f s ≡ zs
+pub shifted_told : (form : ℤ) (a c d g h i : CodeSlot) (l m : Limit) (zs : List ℤ) (f s : ℕ) → (tells a.coding && tells c.coding && tells d.coding && tells g.coding && tells h.coding && tells i.coding) ≡ true → 8 ≡ length zs → take_all (form ∷ []) (a ∷ kind_slot l ∷ c ∷ d ∷ g ∷ h ∷ i ∷ amount_slot m ∷ []) zs ≡ true → Holds (form ∷ []) (a ∷ kind_slot l ∷ c ∷ d ∷ g ∷ h ∷ i ∷ amount_slot m ∷ []) zs f s → values_in (form ∷ []) (a ∷ kind_slot l ∷ c ∷ d ∷ g ∷ h ∷ i ∷ amount_slot m ∷ []) f s ≡ zs
 shifted_told form a c d g h i l m zs f s r n =
     let v = eight zs n in
     subst (λ vs. take_all (form ∷ []) (a ∷ kind_slot l ∷ c ∷ d ∷ g ∷ h ∷ i ∷ amount_slot m ∷ []) vs ≡ true → Holds (form ∷ []) (a ∷ kind_slot l ∷ c ∷ d ∷ g ∷ h ∷ i ∷ amount_slot m ∷ []) vs f s → values_in (form ∷ []) (a ∷ kind_slot l ∷ c ∷ d ∷ g ∷ h ∷ i ∷ amount_slot m ∷ []) f s ≡ vs) (sym v.are)

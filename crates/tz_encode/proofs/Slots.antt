@@ -11,7 +11,7 @@ use Rattle.tz_encode.specs.declared.coding.Coding.{Coding}
 use Rattle.tz_encode.specs.declared.coding.Coding.TheVariants.{Is, Same, Natural, Above, Minus, Signed, Sign, Far, Right, Kind, Amount, UpTo, Unlisted, Again}
 use Rattle.tz_encode.specs.declared.limit.Limit.{Limit}
 use Rattle.tz_encode.specs.declared.limit.Limit.TheVariants as limits
-use Rattle.tz_encode.specs.declared.slot.Slot.{Slot}
+use Rattle.tz_encode.specs.declared.slot.CodeSlot.{CodeSlot}
 use Rattle.tz_encode.specs.declared.slot.Parts.{Parts}
 use Rattle.tz_encode.specs.declared.slot.Parts.TheVariants as counts
 use Rattle.tz_encode.proofs.Codings.{int_eq-self}
@@ -89,7 +89,7 @@ allows_alone limits.Constant e n h = refl
 allows_alone limits.Special e n h = refl
 allows_alone _ e n h = cc
 
-takes_alone : (t : Slot) (e : List ℤ) (z : ℤ) → coded_alone t.coding ≡ true → limited_alone t.limit ≡ true → takes t e z ≡ takes t [] z
+takes_alone : (t : CodeSlot) (e : List ℤ) (z : ℤ) → coded_alone t.coding ≡ true → limited_alone t.limit ≡ true → takes t e z ≡ takes t [] z
 takes_alone t e z c l =
     ap (λ n. (held_by (parts_in t.parts) n == n) && stands_for t.coding e n z && limit_holds t.limit e z) (number_alone t.coding e z c)
     ∙ ap (λ b. (held_by (parts_in t.parts) (number_for t.coding [] z) == number_for t.coding [] z) && b && limit_holds t.limit e z) (code_alone t.coding e (number_for t.coding [] z) z c)
@@ -102,10 +102,10 @@ value_of_coding (Above m) = pos m
 value_of_coding Right = pos 1
 value_of_coding _ = pos 0
 
-abbrev pub usual : Slot → ℤ
+abbrev pub usual : CodeSlot → ℤ
 usual t = if takes t [] (value_of_coding t.coding) then value_of_coding t.coding else pos 1
 
-abbrev pub alone : Slot → Bool
+abbrev pub alone : CodeSlot → Bool
 alone t = coded_alone t.coding && limited_alone t.limit && takes t [] (usual t)
 
 -- ---- slots with the value of another, which have no bits
@@ -122,7 +122,7 @@ abbrev pub is_zero : Parts → Bool
 is_zero counts.Zero = true
 is_zero _ = false
 
-abbrev pub repeats : Slot → Bool
+abbrev pub repeats : CodeSlot → Bool
 repeats t = is_same t.coding && is_any t.limit && is_zero t.parts
 
 repeated : (c : Coding) (l : Limit) (p : Parts) (e : List ℤ) → is_same c ≡ true → is_any l ≡ true → is_zero p ≡ true → (z : ℤ) × (takes (record { coding = c; limit = l; parts = p }) e z ≡ true)
@@ -133,10 +133,10 @@ repeated _ l p e a b d = cc
 
 -- ---- a slot that takes something whatever stands before it
 
-abbrev pub stands_alone : Slot → Bool
+abbrev pub stands_alone : CodeSlot → Bool
 stands_alone t = alone t || repeats t
 
-pub taken_alone : (t : Slot) (e : List ℤ) → stands_alone t ≡ true → (z : ℤ) × (takes t e z ≡ true)
+pub taken_alone : (t : CodeSlot) (e : List ℤ) → stands_alone t ≡ true → (z : ℤ) × (takes t e z ≡ true)
 taken_alone t e h =
     elim (or_cases (alone t) (repeats t) h) [
       | inl a ↦
@@ -150,7 +150,7 @@ taken_alone t e h =
     ]
 
 -- all slots are so
-pub fill_alone : (ts : List Slot) (e : List ℤ) → list_all stands_alone ts ≡ true → Fillable e ts
+pub fill_alone : (ts : List CodeSlot) (e : List ℤ) → list_all stands_alone ts ≡ true → Fillable e ts
 fill_alone [] e h = tt
 fill_alone (t ∷ ts) e h =
     let x = and_parts (stands_alone t) (list_all stands_alone ts) h in
@@ -159,11 +159,11 @@ fill_alone (t ∷ ts) e h =
 -- ---- rows of which some slots look at earlier values
 
 -- what is left to show: what such a slot takes
-abbrev pub Needs : List ℤ → List Slot → Type 0
+abbrev pub Needs : List ℤ → List CodeSlot → Type 0
 Needs e [] = Unit {0}
 Needs e (t ∷ ts) = MatchBool (stands_alone t) ((z : ℤ) → takes t e z ≡ true → Needs (e ++ z ∷ []) ts) (((z : ℤ) × (takes t e z ≡ true)) × ((z : ℤ) → takes t e z ≡ true → Needs (e ++ z ∷ []) ts))
 
-pub fill : (ts : List Slot) (e : List ℤ) → Needs e ts → Fillable e ts
+pub fill : (ts : List CodeSlot) (e : List ℤ) → Needs e ts → Fillable e ts
 fill [] e n = tt
 fill (t ∷ ts) e n =
     let Rest : Type 0 = (z : ℤ) → takes t e z ≡ true → Needs (e ++ z ∷ []) ts in
@@ -176,16 +176,16 @@ fill (t ∷ ts) e n =
 -- ---- what a value that was taken is
 
 -- the limit of a value that a slot took
-pub limit_taken : (t : Slot) (e : List ℤ) (z : ℤ) → takes t e z ≡ true → limit_holds t.limit e z ≡ true
+pub limit_taken : (t : CodeSlot) (e : List ℤ) (z : ℤ) → takes t e z ≡ true → limit_holds t.limit e z ≡ true
 limit_taken t e z h = (and_parts (held_by (parts_in t.parts) (number_for t.coding e z) == number_for t.coding e z && stands_for t.coding e (number_for t.coding e z) z) (limit_holds t.limit e z) h).1
 
 -- and its bits
-pub bits_taken : (t : Slot) (e : List ℤ) (z : ℤ) → takes t e z ≡ true → held_by (parts_in t.parts) (number_for t.coding e z) ≡ number_for t.coding e z
+pub bits_taken : (t : CodeSlot) (e : List ℤ) (z : ℤ) → takes t e z ≡ true → held_by (parts_in t.parts) (number_for t.coding e z) ≡ number_for t.coding e z
 bits_taken t e z h =
     let x = and_parts (held_by (parts_in t.parts) (number_for t.coding e z) == number_for t.coding e z && stands_for t.coding e (number_for t.coding e z) z) (limit_holds t.limit e z) h in
     eqb-true _ _ (and_parts (held_by (parts_in t.parts) (number_for t.coding e z) == number_for t.coding e z) (stands_for t.coding e (number_for t.coding e z) z) x.0).0
 
-pub stood_for : (t : Slot) (e : List ℤ) (z : ℤ) → takes t e z ≡ true → stands_for t.coding e (number_for t.coding e z) z ≡ true
+pub stood_for : (t : CodeSlot) (e : List ℤ) (z : ℤ) → takes t e z ≡ true → stands_for t.coding e (number_for t.coding e z) z ≡ true
 stood_for t e z h =
     let x = and_parts (held_by (parts_in t.parts) (number_for t.coding e z) == number_for t.coding e z && stands_for t.coding e (number_for t.coding e z) z) (limit_holds t.limit e z) h in
     (and_parts (held_by (parts_in t.parts) (number_for t.coding e z) == number_for t.coding e z) (stands_for t.coding e (number_for t.coding e z) z) x.0).1

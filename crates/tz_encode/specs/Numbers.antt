@@ -12,7 +12,7 @@ use Rattle.tz_encode.specs.declared.coding.Coding.TheVariants.{Is, Same, Natural
 use Rattle.tz_encode.specs.declared.slot.Half.{Half}
 use Rattle.tz_encode.specs.declared.slot.Half.TheVariants.{First, Second}
 use Rattle.tz_encode.specs.declared.slot.Part.{Part}
-use Rattle.tz_encode.specs.declared.slot.Slot.{Slot}
+use Rattle.tz_encode.specs.declared.slot.CodeSlot.{CodeSlot}
 
 -- the number of which z is the signed value
 abbrev pub unsigned_by : ℕ → ℤ → ℕ
@@ -78,35 +78,35 @@ stands_for Unlisted e n z = nat_lt (nat_abs z) 2 && int_eq (pos (nat_abs z)) z
 stands_for Again e n z = int_eq (pos 0) z
 
 -- the slot takes z beside the values of the places before it
-abbrev pub takes : Slot → List ℤ → ℤ → Bool
+abbrev pub takes : CodeSlot → List ℤ → ℤ → Bool
 takes t e z = let n = number_for t.coding e z in (held_by (parts_in t.parts) n == n) && stands_for t.coding e n z && limit_holds t.limit e z
 
 -- the slots take the values, one after the other
-abbrev pub take_all : List ℤ → List Slot → List ℤ → Bool
+abbrev pub take_all : List ℤ → List CodeSlot → List ℤ → Bool
 take_all e [] zs = true
 take_all e (t ∷ ts) [] = true
 take_all e (t ∷ ts) (z ∷ zs) = takes t e z && take_all (e ++ z ∷ []) ts zs
 
 -- the values that a code has
-abbrev pub values_in : List ℤ → List Slot → ℕ → ℕ → List ℤ
+abbrev pub values_in : List ℤ → List CodeSlot → ℕ → ℕ → List ℤ
 values_in e [] f s = []
 values_in e (t ∷ ts) f s = let z = value_at t.coding e (gathered (parts_in t.parts) f s) f s in z ∷ values_in (e ++ z ∷ []) ts f s
 
 -- how many of the slots take the values, up to the first that doesn't
-abbrev pub taken : List ℤ → List Slot → List ℤ → ℕ
+abbrev pub taken : List ℤ → List CodeSlot → List ℤ → ℕ
 taken e [] zs = 0
 taken e (t ∷ ts) [] = 0
 taken e (t ∷ ts) (z ∷ zs) = if takes t e z then (1 + taken (e ++ z ∷ []) ts zs) else 0
 
 -- what the values add to a halfword of the code
-abbrev pub code_bits : Half → List ℤ → List Slot → List ℤ → ℕ
+abbrev pub code_bits : Half → List ℤ → List CodeSlot → List ℤ → ℕ
 code_bits h e [] zs = 0
 code_bits h e (t ∷ ts) [] = 0
 code_bits h e (t ∷ ts) (z ∷ zs) = placed h (parts_in t.parts) (number_for t.coding e z) + code_bits h (e ++ z ∷ []) ts zs
 
 -- what a row with this variant, these fixed bits and these slots gives for nine values: a code, or the
 -- place of the first value that its slots don't take
-abbrev pub answer : ℕ → ℕ → ℕ → List Slot → List ℤ → Result (ℕ × ℕ) ℕ
+abbrev pub answer : ℕ → ℕ → ℕ → List CodeSlot → List ℤ → Result (ℕ × ℕ) ℕ
 answer form first second ts [] = Err 0
 answer form first second ts (z ∷ zs) = if int_eq (pos form) z then (if taken (z ∷ []) ts zs == length ts then Ok ((first + code_bits First (z ∷ []) ts zs) % 65536, (second + code_bits Second (z ∷ []) ts zs) % 65536) else Err (1 + taken (z ∷ []) ts zs)) else Err 0
 
@@ -115,6 +115,6 @@ abbrev pub sound_parts : List Part → Bool
 sound_parts [] = true
 sound_parts (p ∷ ps) = nat_le (p.low + p.width) 16 && nat_le (p.shift + p.width) 32 && sound_parts ps
 
-abbrev pub sound : List Slot → Bool
+abbrev pub sound : List CodeSlot → Bool
 sound [] = true
 sound (t ∷ ts) = sound_parts (parts_in t.parts) && sound ts

@@ -30,7 +30,7 @@ pub use error::EncodeError;
 pub use limit::Limit;
 pub use search::find;
 pub use shapes::{SHAPES, slots_at};
-pub use slot::{Half, Part, Parts, Slot};
+pub use slot::{CodeSlot, Half, Part, Parts};
 pub use trying::try_row;
 pub use tz_bits::FieldName;
 pub use writing::answer;

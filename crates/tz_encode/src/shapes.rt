@@ -9,7 +9,7 @@ ghost use Rattle.std.specs.Prelude.{◌≡◌, slice_get};
 
 use crate::coding::Coding;
 use crate::limit::Limit;
-use crate::slot::{Half, Part, Parts, Slot};
+use crate::slot::{CodeSlot, Half, Part, Parts};
 
 /// Bits of a halfword and where they lie in the number.
 macro_rules! part {
@@ -43,7 +43,7 @@ macro_rules! parts {
 /// A slot with these parts.
 macro_rules! slot {
     ($coding:expr, $limit:expr $(, $half:ident $low:literal $width:literal $shift:literal)*) => {
-        Slot { coding: $coding, limit: $limit, parts: parts!($([$half $low $width $shift])*) }
+        CodeSlot { coding: $coding, limit: $limit, parts: parts!($([$half $low $width $shift])*) }
     };
 }
 
@@ -109,7 +109,7 @@ macro_rules! shape {
 }
 
 /// The slots of all rows, in the order of the table.
-pub static SHAPES: [[Slot; 8]; 189] = [
+pub static SHAPES: [[CodeSlot; 8]; 189] = [
     // lsls rd, rm, #i; movs rd, rm where i is 0
     shape!((= 2) _ _ _; (First 0 3) _ (First 3 3) (First 6 5)),
     // lsrs rd, rm, #i; 0 is 32
@@ -491,7 +491,7 @@ pub static SHAPES: [[Slot; 8]; 189] = [
 ];
 
 /// The slots at the place, if there are any.
-fn get(shapes: &[[Slot; 8]], index: usize) -> Option<[Slot; 8]>
+fn get(shapes: &[[CodeSlot; 8]], index: usize) -> Option<[CodeSlot; 8]>
     ensures { result ≡ slice_get shapes.now index }
 {
     shapes.get(index).copied()
@@ -499,7 +499,7 @@ fn get(shapes: &[[Slot; 8]], index: usize) -> Option<[Slot; 8]>
 
 /// The slots of the row at `index` of the instruction table: None exactly where `index` isn't below the
 /// count of rows.
-pub fn slots_at(index: usize) -> Option<[Slot; 8]>
+pub fn slots_at(index: usize) -> Option<[CodeSlot; 8]>
     ensures { result ≡ slice_get SHAPES index }
 {
     get(&SHAPES, index)

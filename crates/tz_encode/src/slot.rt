@@ -33,7 +33,7 @@ pub enum Parts {
 
 /// Where a field lies and what it may be.
 #[derive(Clone, Copy)]
-pub struct Slot {
+pub struct CodeSlot {
     pub coding: Coding,
     pub limit: Limit,
     pub parts: Parts,

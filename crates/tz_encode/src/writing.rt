@@ -6,7 +6,7 @@ ghost use Rattle.tz_encode.specs.Slots.{parts_in, digit as digit_of, held_by as 
 
 use crate::allowed::limit_holds;
 use crate::numbers::{number_for, stands_for};
-use crate::slot::{Half, Part, Parts, Slot};
+use crate::slot::{CodeSlot, Half, Part, Parts};
 use crate::values::is_number;
 
 /// The bits of a number that a part holds.
@@ -96,7 +96,7 @@ fn put(half: Half, parts: Parts, number: u64) -> u16
 
 /// The number that stands for a value in a slot, if the slot takes the value beside those of the places
 /// before it.
-fn number_taken(slot: &Slot, earlier: &[i32], value: i32) -> Option<u64>
+fn number_taken(slot: &CodeSlot, earlier: &[i32], value: i32) -> Option<u64>
     requires { sound_parts (parts_in slot.now.parts) ≡ true }
     ensures { result ≡ (if takes_of slot.now earlier.now value then Some (number_for_of slot.now.coding earlier.now value) else None) }
 {
@@ -116,7 +116,7 @@ pub fn answer(
     form: u16,
     first: u16,
     second: u16,
-    slots: &[Slot; 8],
+    slots: &[CodeSlot; 8],
     values: &[i32; 9],
 ) -> Result<(u16, u16), usize>
     requires { sound slots.now ≡ true }

@@ -12,18 +12,18 @@ use Rattle.tz_regs.specs.declared.parts.Core.{Core}
 use Rattle.tz_state.specs.declared.slot.SlotState.{SlotState}
 use Rattle.tz_state.specs.declared.taken.Taken.{Taken}
 use Rattle.tz_state.specs.declared.taken.Taken.TheVariants.{AsIs, Hard, Lockup}
-use Rattle.tz_state.specs.Slots.{ExceptionsValue, idle, at, places, index_of, number_at, slot_at}
+use Rattle.tz_state.specs.Slots.{ExceptionsValue, idle, at, places, index_of, exception_number, slot_at}
 use Rattle.tz_state.specs.SlotChanges.{pended}
 use Rattle.tz_state.specs.Priority.{priority_of, subpriority_of, rank_of, is_ready, chosen_place, slot_found, chosen}
 use Rattle.tz_state.specs.Escalation.{hard_side, escalated}
 use Rattle.tz_nvic.proofs.Least.{least_found}
-use Rattle.tz_frames.specs.Looks.{Looking, Vector}
+use Rattle.tz_frames.specs.FrameAccess.{FrameAnswering, Vector}
 use Rattle.tz_frames.specs.declared.frame.StackFault.{StackFault}
 use Rattle.tz_frames.specs.declared.entering.Choice.{Choice}
 use Rattle.tz_frames.specs.declared.entering.Choice.TheVariants as choices
 use Rattle.tz_frames.specs.Status.{slot, with_status, frame_status, frame_exception, raised_as}
 use Rattle.tz_frames.specs.Stack.{Pushed, pushed_additional}
-use Rattle.tz_frames.specs.Enter.{Work, Chosen, Done, is_last_resort, vector_choice, vector_failed, vectored_by, vectored, looking_at, falls, fallen, callee_process, callee_privileged, stacked_by, taking, choosing_from, choosing, goes_on, tries}
+use Rattle.tz_frames.specs.Enter.{Work, Chosen, Done, is_last_resort, vector_choice, vector_failed, vectored_by, vectored, vector_touched, falls, fallen, callee_process, callee_privileged, stacked_by, taking, choosing_from, choosing, goes_on, tries}
 
 -- ---- slots
 
@@ -58,7 +58,7 @@ hard_pended e NonSecure h = inr (now_pending e 7 (omega (arith, h)))
 
 -- ---- what comes first where a HardFault pends
 
-rank_high : (e : ExceptionsValue) (i : ℕ) → (number_at i == 2) ≡ false → (number_at i == 3) ≡ false → 524288 ≤ rank_of e i
+rank_high : (e : ExceptionsValue) (i : ℕ) → (exception_number i == 2) ≡ false → (exception_number i == 3) ≡ false → 524288 ≤ rank_of e i
 unfolding rank_of priority_of
 rank_high e i p q = rw (p, q) (omega arith)
 
@@ -76,11 +76,11 @@ rank_nonsecure e = omega arith
 
 -- the place of NMI or of a HardFault
 abbrev IsLast : ℕ → Type 0
-IsLast i = (number_at i == 2 || number_at i == 3) ≡ true
+IsLast i = (exception_number i == 2 || exception_number i == 3) ≡ true
 
 low_is_last : (e : ExceptionsValue) (i : ℕ) → rank_of e i ≤ 393223 → IsLast i
-low_is_last e i h = go (number_at i == 2) (number_at i == 3) refl refl where
-  go : (t u : Bool) → (number_at i == 2) ≡ t → (number_at i == 3) ≡ u → (t || u) ≡ true
+low_is_last e i h = go (exception_number i == 2) (exception_number i == 3) refl refl where
+  go : (t u : Bool) → (exception_number i == 2) ≡ t → (exception_number i == 3) ≡ u → (t || u) ≡ true
   go true u p q = refl
   go false true p q = refl
   go false false p q = absurd (omega (arith, h, rank_high e i p q))
@@ -128,10 +128,10 @@ by_vector profile w given (Err fault) h again = record {
   skip = refl;
 }
 
-vectored_again : {H : Type 0} (look : Looking H) (profile : Profile) (w : Work H) (given : Slot) → Placed w.exceptions → Again (Harder w.entry.skip) (vectored look profile w given)
+vectored_again : {H : Type 0} (answering : FrameAnswering H) (profile : Profile) (w : Work H) (given : Slot) → Placed w.exceptions → Again (Harder w.entry.skip) (vectored answering profile w given)
 unfolding vectored
-vectored_again look profile w given h =
-    by_vector profile (record w { entry = looking_at w.entry given.side }) given (look w.held (Vector given.number given.side)).1 h
+vectored_again answering profile w given h =
+    by_vector profile (record w { entry = vector_touched w.entry given.side }) given (answering w.held (Vector given.number given.side)).1 h
 
 -- where it is NMI's or a HardFault's, the choice isn't made again
 ends_choice : (last taken : Bool) → last ≡ true → vector_choice (not last && taken) ≡ choices.Again → ⊥
@@ -143,10 +143,10 @@ unfolding vector_failed
 by_last profile w given (Ok vector) is again = absurd cc
 by_last profile w given (Err fault) is again = ends_choice (is_last_resort given) _ is again
 
-vectored_ends : {H : Type 0} (look : Looking H) (profile : Profile) (w : Work H) (given : Slot) → is_last_resort given ≡ true → (vectored look profile w given).choice ≡ choices.Again → ⊥
+vectored_ends : {H : Type 0} (answering : FrameAnswering H) (profile : Profile) (w : Work H) (given : Slot) → is_last_resort given ≡ true → (vectored answering profile w given).choice ≡ choices.Again → ⊥
 unfolding vectored
-vectored_ends look profile w given is =
-    by_last profile (record w { entry = looking_at w.entry given.side }) given (look w.held (Vector given.number given.side)).1 is
+vectored_ends answering profile w given is =
+    by_last profile (record w { entry = vector_touched w.entry given.side }) given (answering w.held (Vector given.number given.side)).1 is
 
 -- ---- a frame
 
@@ -160,28 +160,28 @@ raised_hardened AsIs given c e h = hardened_pended e given h
 raised_hardened (Hard side) given c e h = hardened_pended e (slot 3 side) h
 raised_hardened Lockup given c e h = h
 
-stacked_by_again : {H : Type 0} (look : Looking H) (profile : Profile) (w : Work H) (given : Slot) (faulted : Bool) (fault : Option StackFault) → Placed w.exceptions → Skips w
-    → Again (λ v. Placed v.exceptions × Skips v) (stacked_by look profile w given faulted fault)
-stacked_by_again look profile w given false (Some fault) h s again =
+stacked_by_again : {H : Type 0} (answering : FrameAnswering H) (profile : Profile) (w : Work H) (given : Slot) (faulted : Bool) (fault : Option StackFault) → Placed w.exceptions → Skips w
+    → Again (λ v. Placed v.exceptions × Skips v) (stacked_by answering profile w given faulted fault)
+stacked_by_again answering profile w given false (Some fault) h s again =
     let of = frame_exception w.exceptions Secure fault in
     let c = with_status w.core (frame_status true Secure fault w.core.status) in
     (raised_placed (escalated w.exceptions c.masks of) of c w.exceptions h, s)
-stacked_by_again look profile w given true (Some fault) h s again = let k = vectored_again look profile w given h again in (k.placed, k.skip ∙ s)
-stacked_by_again look profile w given faulted None h s again = let k = vectored_again look profile w given h again in (k.placed, k.skip ∙ s)
+stacked_by_again answering profile w given true (Some fault) h s again = let k = vectored_again answering profile w given h again in (k.placed, k.skip ∙ s)
+stacked_by_again answering profile w given faulted None h s again = let k = vectored_again answering profile w given h again in (k.placed, k.skip ∙ s)
 
 -- the choice is the last but for a frame that faults
 abbrev Ending : {H : Type 0} → Work H → Type 0
 Ending w = Placed w.exceptions × Hardened w.exceptions × Skips w
 
-stacked_by_last : {H : Type 0} (look : Looking H) (profile : Profile) (w : Work H) (given : Slot) (faulted : Bool) (fault : Option StackFault) → Placed w.exceptions → Hardened w.exceptions → Skips w
-    → is_last_resort given ≡ true → Again Ending (stacked_by look profile w given faulted fault)
-stacked_by_last look profile w given false (Some fault) h d s is again =
+stacked_by_last : {H : Type 0} (answering : FrameAnswering H) (profile : Profile) (w : Work H) (given : Slot) (faulted : Bool) (fault : Option StackFault) → Placed w.exceptions → Hardened w.exceptions → Skips w
+    → is_last_resort given ≡ true → Again Ending (stacked_by answering profile w given faulted fault)
+stacked_by_last answering profile w given false (Some fault) h d s is again =
     let of = frame_exception w.exceptions Secure fault in
     let c = with_status w.core (frame_status true Secure fault w.core.status) in
     let t = escalated w.exceptions c.masks of in
     (raised_placed t of c w.exceptions h, raised_hardened t of c w.exceptions d, s)
-stacked_by_last look profile w given true (Some fault) h d s is again = absurd (vectored_ends look profile w given is again)
-stacked_by_last look profile w given faulted None h d s is again = absurd (vectored_ends look profile w given is again)
+stacked_by_last answering profile w given true (Some fault) h d s is again = absurd (vectored_ends answering profile w given is again)
+stacked_by_last answering profile w given faulted None h d s is again = absurd (vectored_ends answering profile w given is again)
 
 -- ---- an exception
 
@@ -189,8 +189,8 @@ stacked_by_last look profile w given faulted None h d s is again = absurd (vecto
 abbrev Stacked : {H : Type 0} → Work H → Pushed H → Work H
 Stacked w p = record w { core = p.core; held = p.held; entry = fallen w.entry }
 
-abbrev pushed_by : {H : Type 0} → Looking H → Work H → Pushed H
-pushed_by look w = pushed_additional look w.core w.held (callee_process w.core w.entry) (callee_privileged w.core w.entry)
+abbrev pushed_by : {H : Type 0} → FrameAnswering H → Work H → Pushed H
+pushed_by answering w = pushed_additional answering w.core w.held (callee_process w.core w.entry) (callee_privileged w.core w.entry)
 
 -- without the additional frame
 abbrev unstacked : {H : Type 0} → Work H → Slot → Work H
@@ -205,38 +205,38 @@ no_frame false s e h = cc
 abbrev Second : {H : Type 0} → Work H → Type 0
 Second w = Placed w.exceptions × (Hardened w.exceptions ⊎ Skips w)
 
-taking_first : {H : Type 0} (look : Looking H) (profile : Profile) (w : Work H) (given : Slot) → Placed w.exceptions → Again Second (taking look profile w given)
+taking_first : {H : Type 0} (answering : FrameAnswering H) (profile : Profile) (w : Work H) (given : Slot) → Placed w.exceptions → Again Second (taking answering profile w given)
 unfolding taking
-taking_first look profile w given h =
-    let p = pushed_by look w in
+taking_first answering profile w given h =
+    let p = pushed_by answering w in
     again_cond Second (falls w.entry given && not w.entry.skip) _ _
-    (λ e again. let k = stacked_by_again look profile (Stacked w p) given w.entry.faulted p.fault h refl again in (k.0, inr k.1))
-    (λ e again. let k = vectored_again look profile (unstacked w given) given h again in (k.placed, inl k.hardened))
+    (λ e again. let k = stacked_by_again answering profile (Stacked w p) given w.entry.faulted p.fault h refl again in (k.0, inr k.1))
+    (λ e again. let k = vectored_again answering profile (unstacked w given) given h again in (k.placed, inl k.hardened))
 
-taking_framed : {H : Type 0} (look : Looking H) (profile : Profile) (w : Work H) (given : Slot) → Placed w.exceptions → Skips w → Again Ending (taking look profile w given)
+taking_framed : {H : Type 0} (answering : FrameAnswering H) (profile : Profile) (w : Work H) (given : Slot) → Placed w.exceptions → Skips w → Again Ending (taking answering profile w given)
 unfolding taking
-taking_framed look profile w given h s =
+taking_framed answering profile w given h s =
     again_cond Ending (falls w.entry given && not w.entry.skip) _ _
     (λ e again. absurd (no_frame (falls w.entry given) w.entry.skip s e))
-    (λ e again. let k = vectored_again look profile (unstacked w given) given h again in (k.placed, k.hardened, k.skip ∙ s))
+    (λ e again. let k = vectored_again answering profile (unstacked w given) given h again in (k.placed, k.hardened, k.skip ∙ s))
 
-taking_hard : {H : Type 0} (look : Looking H) (profile : Profile) (w : Work H) (given : Slot) → Placed w.exceptions → Hardened w.exceptions → is_last_resort given ≡ true → Again Ending (taking look profile w given)
+taking_hard : {H : Type 0} (answering : FrameAnswering H) (profile : Profile) (w : Work H) (given : Slot) → Placed w.exceptions → Hardened w.exceptions → is_last_resort given ≡ true → Again Ending (taking answering profile w given)
 unfolding taking
-taking_hard look profile w given h d is =
-    let p = pushed_by look w in
+taking_hard answering profile w given h d is =
+    let p = pushed_by answering w in
     again_cond Ending (falls w.entry given && not w.entry.skip) _ _
-    (λ e again. stacked_by_last look profile (Stacked w p) given w.entry.faulted p.fault h d refl is again)
-    (λ e again. absurd (vectored_ends look profile (unstacked w given) given is again))
+    (λ e again. stacked_by_last answering profile (Stacked w p) given w.entry.faulted p.fault h d refl is again)
+    (λ e again. absurd (vectored_ends answering profile (unstacked w given) given is again))
 
 abbrev Never : {H : Type 0} → Work H → Type 0
 Never w = ⊥
 
-taking_last : {H : Type 0} (look : Looking H) (profile : Profile) (w : Work H) (given : Slot) → Skips w → is_last_resort given ≡ true → Again Never (taking look profile w given)
+taking_last : {H : Type 0} (answering : FrameAnswering H) (profile : Profile) (w : Work H) (given : Slot) → Skips w → is_last_resort given ≡ true → Again Never (taking answering profile w given)
 unfolding taking
-taking_last look profile w given s is =
+taking_last answering profile w given s is =
     again_cond Never (falls w.entry given && not w.entry.skip) _ _
     (λ e again. no_frame (falls w.entry given) w.entry.skip s e)
-    (λ e again. vectored_ends look profile (unstacked w given) given is again)
+    (λ e again. vectored_ends answering profile (unstacked w given) given is again)
 
 -- ---- a choice
 
@@ -249,11 +249,11 @@ chosen_is_last e given d found = go (chosen_place e) refl found where
       subst (λ (s : Slot). is_last_resort s ≡ true) same (first_is_last e i d f)
 
 -- what is so after each exception that may be chosen is so after the choice
-choosing_again : {H : Type 0} (look : Looking H) (profile : Profile) (w : Work H) (P : Work H → Type 0) → ((given : Slot) → chosen w.exceptions ≡ Some given → Again P (taking look profile w given))
-    → Again P (choosing look profile w)
+choosing_again : {H : Type 0} (answering : FrameAnswering H) (profile : Profile) (w : Work H) (P : Work H → Type 0) → ((given : Slot) → chosen w.exceptions ≡ Some given → Again P (taking answering profile w given))
+    → Again P (choosing answering profile w)
 unfolding choosing
-choosing_again look profile w P each = go (chosen w.exceptions) refl where
-  go : (o : Option Slot) → chosen w.exceptions ≡ o → Again P (choosing_from look profile w o)
+choosing_again answering profile w P each = go (chosen w.exceptions) refl where
+  go : (o : Option Slot) → chosen w.exceptions ≡ o → Again P (choosing_from answering profile w o)
   go None f again = absurd cc
   go (Some given) f again = each given f again
 
@@ -264,31 +264,31 @@ same_on f g w (choices.Taken given) h = refl
 same_on f g w choices.Lockup h = refl
 same_on f g w choices.Again h = h refl
 
-one_is_enough : {H : Type 0} (look : Looking H) (profile : Profile) (n : ℕ) (w : Work H) → Ending w → tries look profile (suc n) w ≡ tries look profile 1 w
+one_is_enough : {H : Type 0} (answering : FrameAnswering H) (profile : Profile) (n : ℕ) (w : Work H) → Ending w → tries answering profile (suc n) w ≡ tries answering profile 1 w
 unfolding tries
-one_is_enough look profile n w (h, d, s) =
-    same_on (tries look profile n) (tries look profile 0) (choosing look profile w).work (choosing look profile w).choice
-    (λ again. absurd (choosing_again look profile w Never (λ given f. taking_last look profile w given s (chosen_is_last w.exceptions given d f)) again))
+one_is_enough answering profile n w (h, d, s) =
+    same_on (tries answering profile n) (tries answering profile 0) (choosing answering profile w).work (choosing answering profile w).choice
+    (λ again. absurd (choosing_again answering profile w Never (λ given f. taking_last answering profile w given s (chosen_is_last w.exceptions given d f)) again))
 
-second_ends : {H : Type 0} (look : Looking H) (profile : Profile) (w : Work H) → Second w → Again Ending (choosing look profile w)
-second_ends look profile w (h, inl d) = choosing_again look profile w Ending (λ given f. taking_hard look profile w given h d (chosen_is_last w.exceptions given d f))
-second_ends look profile w (h, inr s) = choosing_again look profile w Ending (λ given f. taking_framed look profile w given h s)
+second_ends : {H : Type 0} (answering : FrameAnswering H) (profile : Profile) (w : Work H) → Second w → Again Ending (choosing answering profile w)
+second_ends answering profile w (h, inl d) = choosing_again answering profile w Ending (λ given f. taking_hard answering profile w given h d (chosen_is_last w.exceptions given d f))
+second_ends answering profile w (h, inr s) = choosing_again answering profile w Ending (λ given f. taking_framed answering profile w given h s)
 
-two_are_enough : {H : Type 0} (look : Looking H) (profile : Profile) (n : ℕ) (w : Work H) → Second w → tries look profile (suc (suc n)) w ≡ tries look profile 2 w
+two_are_enough : {H : Type 0} (answering : FrameAnswering H) (profile : Profile) (n : ℕ) (w : Work H) → Second w → tries answering profile (suc (suc n)) w ≡ tries answering profile 2 w
 unfolding tries
-two_are_enough look profile n w h =
-    same_on (tries look profile (suc n)) (tries look profile 1) (choosing look profile w).work (choosing look profile w).choice
-    (λ again. one_is_enough look profile n (choosing look profile w).work (second_ends look profile w h again))
+two_are_enough answering profile n w h =
+    same_on (tries answering profile (suc n)) (tries answering profile 1) (choosing answering profile w).work (choosing answering profile w).choice
+    (λ again. one_is_enough answering profile n (choosing answering profile w).work (second_ends answering profile w h again))
 
-three_are_enough : {H : Type 0} (look : Looking H) (profile : Profile) (n : ℕ) (w : Work H) → Placed w.exceptions → tries look profile (suc (suc (suc n))) w ≡ tries look profile 3 w
+three_are_enough : {H : Type 0} (answering : FrameAnswering H) (profile : Profile) (n : ℕ) (w : Work H) → Placed w.exceptions → tries answering profile (suc (suc (suc n))) w ≡ tries answering profile 3 w
 unfolding tries
-three_are_enough look profile n w h =
-    same_on (tries look profile (suc (suc n))) (tries look profile 2) (choosing look profile w).work (choosing look profile w).choice
-    (λ again. two_are_enough look profile n (choosing look profile w).work
-    (choosing_again look profile w Second (λ given f. taking_first look profile w given h) again))
+three_are_enough answering profile n w h =
+    same_on (tries answering profile (suc (suc n))) (tries answering profile 2) (choosing answering profile w).work (choosing answering profile w).choice
+    (λ again. two_are_enough answering profile n (choosing answering profile w).work
+    (choosing_again answering profile w Second (λ given f. taking_first answering profile w given h) again))
 
-pub enough : {H : Type 0} (look : Looking H) (profile : Profile) (w : Work H) (n : ℕ) → length w.exceptions.slots ≡ places → 3 ≤ n → tries look profile n w ≡ tries look profile 4 w
-enough look profile w zero h l = absurd (omega (arith, l))
-enough look profile w (suc zero) h l = absurd (omega (arith, l))
-enough look profile w (suc (suc zero)) h l = absurd (omega (arith, l))
-enough look profile w (suc (suc (suc n))) h l = three_are_enough look profile n w h ∙ sym (three_are_enough look profile 1 w h)
+pub enough : {H : Type 0} (answering : FrameAnswering H) (profile : Profile) (w : Work H) (n : ℕ) → length w.exceptions.slots ≡ places → 3 ≤ n → tries answering profile n w ≡ tries answering profile 4 w
+enough answering profile w zero h l = absurd (omega (arith, l))
+enough answering profile w (suc zero) h l = absurd (omega (arith, l))
+enough answering profile w (suc (suc zero)) h l = absurd (omega (arith, l))
+enough answering profile w (suc (suc (suc n))) h l = three_are_enough answering profile n w h ∙ sym (three_are_enough answering profile 1 w h)

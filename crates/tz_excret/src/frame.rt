@@ -5,7 +5,7 @@ ghost use Rattle.tz_regs.specs.Special.{apsr_from};
 ghost use Rattle.tz_frames.specs.Registers.{number_in, general_of, resumed_registers};
 ghost use Rattle.tz_frames.specs.Leave.{has_callee, returns_to_process, returns_privileged, return_sp, unstacked, frames_size, sp_above, resumed, modes_agree};
 
-use crate::sides::side_by;
+use crate::sides::side_of_bit;
 use tz_frames::return_bits::{RETPSR_IT_HIGH, RETPSR_IT_LOW, RETPSR_SPREALIGN, RETPSR_T};
 use tz_frames::{Basic, Callee, Frames, Returning, Unstacked};
 use tz_regs::{Apsr, Core, Registers};
@@ -22,14 +22,14 @@ fn has_callee(returning: &Returning) -> bool
 fn returns_to_process(core: &Core, returning: &Returning) -> bool
     ensures { result ≡ returns_to_process core.now returning.now }
 {
-    returning.thread && core.stacks(side_by(returning.secure)).spsel
+    returning.thread && core.stacks(side_of_bit(returning.secure)).spsel
 }
 
 /// Whether they are read with privilege.
 fn returns_privileged(core: &Core, returning: &Returning) -> bool
     ensures { result ≡ returns_privileged core.now returning.now }
 {
-    !returning.thread || !core.stacks(side_by(returning.secure)).npriv
+    !returning.thread || !core.stacks(side_of_bit(returning.secure)).npriv
 }
 
 /// The stack pointer that the frames begin at.
@@ -37,7 +37,7 @@ fn return_sp(core: &Core, returning: &Returning) -> u32
     ensures { result ≡ return_sp core.now returning.now }
 {
     core.sp(
-        side_by(returning.secure),
+        side_of_bit(returning.secure),
         returns_to_process(core, returning),
     )
 }
@@ -57,7 +57,7 @@ pub(crate) fn unstack<P: Frames>(
     ensures room { P.room port.new ≡ P.room port.old }
     ensures lent { P.lent port.new ≡ P.lent port.old }
 {
-    let side = side_by(returning.secure);
+    let side = side_of_bit(returning.secure);
     let privileged = returns_privileged(core, returning);
     let mut sp = return_sp(core, returning);
     let mut callee = None;
@@ -136,7 +136,7 @@ fn sp_above(sp: u32, unstacked: &Unstacked) -> u32
 pub(crate) fn resume(core: &mut Core, returning: &Returning, unstacked: &Unstacked)
     ensures { core.new ≡ resumed returning.now unstacked.now core.old }
 {
-    let side = side_by(returning.secure);
+    let side = side_of_bit(returning.secure);
     let process = returns_to_process(core, returning);
     let above = sp_above(return_sp(core, returning), unstacked);
     set_side_sp(core, side, process, above);

@@ -6,13 +6,13 @@ ghost use Rattle.tz_frames.specs.Enter.{with_lock};
 ghost use Rattle.tz_excret.specs.Lent.{left_by, SameLoans};
 ghost use Rattle.tz_frames.specs.Leave.{left_of, chaining, chained, chained_raised, resumes, goes_back, leaves_noting, leaves, unstacked};
 
-use crate::choice::takes;
+use crate::choice::takes_first_uncounted;
 use crate::choices::{CHOICES, make_choices};
+use crate::exc_return::{exc_return_fault, returning_by, slot_returning};
 use crate::frame::{modes_agree, resume, unstack};
-use crate::noted::{noted, returning_by, slot_returning};
 use crate::raise::{raise_fault_of, raise_frame_fault};
 use crate::release::{free, unhandle};
-use crate::sides::side_by;
+use crate::sides::side_of_bit;
 use crate::work::Work;
 use tz_frames::{Entered, Entering, Frames, Left, Returning, Unstacked};
 use tz_model::{Fault, Profile, Side};
@@ -91,7 +91,7 @@ fn resume_by<P: Frames>(
     ensures lent { P.lent work.new.port.now ≡ P.lent work.old.port.now }
 {
     let touched = returning.secure;
-    let side = side_by(returning.secure);
+    let side = side_of_bit(returning.secure);
     let locks = match frames {
         Err(fault) => raise_frame_fault(work.core, work.exceptions, false, side, *fault),
         Ok(unstacked) => {
@@ -114,7 +114,7 @@ fn go_back<P: Frames>(work: &mut Work<'_, P>, returning: &Returning) -> Left
     ensures room { P.room work.old.port.now ≤ P.room work.new.port.now + 10 }
     ensures lent { P.lent work.new.port.now ≡ P.lent work.old.port.now }
 {
-    if takes(work.core, work.exceptions) {
+    if takes_first_uncounted(work.core, work.exceptions) {
         return chain(work, returning, false);
     }
     let frames = unstack(work.core, work.port, returning);
@@ -126,7 +126,7 @@ fn leave_noting<P: Frames>(
     work: &mut Work<'_, P>,
     returning: &Returning,
     side: Side,
-    noted: Option<Fault>,
+    exc_return_fault: Option<Fault>,
 ) -> Left
     requires { 10 ≤ P.room work.old.port.now }
     ensures does { leaves_noting P.answer work.old.profile side noted returning.now work.old.core.now work.old.exceptions.now (P.held work.old.port.now) ≡ left_by P.held work.new result }
@@ -134,7 +134,7 @@ fn leave_noting<P: Frames>(
     ensures room { P.room work.old.port.now ≤ P.room work.new.port.now + 10 }
     ensures lent { P.lent work.new.port.now ≡ P.lent work.old.port.now }
 {
-    match noted {
+    match exc_return_fault {
         Some(fault) => {
             let locks = raise_fault_of(work.core, work.exceptions, side, fault);
             chain_raised(work, returning, false, locks)
@@ -168,7 +168,7 @@ pub fn leave<P: Frames>(
 {
     let side = core.run.side;
     let returning = returning_by(side, value);
-    let noted = noted(core, exceptions, value);
+    let exc_return_fault = exc_return_fault(core, exceptions, value);
     let slot = slot_returning(core, &returning);
     unhandle(core, exceptions, &returning);
     free(exceptions, slot);
@@ -178,5 +178,5 @@ pub fn leave<P: Frames>(
         port,
         profile,
     };
-    leave_noting(&mut work, &returning, side, noted)
+    leave_noting(&mut work, &returning, side, exc_return_fault)
 }

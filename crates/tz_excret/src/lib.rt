@@ -14,9 +14,9 @@ mod choice;
 mod choices;
 mod effect;
 mod entering;
+mod exc_return;
 mod frame;
 mod leaving;
-mod noted;
 mod raise;
 mod release;
 mod sides;
@@ -24,10 +24,10 @@ mod status;
 mod vector;
 mod work;
 
-pub use choice::takes;
+pub use choice::takes_first_uncounted;
 pub use entering::enter;
+pub use exc_return::is_exc_return;
 pub use leaving::leave;
-pub use noted::is_exc_return;
 pub use raise::raise_fault;
 pub use tz_frames::{Entered, Left};
 

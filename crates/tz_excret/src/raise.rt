@@ -12,9 +12,7 @@ use tz_nvic::Exceptions;
 use tz_prio::{Taken, escalate, hard_side};
 use tz_regs::Core;
 use tz_regs::fault_bits::FORCED;
-use tz_state::exception::{
-    BUS_FAULT, HARD_FAULT, MEM_MANAGE, SECURE_FAULT, SV_CALL, USAGE_FAULT,
-};
+use tz_state::exception::{BUS_FAULT, HARD_FAULT, MEM_MANAGE, SECURE_FAULT, SV_CALL, USAGE_FAULT};
 
 /// The slot of an exception of a side. HardFault is of the side that BFHFNMINS gives it.
 fn exception_slot(exceptions: &Exceptions, side: Side, exception: FaultException) -> Slot

@@ -5,7 +5,7 @@ ghost use Rattle.tz_state.specs.Slots.{exists};
 ghost use Rattle.tz_state.specs.Execution.{raw_priority};
 ghost use Rattle.tz_frames.specs.Leave.{is_urgent, urgent_slot, freed, keeps_faultmask, unmasked, unhandled};
 
-use crate::sides::{set_spsel, side_by};
+use crate::sides::{set_spsel, side_of_bit};
 use tz_frames::Returning;
 use tz_model::{Side, Slot};
 use tz_nvic::Exceptions;
@@ -82,7 +82,7 @@ fn unmask(masks: &mut Masks, keeps: bool, side: Side)
 pub(crate) fn unhandle(core: &mut Core, exceptions: &Exceptions, returning: &Returning)
     ensures { core.new ≡ unhandled exceptions.now returning.now core.old }
 {
-    let side = side_by(returning.es);
+    let side = side_of_bit(returning.es);
     let keeps = keeps_faultmask(core, exceptions);
     unmask(&mut core.masks, keeps, side);
     set_spsel(core, side, returning.process);

@@ -3,7 +3,7 @@
 ghost use Rattle.std.specs.Prelude.{◌≡◌};
 ghost use Rattle.tz_regs.specs.Banks.{stacks_of, with_stacks};
 ghost use Rattle.tz_frames.specs.Enter.{is_secure};
-ghost use Rattle.tz_frames.specs.Leave.{side_by};
+ghost use Rattle.tz_frames.specs.Leave.{side_of_bit};
 
 use tz_model::Side;
 use tz_regs::Core;
@@ -19,8 +19,8 @@ pub(crate) fn is_secure(side: Side) -> bool
 }
 
 /// The side that a bit of an EXC_RETURN value tells.
-pub(crate) fn side_by(secure: bool) -> Side
-    ensures { result ≡ side_by secure }
+pub(crate) fn side_of_bit(secure: bool) -> Side
+    ensures { result ≡ side_of_bit secure }
 {
     if secure {
         Side::Secure

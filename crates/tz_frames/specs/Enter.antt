@@ -20,7 +20,7 @@ use Rattle.tz_state.specs.Priority.{hard_priority, chosen}
 use Rattle.tz_state.specs.Execution.{execution}
 use Rattle.tz_state.specs.Escalation.{hard_side}
 use Rattle.tz_frames.specs.ReturnBits.{exc_return_ones, exc_return_spsel, exc_return_mode, exc_return_ftype, exc_return_dcrs, exc_return_s}
-use Rattle.tz_frames.specs.Looks.{Looking, Vector}
+use Rattle.tz_frames.specs.FrameAccess.{FrameAnswering, Vector}
 use Rattle.tz_frames.specs.declared.frame.StackFault.{StackFault}
 use Rattle.tz_frames.specs.declared.entering.Entering.{Entering}
 use Rattle.tz_frames.specs.declared.entering.Choice.{Choice}
@@ -105,13 +105,13 @@ vectored_by profile w given (Ok vector) =
     }
 vectored_by profile w given (Err fault) = vector_failed w given
 
--- the vector of a Secure exception is a look at Secure state
-abbrev pub looking_at : Entering → Side → Entering
-looking_at x side = record x { touched = is_secure side || x.touched }
+-- an entry that reads the vector of an exception of this side; that of a Secure one touches Secure state
+abbrev pub vector_touched : Entering → Side → Entering
+vector_touched x side = record x { touched = is_secure side || x.touched }
 
-unfoldable pub vectored : {H : Type 0} → Looking H → Profile → Work H → Slot → Chosen H
-vectored look profile w given =
-    vectored_by profile (record w { entry = looking_at w.entry given.side }) given (look w.held (Vector given.number given.side)).1
+unfoldable pub vectored : {H : Type 0} → FrameAnswering H → Profile → Work H → Slot → Chosen H
+vectored answering profile w given =
+    vectored_by profile (record w { entry = vector_touched w.entry given.side }) given (answering w.held (Vector given.number given.side)).1
 
 -- ---- the additional frame
 
@@ -138,33 +138,33 @@ after_raise h x r =
     }
 
 -- only the first frame that faults counts
-abbrev pub stacked_by : {H : Type 0} → Looking H → Profile → Work H → Slot → Bool → Option StackFault → Chosen H
-stacked_by look profile w given false (Some fault) = after_raise w.held w.entry (frame_faulted true Secure fault w.core w.exceptions)
-stacked_by look profile w given true (Some fault) = vectored look profile w given
-stacked_by look profile w given faulted None = vectored look profile w given
+abbrev pub stacked_by : {H : Type 0} → FrameAnswering H → Profile → Work H → Slot → Bool → Option StackFault → Chosen H
+stacked_by answering profile w given false (Some fault) = after_raise w.held w.entry (frame_faulted true Secure fault w.core w.exceptions)
+stacked_by answering profile w given true (Some fault) = vectored answering profile w given
+stacked_by answering profile w given faulted None = vectored answering profile w given
 
 abbrev pub fallen : Entering → Entering
 fallen x = record x { skip = true; fell = true }
 
-abbrev pub stacked : {H : Type 0} → Looking H → Profile → Work H → Slot → Pushed H → Chosen H
-stacked look profile w given p =
-    stacked_by look profile (record w { core = p.core; held = p.held; entry = fallen w.entry }) given w.entry.faulted p.fault
+abbrev pub stacked : {H : Type 0} → FrameAnswering H → Profile → Work H → Slot → Pushed H → Chosen H
+stacked answering profile w given p =
+    stacked_by answering profile (record w { core = p.core; held = p.held; entry = fallen w.entry }) given w.entry.faulted p.fault
 
 -- ---- one choice
 
-unfoldable pub taking : {H : Type 0} → Looking H → Profile → Work H → Slot → Chosen H
-taking look profile w given =
+unfoldable pub taking : {H : Type 0} → FrameAnswering H → Profile → Work H → Slot → Chosen H
+taking answering profile w given =
     if falls w.entry given && not w.entry.skip
-    then stacked look profile w given (pushed_additional look w.core w.held (callee_process w.core w.entry) (callee_privileged w.core w.entry))
-    else vectored look profile (record w { entry = record w.entry { fell = w.entry.fell || falls w.entry given } }) given
+    then stacked answering profile w given (pushed_additional answering w.core w.held (callee_process w.core w.entry) (callee_privileged w.core w.entry))
+    else vectored answering profile (record w { entry = record w.entry { fell = w.entry.fell || falls w.entry given } }) given
 
-abbrev pub choosing_from : {H : Type 0} → Looking H → Profile → Work H → Option Slot → Chosen H
-choosing_from look profile w None = record { work = w; choice = choices.Lockup }
-choosing_from look profile w (Some given) = taking look profile w given
+abbrev pub choosing_from : {H : Type 0} → FrameAnswering H → Profile → Work H → Option Slot → Chosen H
+choosing_from answering profile w None = record { work = w; choice = choices.Lockup }
+choosing_from answering profile w (Some given) = taking answering profile w given
 
 -- the exception that comes first is taken
-unfoldable pub choosing : {H : Type 0} → Looking H → Profile → Work H → Chosen H
-choosing look profile w = choosing_from look profile w (chosen w.exceptions)
+unfoldable pub choosing : {H : Type 0} → FrameAnswering H → Profile → Work H → Chosen H
+choosing answering profile w = choosing_from answering profile w (chosen w.exceptions)
 
 -- ---- the choices of an entry
 
@@ -188,13 +188,13 @@ goes_on again w choices.Lockup = locked_up w
 goes_on again w choices.Again = again w
 
 -- at most so many choices
-unfoldable pub tries : {H : Type 0} → Looking H → Profile → ℕ → Work H → Done H
-tries look profile zero w = locked_up w
-tries look profile (suc n) w = goes_on (tries look profile n) (choosing look profile w).work (choosing look profile w).choice
+unfoldable pub tries : {H : Type 0} → FrameAnswering H → Profile → ℕ → Work H → Done H
+tries answering profile zero w = locked_up w
+tries answering profile (suc n) w = goes_on (tries answering profile n) (choosing answering profile w).work (choosing answering profile w).choice
 
 -- one frame can fault, and one vector that isn't NMI's or HardFault's, so that a fourth choice is never made
-abbrev pub chooses : {H : Type 0} → Looking H → Profile → Work H → Done H
-chooses look profile w = tries look profile 4 w
+abbrev pub chooses : {H : Type 0} → FrameAnswering H → Profile → Work H → Done H
+chooses answering profile w = tries answering profile 4 w
 
 -- ---- entry from running code
 
@@ -211,18 +211,18 @@ interrupted c =
     }
 
 -- a fault of the basic frame pends before the first choice
-abbrev pub begins_raised : {H : Type 0} → Looking H → Profile → H → Entering → Raised → Done H
-begins_raised look profile h x r =
+abbrev pub begins_raised : {H : Type 0} → FrameAnswering H → Profile → H → Entering → Raised → Done H
+begins_raised answering profile h x r =
     if r.locks then locked_up (record { core = r.core; exceptions = r.exceptions; held = h; entry = record x { faulted = true } })
-    else chooses look profile (record { core = r.core; exceptions = r.exceptions; held = h; entry = record x { faulted = true } })
+    else chooses answering profile (record { core = r.core; exceptions = r.exceptions; held = h; entry = record x { faulted = true } })
 
-abbrev pub begins : {H : Type 0} → Looking H → Profile → Side → ExceptionsValue → Entering → Core → H → Option StackFault → Done H
-begins look profile side e x c h None = chooses look profile (record { core = c; exceptions = e; held = h; entry = x })
-begins look profile side e x c h (Some fault) = begins_raised look profile h x (frame_faulted true side fault c e)
+abbrev pub begins : {H : Type 0} → FrameAnswering H → Profile → Side → ExceptionsValue → Entering → Core → H → Option StackFault → Done H
+begins answering profile side e x c h None = chooses answering profile (record { core = c; exceptions = e; held = h; entry = x })
+begins answering profile side e x c h (Some fault) = begins_raised answering profile h x (frame_faulted true side fault c e)
 
-abbrev pub after_basic : {H : Type 0} → Looking H → Profile → Side → ExceptionsValue → Entering → Pushed H → Done H
-after_basic look profile side e x p = begins look profile side e x p.core p.held p.fault
+abbrev pub after_basic : {H : Type 0} → FrameAnswering H → Profile → Side → ExceptionsValue → Entering → Pushed H → Done H
+after_basic answering profile side e x p = begins answering profile side e x p.core p.held p.fault
 
 -- the code that runs is interrupted, and goes on at `back` later
-unfoldable pub enters : {H : Type 0} → Looking H → Profile → Core → ExceptionsValue → H → ℕ → Done H
-enters look profile c e h back = after_basic look profile c.run.side e (interrupted c) (pushed_basic look c h back)
+unfoldable pub enters : {H : Type 0} → FrameAnswering H → Profile → Core → ExceptionsValue → H → ℕ → Done H
+enters answering profile c e h back = after_basic answering profile c.run.side e (interrupted c) (pushed_basic answering c h back)

@@ -8,8 +8,8 @@ use Rattle.tz_model.specs.declared.report.Fault.TheVariants.{StackLimit, InvPc}
 use Rattle.tz_model.specs.Ports.{Access, Store, Answering, answers}
 use Rattle.tz_model.specs.Words.{wrap, even_of}
 use Rattle.tz_regs.specs.declared.parts.Core.{Core}
-use Rattle.tz_regs.specs.Registers.{is_handler, pointer_of, limit_of, with_pointer}
-use Rattle.tz_frames.specs.Looks.{Looking, SecureLoad}
+use Rattle.tz_regs.specs.Registers.{is_handler, pointer_of, pointer_limit_of, with_pointer}
+use Rattle.tz_frames.specs.FrameAccess.{FrameAnswering, SecureLoad}
 
 -- ---- SG and BXNS
 
@@ -77,7 +77,7 @@ after_call c target (h, Err fault) = record { core = c; held = h; outcome = Err 
 -- the stack pointer isn't moved below its limit
 abbrev pub calls_ns : {H : Type 0} → Answering H → Core → H → ℕ → ℕ → Called H
 calls_ns one c h target next =
-    if nat_lt (call_base c) (limit_of c.registers.ipsr c.stacks_s) then record { core = c; held = h; outcome = Err (StackLimit Secure) }
+    if nat_lt (call_base c) (pointer_limit_of c.registers.ipsr c.stacks_s) then record { core = c; held = h; outcome = Err (StackLimit Secure) }
     else after_call c target (answers one h (call_stores c next))
 
 -- ---- FNC_RETURN
@@ -112,6 +112,6 @@ after_first c (Ok back) second = after_second c back second
 after_first c (Err fault) second = Err fault
 
 -- the core that returned, or the fault
-abbrev pub function_returned : {H : Type 0} → Looking H → Core → H → Result Core Fault
-function_returned look c h =
-    after_first c (look h (SecureLoad (return_base c))).1 (look h (SecureLoad (wrap (return_base c + 4)))).1
+abbrev pub function_returned : {H : Type 0} → FrameAnswering H → Core → H → Result Core Fault
+function_returned answering c h =
+    after_first c (answering h (SecureLoad (return_base c))).1 (answering h (SecureLoad (wrap (return_base c + 4)))).1

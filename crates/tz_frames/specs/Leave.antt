@@ -19,7 +19,7 @@ use Rattle.tz_state.specs.SlotChanges.{deactivated}
 use Rattle.tz_state.specs.Priority.{zero_priority, nmi_priority, secure_hard_fault_priority}
 use Rattle.tz_state.specs.Execution.{raw_priority, takes_first}
 use Rattle.tz_frames.specs.ReturnBits.{exc_return_es, exc_return_spsel, exc_return_mode, exc_return_ftype, exc_return_dcrs, exc_return_s, exc_return_prefix, retpsr_sprealign}
-use Rattle.tz_frames.specs.Looks.{Looking}
+use Rattle.tz_frames.specs.FrameAccess.{FrameAnswering}
 use Rattle.tz_frames.specs.declared.frame.StackFault.{StackFault}
 use Rattle.tz_frames.specs.declared.frame.Basic.{Basic}
 use Rattle.tz_frames.specs.declared.frame.Callee.{Callee}
@@ -54,12 +54,13 @@ returning_by side value =
       secure = is_set value exc_return_s;
     }
 
-abbrev pub side_by : Bool → Side
-side_by secure = if secure then Secure else NonSecure
+-- the side that a bit of the value names: ES or S
+abbrev pub side_of_bit : Bool → Side
+side_of_bit secure = if secure then Secure else NonSecure
 
 -- the exception that returns
 abbrev pub slot_returning : Core → Returning → Slot
-slot_returning c r = slot c.registers.ipsr (side_by r.es)
+slot_returning c r = slot c.registers.ipsr (side_of_bit r.es)
 
 -- ---- what is wrong with it
 
@@ -81,9 +82,9 @@ abbrev pub is_returnable : ExceptionsValue → Slot → Bool
 is_returnable e given =
     exists e given && ((at e (index_of given)).active && (is_banked given.number || is_side given.side (side_at e (index_of given))))
 
--- the fault that is noted, where there is one
-abbrev pub noted : Core → ExceptionsValue → ℕ → Option Fault
-noted c e value =
+-- the fault of an EXC_RETURN value, where it has one (DDI0553, `ValidateExceptionReturn`)
+abbrev pub exc_return_fault : Core → ExceptionsValue → ℕ → Option Fault
+exc_return_fault c e value =
     if not (is_well_formed value) then Some (InvPc c.run.side)
     else if is_forged c.run.side value then Some ExcReturn
     else if not (is_returnable e (slot_returning c (returning_by c.run.side value))) then Some (InvPc c.run.side)
@@ -120,8 +121,8 @@ unmasked keeps side m = with_masks side m (record (masks_of side m) { faultmask 
 -- and its CONTROL.SPSEL is that of the value
 abbrev pub unhandled : ExceptionsValue → Returning → Core → Core
 unhandled e r c =
-    record (with_stacks (side_by r.es) c (record (stacks_of (side_by r.es) c) { spsel = r.process })) {
-      masks = unmasked (keeps_faultmask c e) (side_by r.es) c.masks;
+    record (with_stacks (side_of_bit r.es) c (record (stacks_of (side_of_bit r.es) c) { spsel = r.process })) {
+      masks = unmasked (keeps_faultmask c e) (side_of_bit r.es) c.masks;
     }
 
 -- ---- a tail-chain
@@ -154,15 +155,15 @@ left_of (entered.Lockup touched) = lefts.Lockup touched
 abbrev pub leaving_by : {H : Type 0} → Done H → Leaving H
 leaving_by d = record { core = d.core; exceptions = d.exceptions; held = d.held; result = left_of d.result }
 
-unfoldable pub chained : {H : Type 0} → Looking H → Profile → Returning → Bool → Core → ExceptionsValue → H → Leaving H
-chained look profile r touched c e h =
-    leaving_by (chooses look profile (record { core = c; exceptions = e; held = h; entry = chaining r touched }))
+unfoldable pub chained : {H : Type 0} → FrameAnswering H → Profile → Returning → Bool → Core → ExceptionsValue → H → Leaving H
+chained answering profile r touched c e h =
+    leaving_by (chooses answering profile (record { core = c; exceptions = e; held = h; entry = chaining r touched }))
 
 -- a fault pends and is entered
-abbrev pub chained_raised : {H : Type 0} → Looking H → Profile → Returning → Bool → H → Raised → Leaving H
-chained_raised look profile r touched h raised =
+abbrev pub chained_raised : {H : Type 0} → FrameAnswering H → Profile → Returning → Bool → H → Raised → Leaving H
+chained_raised answering profile r touched h raised =
     if raised.locks then record { core = with_lock raised.core; exceptions = raised.exceptions; held = h; result = lefts.Lockup touched }
-    else chained look profile r touched raised.core raised.exceptions h
+    else chained answering profile r touched raised.core raised.exceptions h
 
 -- ---- the frames
 
@@ -171,13 +172,13 @@ abbrev pub has_callee : Returning → Bool
 has_callee r = r.secure && (not r.es || not r.dcrs)
 
 abbrev pub returns_to_process : Core → Returning → Bool
-returns_to_process c r = r.thread && (stacks_of (side_by r.secure) c).spsel
+returns_to_process c r = r.thread && (stacks_of (side_of_bit r.secure) c).spsel
 
 abbrev pub returns_privileged : Core → Returning → Bool
-returns_privileged c r = not r.thread || not (stacks_of (side_by r.secure) c).npriv
+returns_privileged c r = not r.thread || not (stacks_of (side_of_bit r.secure) c).npriv
 
 abbrev pub return_sp : Core → Returning → ℕ
-return_sp c r = sp_of (returns_to_process c r) (stacks_of (side_by r.secure) c)
+return_sp c r = sp_of (returns_to_process c r) (stacks_of (side_of_bit r.secure) c)
 
 abbrev pub with_basic : Option Callee → Result Basic StackFault → Result Unstacked StackFault
 with_basic callee (Ok basic) = Ok (record { callee = callee; basic = basic })
@@ -188,12 +189,12 @@ with_callee (Ok callee) basic = with_basic (Some callee) basic
 with_callee (Err fault) basic = Err fault
 
 -- the additional frame first, and the basic frame above it
-unfoldable pub unstacked : {H : Type 0} → Looking H → Core → Returning → H → Result Unstacked StackFault
-unstacked look c r h =
+unfoldable pub unstacked : {H : Type 0} → FrameAnswering H → Core → Returning → H → Result Unstacked StackFault
+unstacked answering c r h =
     if has_callee r
-    then with_callee (popped_additional look h (return_sp c r) (returns_privileged c r))
-    (popped_basic look h (wrap (return_sp c r + 40)) (side_by r.secure) (returns_privileged c r))
-    else with_basic None (popped_basic look h (return_sp c r) (side_by r.secure) (returns_privileged c r))
+    then with_callee (popped_additional answering h (return_sp c r) (returns_privileged c r))
+    (popped_basic answering h (wrap (return_sp c r + 40)) (side_of_bit r.secure) (returns_privileged c r))
+    else with_basic None (popped_basic answering h (return_sp c r) (side_of_bit r.secure) (returns_privileged c r))
 
 abbrev pub frames_size : Option Callee → ℕ
 frames_size None = 32
@@ -205,8 +206,8 @@ sp_above sp u = wrap (sp + frames_size u.callee + 4 * (u.basic.retpsr / 2 ^ retp
 
 abbrev pub resumed : Returning → Unstacked → Core → Core
 resumed r u c =
-    record (with_side_sp (side_by r.secure) (returns_to_process c r) (sp_above (return_sp c r) u) c) {
-      run = record c.run { side = side_by r.secure };
+    record (with_side_sp (side_of_bit r.secure) (returns_to_process c r) (sp_above (return_sp c r) u) c) {
+      run = record c.run { side = side_of_bit r.secure };
       registers = resumed_registers c.registers u.callee u.basic;
       event = true;
     }
@@ -215,27 +216,27 @@ resumed r u c =
 abbrev pub modes_agree : Returning → Basic → Bool
 modes_agree r b = if r.thread then number_in b.retpsr == 0 else not (number_in b.retpsr == 0)
 
-abbrev pub resumes : {H : Type 0} → Looking H → Profile → Returning → Core → ExceptionsValue → H → Result Unstacked StackFault → Leaving H
-resumes look profile r c e h (Err fault) = chained_raised look profile r r.secure h (frame_faulted false (side_by r.secure) fault c e)
-resumes look profile r c e h (Ok u) =
+abbrev pub resumes : {H : Type 0} → FrameAnswering H → Profile → Returning → Core → ExceptionsValue → H → Result Unstacked StackFault → Leaving H
+resumes answering profile r c e h (Err fault) = chained_raised answering profile r r.secure h (frame_faulted false (side_of_bit r.secure) fault c e)
+resumes answering profile r c e h (Ok u) =
     if modes_agree r u.basic then record { core = resumed r u c; exceptions = e; held = h; result = lefts.Resumed r.secure }
-    else chained_raised look profile r r.secure h (faulted (side_by r.secure) (InvPc (side_by r.secure)) c e)
+    else chained_raised answering profile r r.secure h (faulted (side_of_bit r.secure) (InvPc (side_of_bit r.secure)) c e)
 
 -- ---- all of it
 
 -- another exception that can be taken comes first
-unfoldable pub goes_back : {H : Type 0} → Looking H → Profile → Returning → Core → ExceptionsValue → H → Leaving H
-goes_back look profile r c e h =
-    if takes_first e c.masks then chained look profile r false c e h else resumes look profile r c e h (unstacked look c r h)
+unfoldable pub goes_back : {H : Type 0} → FrameAnswering H → Profile → Returning → Core → ExceptionsValue → H → Leaving H
+goes_back answering profile r c e h =
+    if takes_first e c.masks then chained answering profile r false c e h else resumes answering profile r c e h (unstacked answering c r h)
 
-abbrev pub leaves_noting : {H : Type 0} → Looking H → Profile → Side → Option Fault → Returning → Core → ExceptionsValue → H → Leaving H
-leaves_noting look profile side (Some fault) r c e h = chained_raised look profile r false h (faulted side fault c e)
-leaves_noting look profile side None r c e h = goes_back look profile r c e h
+abbrev pub leaves_noting : {H : Type 0} → FrameAnswering H → Profile → Side → Option Fault → Returning → Core → ExceptionsValue → H → Leaving H
+leaves_noting answering profile side (Some fault) r c e h = chained_raised answering profile r false h (faulted side fault c e)
+leaves_noting answering profile side None r c e h = goes_back answering profile r c e h
 
-abbrev pub leaves_as : {H : Type 0} → Looking H → Profile → ℕ → Returning → Core → ExceptionsValue → H → Leaving H
-leaves_as look profile value r c e h =
-    leaves_noting look profile c.run.side (noted c e value) r (unhandled e r c) (freed e (slot_returning c r)) h
+abbrev pub leaves_as : {H : Type 0} → FrameAnswering H → Profile → ℕ → Returning → Core → ExceptionsValue → H → Leaving H
+leaves_as answering profile value r c e h =
+    leaves_noting answering profile c.run.side (exc_return_fault c e value) r (unhandled e r c) (freed e (slot_returning c r)) h
 
 -- the exception that runs returns by a value
-unfoldable pub leaves : {H : Type 0} → Looking H → Profile → Core → ExceptionsValue → H → ℕ → Leaving H
-leaves look profile c e h value = leaves_as look profile value (returning_by c.run.side value) c e h
+unfoldable pub leaves : {H : Type 0} → FrameAnswering H → Profile → Core → ExceptionsValue → H → ℕ → Leaving H
+leaves answering profile c e h value = leaves_as answering profile value (returning_by c.run.side value) c e h

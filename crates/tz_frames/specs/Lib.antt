@@ -1,5 +1,5 @@
 pub mod ReturnBits
-pub mod Looks
+pub mod FrameAccess
 pub mod Machine
 pub mod FaultTable
 pub mod Status

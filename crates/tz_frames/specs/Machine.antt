@@ -1,4 +1,4 @@
--- How the machine answers looks at frames and vectors (DDI0553, `PushStack`, `PopStack`, `Vector`).
+-- How the machine answers accesses of frames and vectors (DDI0553, `PushStack`, `PopStack`, `Vector`).
 use Rattle.std.specs.Prelude.{ℕ, ◌+◌, ◌*◌, Bool, true, false, not, if◌then◌else◌, Option, Some, None, Result, Ok, Err}
 use Rattle.tz_table.specs.declared.units.Side.{Side}
 use Rattle.tz_table.specs.declared.units.Side.TheVariants.{Secure}
@@ -13,7 +13,7 @@ use Rattle.tz_state.specs.declared.request.Kind.TheVariants.{Read, Write}
 use Rattle.tz_state.specs.Memory.{every, word_at, with_word}
 use Rattle.tz_state.specs.Access.{may_touch, is_mapped, is_private, verdict, request_by}
 use Rattle.tz_state.specs.State.{Bus, map_in, with_memory}
-use Rattle.tz_frames.specs.Looks.{Looking, Vector, SecureLoad, FrameLoad, FrameStore}
+use Rattle.tz_frames.specs.FrameAccess.{FrameAnswering, Vector, SecureLoad, FrameLoad, FrameStore}
 
 -- what they see and change: the bus, the vector tables of both sides, the privilege of Secure code, and whether
 -- the execution priority is negative
@@ -51,16 +51,16 @@ vector_verdict b side addr =
 
 -- ---- answers
 
-abbrev pub looked : Option Fault → Framed → ℕ → Framed × Result ℕ Fault
-looked (Some fault) f addr = (f, Err fault)
-looked None f addr = (f, Ok (word_at f.bus.memory addr))
+abbrev pub framed_read : Option Fault → Framed → ℕ → Framed × Result ℕ Fault
+framed_read (Some fault) f addr = (f, Err fault)
+framed_read None f addr = (f, Ok (word_at f.bus.memory addr))
 
 abbrev pub framed_write : Option Fault → Framed → ℕ → ℕ → Framed × Result ℕ Fault
 framed_write (Some fault) f addr value = (f, Err fault)
 framed_write None f addr value = (record f { bus = with_memory f.bus (with_word f.bus.memory addr value) }, Ok 0)
 
-abbrev pub framed : Looking Framed
-framed f (Vector number side) = looked (vector_verdict f.bus side (vector_at f number side)) f (vector_at f number side)
-framed f (SecureLoad addr) = looked (frame_verdict f Read addr Secure f.secure_privileged) f addr
-framed f (FrameLoad addr side privileged) = looked (frame_verdict f Read addr side privileged) f addr
+abbrev pub framed : FrameAnswering Framed
+framed f (Vector number side) = framed_read (vector_verdict f.bus side (vector_at f number side)) f (vector_at f number side)
+framed f (SecureLoad addr) = framed_read (frame_verdict f Read addr Secure f.secure_privileged) f addr
+framed f (FrameLoad addr side privileged) = framed_read (frame_verdict f Read addr side privileged) f addr
 framed f (FrameStore addr side privileged value) = framed_write (frame_verdict f Write addr side privileged) f addr value

@@ -9,7 +9,7 @@ use Rattle.tz_regs.specs.declared.parts.Registers.{Registers}
 use Rattle.tz_regs.specs.declared.parts.Stacks.{Stacks}
 use Rattle.tz_regs.specs.Banks.{stacks_of, with_stacks}
 use Rattle.tz_regs.specs.Registers.{is_privileged, uses_process, sp_of}
-use Rattle.tz_frames.specs.Looks.{Looking, FrameLoad, FrameStore}
+use Rattle.tz_frames.specs.FrameAccess.{FrameAnswering, FrameLoad, FrameStore}
 use Rattle.tz_frames.specs.declared.frame.StackFault.{StackFault}
 use Rattle.tz_frames.specs.declared.frame.StackFault.TheVariants.{Limit, Access, Signature}
 use Rattle.tz_frames.specs.declared.frame.Basic.{Basic}
@@ -19,8 +19,8 @@ use Rattle.tz_frames.specs.Registers.{retpsr_of}
 -- ---- stack pointers
 
 -- PSPLIM or MSPLIM
-abbrev pub limit_of : Bool → Stacks → ℕ
-limit_of process s = if process then s.psplim else s.msplim
+abbrev pub splim_of : Bool → Stacks → ℕ
+splim_of process s = if process then s.psplim else s.msplim
 
 abbrev pub with_sp : Bool → ℕ → Stacks → Stacks
 with_sp process value s =
@@ -38,29 +38,29 @@ after_store (h, Ok done) later = later h
 after_store (h, Err fault) later = (h, Some fault)
 
 -- words from an address up: those before the first that faults stand
-unfoldable pub written : {H : Type 0} → Looking H → Side → Bool → H → ℕ → List ℕ → H × Option Fault
-written look side privileged h addr [] = (h, None)
-written look side privileged h addr (word ∷ words) =
-    after_store (look h (FrameStore addr side privileged word)) (λ left. written look side privileged left (wrap (addr + 4)) words)
+unfoldable pub written : {H : Type 0} → FrameAnswering H → Side → Bool → H → ℕ → List ℕ → H × Option Fault
+written answering side privileged h addr [] = (h, None)
+written answering side privileged h addr (word ∷ words) =
+    after_store (answering h (FrameStore addr side privileged word)) (λ left. written answering side privileged left (wrap (addr + 4)) words)
 
 abbrev pub word_answer : Result ℕ Fault → Result ℕ StackFault
 word_answer (Ok word) = Ok word
 word_answer (Err fault) = Err (Access fault)
 
 -- a word of a frame; reading changes nothing
-abbrev pub word_read : {H : Type 0} → Looking H → Side → Bool → H → ℕ → Result ℕ StackFault
-word_read look side privileged h addr = word_answer (look h (FrameLoad addr side privileged)).1
+abbrev pub word_read : {H : Type 0} → FrameAnswering H → Side → Bool → H → ℕ → Result ℕ StackFault
+word_read answering side privileged h addr = word_answer (answering h (FrameLoad addr side privileged)).1
 
 -- a word before those above it
-abbrev pub with_first : Result ℕ StackFault → Result (List ℕ) StackFault → Result (List ℕ) StackFault
-with_first (Err fault) later = Err fault
-with_first (Ok word) (Err fault) = Err fault
-with_first (Ok word) (Ok words) = Ok (word ∷ words)
+abbrev pub with_lowest_word : Result ℕ StackFault → Result (List ℕ) StackFault → Result (List ℕ) StackFault
+with_lowest_word (Err fault) later = Err fault
+with_lowest_word (Ok word) (Err fault) = Err fault
+with_lowest_word (Ok word) (Ok words) = Ok (word ∷ words)
 
 -- so many words from an address up, or the first fault
-unfoldable pub reads : {H : Type 0} → Looking H → Side → Bool → H → ℕ → ℕ → Result (List ℕ) StackFault
-reads look side privileged h addr zero = Ok []
-reads look side privileged h addr (suc n) = with_first (word_read look side privileged h addr) (reads look side privileged h (wrap (addr + 4)) n)
+unfoldable pub reads : {H : Type 0} → FrameAnswering H → Side → Bool → H → ℕ → ℕ → Result (List ℕ) StackFault
+reads answering side privileged h addr zero = Ok []
+reads answering side privileged h addr (suc n) = with_lowest_word (word_read answering side privileged h addr) (reads answering side privileged h (wrap (addr + 4)) n)
 
 -- ---- frames that are written
 
@@ -78,11 +78,11 @@ pushed_with c left = record { core = c; held = left.0; fault = access_fault left
 
 -- a frame at a base: one below the limit isn't written, and leaves the stack pointer at the limit; (own) any other leaves
 -- it at the base, whether or not a word of it faults
-abbrev pub pushed : {H : Type 0} → Looking H → Core → H → Side → Bool → Bool → ℕ → List ℕ → Pushed H
-pushed look c h side process privileged base words =
-    if nat_lt base (limit_of process (stacks_of side c))
-    then record { core = with_side_sp side process (limit_of process (stacks_of side c)) c; held = h; fault = Some (Limit side) }
-    else pushed_with (with_side_sp side process base c) (written look side privileged h base words)
+abbrev pub pushed : {H : Type 0} → FrameAnswering H → Core → H → Side → Bool → Bool → ℕ → List ℕ → Pushed H
+pushed answering c h side process privileged base words =
+    if nat_lt base (splim_of process (stacks_of side c))
+    then record { core = with_side_sp side process (splim_of process (stacks_of side c)) c; held = h; fault = Some (Limit side) }
+    else pushed_with (with_side_sp side process base c) (written answering side privileged h base words)
 
 -- 32 bytes below, with bit 2 clear
 abbrev pub basic_base : ℕ → ℕ
@@ -94,13 +94,13 @@ basic_words r back sp =
     ∷ retpsr_of r sp ∷ []
 
 -- the basic frame of the running code, on its stack, with its privilege
-abbrev pub basic_at : {H : Type 0} → Looking H → Core → H → ℕ → Bool → ℕ → Pushed H
-basic_at look c h back process sp =
-    pushed look c h c.run.side process (is_privileged c.registers.ipsr (stacks_of c.run.side c)) (basic_base sp) (basic_words c.registers back sp)
+abbrev pub basic_at : {H : Type 0} → FrameAnswering H → Core → H → ℕ → Bool → ℕ → Pushed H
+basic_at answering c h back process sp =
+    pushed answering c h c.run.side process (is_privileged c.registers.ipsr (stacks_of c.run.side c)) (basic_base sp) (basic_words c.registers back sp)
 
-unfoldable pub pushed_basic : {H : Type 0} → Looking H → Core → H → ℕ → Pushed H
-pushed_basic look c h back =
-    basic_at look c h back (uses_process c.registers.ipsr (stacks_of c.run.side c))
+unfoldable pub pushed_basic : {H : Type 0} → FrameAnswering H → Core → H → ℕ → Pushed H
+pushed_basic answering c h back =
+    basic_at answering c h back (uses_process c.registers.ipsr (stacks_of c.run.side c))
     (sp_of (uses_process c.registers.ipsr (stacks_of c.run.side c)) (stacks_of c.run.side c))
 
 -- the integrity signature
@@ -114,9 +114,9 @@ callee_words general =
     ∷ slice_index general 9 ∷ slice_index general 10 ∷ slice_index general 11 ∷ []
 
 -- the additional frame, 40 bytes below a Secure stack pointer
-unfoldable pub pushed_additional : {H : Type 0} → Looking H → Core → H → Bool → Bool → Pushed H
-pushed_additional look c h process privileged =
-    pushed look c h Secure process privileged (wrap (sp_of process c.stacks_s + (2 ^ 32 - 40))) (callee_words c.registers.general)
+unfoldable pub pushed_additional : {H : Type 0} → FrameAnswering H → Core → H → Bool → Bool → Pushed H
+pushed_additional answering c h process privileged =
+    pushed answering c h Secure process privileged (wrap (sp_of process c.stacks_s + (2 ^ 32 - 40))) (callee_words c.registers.general)
 
 -- ---- frames that are read
 
@@ -137,8 +137,8 @@ abbrev pub basic_read : Result (List ℕ) StackFault → Result Basic StackFault
 basic_read (Ok words) = Ok (basic_of words)
 basic_read (Err fault) = Err fault
 
-abbrev pub popped_basic : {H : Type 0} → Looking H → H → ℕ → Side → Bool → Result Basic StackFault
-popped_basic look h sp side privileged = basic_read (reads look side privileged h sp 8)
+abbrev pub popped_basic : {H : Type 0} → FrameAnswering H → H → ℕ → Side → Bool → Result Basic StackFault
+popped_basic answering h sp side privileged = basic_read (reads answering side privileged h sp 8)
 
 -- of the nine words above the signature
 abbrev pub callee_of : List ℕ → Callee
@@ -163,6 +163,6 @@ abbrev pub signed : Result ℕ StackFault → Result (List ℕ) StackFault → R
 signed (Err fault) later = Err fault
 signed (Ok word) later = if word == signature then callee_read later else Err Signature
 
-abbrev pub popped_additional : {H : Type 0} → Looking H → H → ℕ → Bool → Result Callee StackFault
-popped_additional look h sp privileged =
-    signed (word_read look Secure privileged h sp) (reads look Secure privileged h (wrap (sp + 4)) 9)
+abbrev pub popped_additional : {H : Type 0} → FrameAnswering H → H → ℕ → Bool → Result Callee StackFault
+popped_additional answering h sp privileged =
+    signed (word_read answering Secure privileged h sp) (reads answering Secure privileged h (wrap (sp + 4)) 9)

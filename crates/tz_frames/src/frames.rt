@@ -2,21 +2,21 @@
 
 ghost use Rattle.std.specs.Prelude.{◌≡◌, ◌≢◌, ◌≤◌, ◌+◌, ℕ, OnErr};
 ghost use Rattle.tz_model.specs.Ports.{stored_answer};
-ghost use Rattle.tz_frames.specs.Looks.{Looking, Vector, SecureLoad, FrameLoad, FrameStore};
+ghost use Rattle.tz_frames.specs.FrameAccess.{FrameAnswering, Vector, SecureLoad, FrameLoad, FrameStore};
 
 use tz_model::{Fault, Side};
 
-/// Stacks and vector tables. It says how what it holds answers a look, so that entries and returns over any
+/// Stacks and vector tables. It says how what it holds answers an access, so that entries and returns over any
 /// frames are their definitions over that answer.
 pub trait Frames {
-    /// What it holds, as looks see and change it.
+    /// What it holds, as accesses see and change it.
     ghost Held: { Type 0 };
 
     /// What it holds now.
     ghost held: { Self → Held };
 
-    /// How that answers a look.
-    ghost answer: { Looking Held };
+    /// How that answers an access.
+    ghost answer: { FrameAnswering Held };
 
     /// How many stores it still takes.
     ghost room: { Self → ℕ };

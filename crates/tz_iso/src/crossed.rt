@@ -10,7 +10,6 @@ use crate::parts::public_apart;
 use tz_core::Machine;
 use tz_model::{CrossKind, Way};
 
-/// The number of a kind.
 fn kind_number(kind: CrossKind) -> u8
     ensures { result ≡ kind_number kind }
 {

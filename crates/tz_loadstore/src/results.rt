@@ -2,7 +2,7 @@
 
 ghost use Rattle.std.specs.Prelude.{◌≡◌, Ok};
 ghost use Rattle.tz_sem.specs.Local.{put, local_of, with_local, finished_in};
-ghost use Rattle.tz_sem.specs.LoadStore.{based, extended_to, loaded, offset_at};
+ghost use Rattle.tz_sem.specs.LoadStore.{based, extended_to, register_loaded, offset_at};
 
 use crate::addresses::at_offset;
 use tz_bits::sign_extend;
@@ -55,7 +55,7 @@ pub(crate) fn extend(signed: bool, size: Size, value: u32) -> u32
 /// The base and the register of a load get their values; a load of PC exchanges.
 #[tactic(auto, using(crate::proofs::Puts::put_after))]
 pub(crate) fn finish_load(core: &mut Core, address: &Address, rt: u8, word: u32) -> Outcome
-    ensures { finished_in core.old (loaded rt (based address.now (local_of core.old)) word) ≡ (core.new, Ok result) }
+    ensures { finished_in core.old (register_loaded rt (based address.now (local_of core.old)) word) ≡ (core.new, Ok result) }
 {
     write_back(core, address);
     if rt == 15 {

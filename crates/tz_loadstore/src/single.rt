@@ -35,7 +35,6 @@ pub(crate) fn load<P: Port>(
     }
 }
 
-/// A store.
 #[tactic(auto, unfolding(tz_model::specs::Ports::answers))]
 pub(crate) fn store<P: Port>(
     core: &mut Core,

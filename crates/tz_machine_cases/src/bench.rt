@@ -4,7 +4,7 @@ use crate::calls::{Call, PoppedFrame, called, entered, left, popped, raised};
 use crate::shown::tell_status;
 use crate::values::{core_value, set_value};
 use std::alloc::{AllocError, Global};
-use tz_excret::{is_exc_return, takes};
+use tz_excret::{is_exc_return, takes_first_uncounted};
 use tz_frames::Frames;
 use tz_gate::is_fnc_return;
 use tz_model::{Side, Slot};
@@ -126,7 +126,10 @@ fn tell_look(case: &mut Case<'_>, bench: &mut Bench, name: &str) {
         Some(Look::Status) => tell_status(case, &bench.core),
         Some(Look::Takes) => {
             case.tell(" takes");
-            tell_truth(case, takes(&bench.core, &mut bench.exceptions));
+            tell_truth(
+                case,
+                takes_first_uncounted(&bench.core, &mut bench.exceptions),
+            );
         }
         None => tell_value(case, bench, name),
     }

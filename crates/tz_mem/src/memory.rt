@@ -16,7 +16,7 @@ use crate::block::Block;
 use crate::code::code_at;
 use crate::difference::differ_in;
 use crate::error::{NotMapped, Refused};
-use crate::numbers::{number_at, put_all, put_byte, write_number};
+use crate::numbers::{put_all, put_byte, value_at, write_number};
 use std::alloc::{AllocError, Global};
 use std::marker::Model;
 use tz_model::{Board, Region, Segment, Size};
@@ -100,7 +100,7 @@ impl Memory {
             (λ value. (every (is_mapped self.now.regions) addr size ≡ true) × (value ≡ value_at self.now.bytes size addr))
             (λ _. every (is_mapped self.now.regions) addr size ≡ false) }
     {
-        match number_at(&self.blocks, addr, size) {
+        match value_at(&self.blocks, addr, size) {
             Some(value) => Ok(value),
             None => Err(NotMapped),
         }

@@ -70,7 +70,7 @@ pub fn whole_of(blocks: &[Block], addr: u32, size: Size) -> Option<(usize, usize
 }
 
 /// The number of a size at an address, its low byte first, if blocks hold all of it.
-pub fn number_at(blocks: &[Block], addr: u32, size: Size) -> Option<u32>
+pub fn value_at(blocks: &[Block], addr: u32, size: Size) -> Option<u32>
     ensures { MatchOption result (every (is_mapped (map region_of blocks.now)) addr size ≡ false)
         (λ value. (every (is_mapped (map region_of blocks.now)) addr size ≡ true) × (value ≡ value_at (memory_of blocks.now) size addr)) }
 {

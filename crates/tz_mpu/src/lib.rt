@@ -4,7 +4,7 @@
 //! decides both.
 #![tactic(auto)]
 
-mod found;
+mod holders;
 mod mpu;
 mod permission;
 mod register;

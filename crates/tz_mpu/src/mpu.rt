@@ -7,7 +7,7 @@ ghost use Rattle.tz_state.specs.Regions.{no_bounds, holding};
 ghost use Rattle.tz_state.specs.UnitRegisters.{bounds_at, selected, mpu_register, mpu_value, mpu_read, with_mpu_value, mpu_written, rlar_bits, reset_mpu};
 ghost use Rattle.tz_mpu.specs.Units.{with_registers};
 
-use crate::found::{Found, look};
+use crate::holders::{Holders, find_holders};
 use crate::permission::{default_permits, region_permits};
 use crate::register::register_at;
 use arrayvec::ArrayVec;
@@ -102,18 +102,18 @@ impl Mpu {
             (λ region. permission_by self.now.profile self.now.mpu kind privileged addr (holding 0 self.now.mpu.regions addr) ≡ Some region)
             (λ _. permission_by self.now.profile self.now.mpu kind privileged addr (holding 0 self.now.mpu.regions addr) ≡ None) }
     {
-        match look(&self.regions, addr) {
-            Found::Nothing => {
+        match find_holders(&self.regions, addr) {
+            Holders::Nothing => {
                 if self.lets_default(addr, kind, privileged) {
                     return Ok(None);
                 }
             }
-            Found::One(index, bounds) => {
+            Holders::One(index, bounds) => {
                 if region_permits(self.profile, &bounds, kind, privileged) {
                     return Ok(Some(index));
                 }
             }
-            Found::Several => (),
+            Holders::Several => (),
         }
         Err(MpuFault)
     }
@@ -154,8 +154,8 @@ impl Mpu {
         if !self.is_on(negative) {
             return None;
         }
-        match look(&self.regions, addr) {
-            Found::One(index, _) => Some(index),
+        match find_holders(&self.regions, addr) {
+            Holders::One(index, _) => Some(index),
             _ => None,
         }
     }

@@ -1,7 +1,7 @@
 -- What the active slots tell.
 use Rattle.std.proofs.Common.{◌≡◌, ℕ, zero, suc, Bool, true, false, cond, refl, ap, ◌∙◌}
 use Rattle.std.specs.Prelude.{◌==◌, ◌&&◌, ◌||◌, not}
-use Rattle.tz_state.specs.Slots.{ExceptionsValue, number_at}
+use Rattle.tz_state.specs.Slots.{ExceptionsValue, exception_number}
 use Rattle.tz_state.specs.Execution.{is_active}
 use Rattle.tz_state.specs.ControlRegisters.{is_other_active}
 use Rattle.tz_state.specs.Pieces.{any_below}
@@ -33,7 +33,7 @@ any_more Several n true = refl
 any_told : (e : ExceptionsValue) (n : ℕ) → any_below (is_active e) n ≡ has_any (active_slots_below e n)
 unfolding any_below active_slots_below has_any
 any_told e zero = refl
-any_told e (suc n) = ap (λ (t : Bool). t || is_active e n) (any_told e n) ∙ any_more (active_slots_below e n) (number_at n) (is_active e n)
+any_told e (suc n) = ap (λ (t : Bool). t || is_active e n) (any_told e n) ∙ any_more (active_slots_below e n) (exception_number n) (is_active e n)
 
 one_more : (slots : ActiveSlots) (n ipsr : ℕ) → (has_other slots ipsr || (not (n == ipsr) || has_any slots)) ≡ has_other (slot_added n slots) ipsr
 unfolding has_any
@@ -51,4 +51,4 @@ pub others_told : (e : ExceptionsValue) (ipsr n : ℕ) → any_below (is_other_a
 unfolding any_below active_slots_below
 others_told e ipsr zero = refl
 others_told e ipsr (suc n) =
-    rw (others_told e ipsr n, any_told e n) (maybe_more (active_slots_below e n) (number_at n) ipsr (is_active e n))
+    rw (others_told e ipsr n, any_told e n) (maybe_more (active_slots_below e n) (exception_number n) ipsr (is_active e n))

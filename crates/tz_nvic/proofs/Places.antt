@@ -7,9 +7,9 @@ use Rattle.tz_table.specs.declared.units.Side.{Side}
 use Rattle.tz_table.specs.declared.units.Side.TheVariants.{Secure, NonSecure}
 use Rattle.tz_model.specs.declared.report.Slot.{Slot}
 use Rattle.tz_state.specs.First.{Ascends}
-use Rattle.tz_state.specs.Slots.{ExceptionsValue, is_banked, is_system, has_number, bank_of, index_of, number_at, is_place, side_at, slot_at, exists}
+use Rattle.tz_state.specs.Slots.{ExceptionsValue, is_banked, is_system, has_number, bank_of, index_of, exception_number, is_place, side_at, slot_at, exists}
 
-pub number_back : (e : ExceptionsValue) (slot : Slot) → exists e slot ≡ true → number_at (index_of slot) ≡ slot.number
+pub number_back : (e : ExceptionsValue) (slot : Slot) → exists e slot ≡ true → exception_number (index_of slot) ≡ slot.number
 number_back e slot h = grind (arith, nat_tests)
 
 -- the Secure slot of a number of the system, or its only one
@@ -66,7 +66,7 @@ record OneNumber (i j : ℕ) : Type 0 where
   odd : j % 2 ≡ 1
   half : j / 2 ≡ i / 2
 
-one_number : (i j : ℕ) → i < j → number_at i ≡ number_at j → OneNumber i j
+one_number : (i j : ℕ) → i < j → exception_number i ≡ exception_number j → OneNumber i j
 one_number i j l q =
     let few : j < 32 = grind (arith, nat_tests) in
     let half : j / 2 ≡ i / 2 = grind (arith, nat_tests) in
@@ -89,11 +89,11 @@ nonsecure_odd e j l o =
     let few : nat_lt j 32 ≡ true = grind (arith, nat_tests) in
     rw (few, o) refl
 
-not_less : (i j : ℕ) → i < j → number_at j < number_at i → ⊥
+not_less : (i j : ℕ) → i < j → exception_number j < exception_number i → ⊥
 not_less i j l m = grind (arith, nat_tests)
 
 pub ascending : (e : ExceptionsValue) (i j : ℕ) → is_place e j ≡ true → i < j → Ascends e i j
-ascending e i j h l = elim (cases_order (number_at i) (number_at j)) [
+ascending e i j h l = elim (cases_order (exception_number i) (exception_number j)) [
   | inr b ↦ elim b [ inl a ↦ inl a | inr c ↦ absurd (not_less i j l c) ]
   | inl q ↦ (let one = one_number i j l q in
       let banked : is_banked (i / 2) ≡ true = rw one.half at (banked_of_odd e j one.few one.odd h) in

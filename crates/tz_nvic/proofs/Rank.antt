@@ -5,7 +5,7 @@ use Rattle.std.proofs.lemmas.Bool.{cases_order}
 use Rattle.std.proofs.lemmas.Nat.{pow_pos}
 use Rattle.tz_table.specs.declared.units.Side.{Side}
 use Rattle.tz_table.specs.declared.units.Side.TheVariants.{Secure, NonSecure}
-use Rattle.tz_state.specs.Slots.{ExceptionsValue, number_at, side_at, at, is_fixed}
+use Rattle.tz_state.specs.Slots.{ExceptionsValue, exception_number, side_at, at, has_fixed_priority}
 use Rattle.tz_state.specs.Priority.{subgroup_of, priority_of, subpriority_of, rank_of}
 use Rattle.tz_state.specs.First.{ComesBefore, FitGroups}
 
@@ -26,7 +26,7 @@ few_either false x h = h
 
 pub subpriority_few : (e : ExceptionsValue) (i : ℕ) → FitGroups e → subpriority_of e i < 256
 unfolding subpriority_of
-subpriority_few e i h = few_either (is_fixed (number_at i)) (subgroup_of e (side_at e i) (at e i).priority) (subgroup_few e (side_at e i) (at e i).priority h)
+subpriority_few e i h = few_either (has_fixed_priority (exception_number i)) (subgroup_of e (side_at e i) (at e i).priority) (subgroup_few e (side_at e i) (at e i).priority h)
 
 by_parts : (p p' s s' i j : ℕ) → s < 256 → s' < 256 → i < 512 → j < 512 → i ≢ j → (p * 256 + s) * 512 + i ≤ (p' * 256 + s') * 512 + j →
     (p < p') ⊎ ((p ≡ p') × ((s < s') ⊎ ((s ≡ s') × (i < j))))

@@ -7,7 +7,7 @@ use Rattle.tz_state.specs.SlotChanges.{with_timer}
 use Rattle.tz_state.specs.Timers.{counts, counted_down, pended_by}
 use Rattle.std.specs.Prelude.{min, if◌then◌else◌, IfSome}
 use Rattle.tz_state.specs.declared.slot.Timer.{Timer}
-use Rattle.tz_state.specs.Slots.{ExceptionsValue, number_at, timer_of}
+use Rattle.tz_state.specs.Slots.{ExceptionsValue, exception_number, timer_of}
 use Rattle.tz_state.specs.Priority.{rank_of, priority_of, subpriority_of, chosen_place}
 use Rattle.tz_state.specs.Execution.{is_active, active_below}
 use Rattle.tz_nvic.specs.declared.known.Known.{Known}
@@ -36,7 +36,7 @@ same_least e s ns (suc n) =
 same_slots : (e : ExceptionsValue) (s ns : Timer) (n : ℕ) → active_slots_below (timed e s ns) n ≡ active_slots_below e n
 unfolding active_slots_below
 same_slots e s ns zero = refl
-same_slots e s ns (suc n) = ap (λ (r : ActiveSlots). if is_active e n then slot_added (number_at n) r else r) (same_slots e s ns n)
+same_slots e s ns (suc n) = ap (λ (r : ActiveSlots). if is_active e n then slot_added (exception_number n) r else r) (same_slots e s ns n)
 
 still_known : (e : ExceptionsValue) (s ns : Timer) (k : Known) → IsKnown e k → IsKnown (timed e s ns) k
 still_known e s ns k h =

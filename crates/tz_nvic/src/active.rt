@@ -3,11 +3,11 @@
 ghost use Rattle.std.specs.Prelude.{◌≡◌, ◌≤◌, ◌<◌, min, if◌then◌else◌};
 ghost use Rattle.tz_state.specs.Priority.{priority_of};
 ghost use Rattle.tz_state.specs.Execution.{is_active, raw_priority};
-ghost use Rattle.tz_state.specs.Slots.{number_at};
+ghost use Rattle.tz_state.specs.Slots.{exception_number};
 ghost use Rattle.tz_nvic.specs.ActiveSlots.{slot_added, has_other, active_slots};
 
 use crate::exceptions::Exceptions;
-use crate::place::number_at;
+use crate::place::exception_number;
 use tz_state::exception::IDLE_PRIORITY;
 
 /// What is active, as far as it tells whether there is a slot beside one of a given number.
@@ -83,10 +83,10 @@ impl Exceptions {
     /// What is known with one more place.
     fn slots_with(&self, index: usize, active: ActiveSlots) -> ActiveSlots
         requires { index < 272 }
-        ensures { result ≡ (if is_active self.now index then slot_added (number_at index) active else active) }
+        ensures { result ≡ (if is_active self.now index then slot_added (exception_number index) active else active) }
     {
         if self.is_active(index) {
-            active.with(number_at(index))
+            active.with(exception_number(index))
         } else {
             active
         }

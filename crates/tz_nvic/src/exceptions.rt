@@ -5,7 +5,7 @@ ghost use Rattle.tz_state.specs.Slots.{at, exists, is_external, is_place, side_a
 ghost use Rattle.tz_state.specs.SlotChanges.{pended, unpended, activated, deactivated, prioritized, switched, targeted};
 
 use crate::known::Known;
-use crate::place::{PLACES, index_of, is_always_enabled, is_banked, is_system, number_at};
+use crate::place::{PLACES, exception_number, index_of, is_always_enabled, is_banked, is_system};
 use std::alloc::{AllocError, Global};
 use std::marker::Model;
 use tz_model::{Side, Slot};
@@ -290,7 +290,7 @@ impl Exceptions {
         requires { index < 272 }
         ensures { result ≡ is_enabled self.now index }
     {
-        is_always_enabled(number_at(index)) || self.slots[index].enabled
+        is_always_enabled(exception_number(index)) || self.slots[index].enabled
     }
 
     /// The side of the slot at a place.
@@ -316,7 +316,7 @@ impl Exceptions {
         ensures { result ≡ slot_at self.now index }
     {
         Slot {
-            number: number_at(index),
+            number: exception_number(index),
             side: self.side_at(index),
         }
     }

@@ -2,7 +2,7 @@
 
 ghost use Rattle.std.specs.Prelude.{◌≡◌, ℕ, ◌<◌, Some, None, true, false};
 ghost use Rattle.tz_model.specs.declared.report.Slot.{Slot};
-ghost use Rattle.tz_state.specs.Slots.{ExceptionsValue, places, exists, is_place, index_of, number_at, slot_at};
+ghost use Rattle.tz_state.specs.Slots.{ExceptionsValue, places, exists, is_place, index_of, exception_number, slot_at};
 ghost use Rattle.tz_state.specs.Priority.{is_ready, chosen_place};
 ghost use Rattle.tz_state.specs.First.{IsFirst, FitGroups, Ascends};
 
@@ -18,7 +18,7 @@ pub fn chosen_comes_first()
 /// number, of one number the Secure slot before the Non-secure one.
 pub fn places_tell_slots()
     ensures there { (e : ExceptionsValue) (slot : Slot) → exists e slot ≡ true → is_place e (index_of slot) ≡ true }
-    ensures number { (e : ExceptionsValue) (slot : Slot) → exists e slot ≡ true → number_at (index_of slot) ≡ slot.number }
+    ensures number { (e : ExceptionsValue) (slot : Slot) → exists e slot ≡ true → exception_number (index_of slot) ≡ slot.number }
     ensures back { (e : ExceptionsValue) (i : ℕ) → is_place e i ≡ true → index_of (slot_at e i) ≡ i }
     ensures ascend { (e : ExceptionsValue) (i j : ℕ) → is_place e j ≡ true → i < j → Ascends e i j }
 {}

@@ -1,7 +1,7 @@
 //! The place of each slot.
 
 ghost use Rattle.std.specs.Prelude.{◌≡◌, ◌<◌};
-ghost use Rattle.tz_state.specs.Slots.{is_banked, is_system, bank_of, index_of, number_at, is_always_enabled};
+ghost use Rattle.tz_state.specs.Slots.{is_banked, is_system, bank_of, index_of, exception_number, is_always_enabled};
 
 use tz_model::{Side, Slot};
 use tz_state::exception::{
@@ -67,9 +67,9 @@ pub(crate) fn index_of(slot: Slot) -> usize
 }
 
 /// The number whose slot stands at a place.
-pub(crate) fn number_at(index: usize) -> u16
+pub(crate) fn exception_number(index: usize) -> u16
     requires { index < 272 }
-    ensures { result ≡ number_at index }
+    ensures { result ≡ exception_number index }
 {
     if index < 32 {
         index as u16 / 2

@@ -1,10 +1,10 @@
 //! Priorities, four above the manual's.
 
 ghost use Rattle.std.specs.Prelude.{◌≡◌, ◌≤◌, ◌<◌, ◌+◌, ◌^◌};
-ghost use Rattle.tz_state.specs.Priority.{group_size, group_of, counted, hard_priority, priority_of, subpriority_of, rank_of};
+ghost use Rattle.tz_state.specs.Priority.{group_size, group_of, restricted_priority, hard_priority, priority_of, subpriority_of, rank_of};
 
 use crate::exceptions::Exceptions;
-use crate::place::number_at;
+use crate::place::exception_number;
 use tz_model::Side;
 use tz_state::exception::{
     HARD_FAULT, HARD_FAULT_PRIORITY, NMI, NMI_PRIORITY, SECURE_HARD_FAULT_PRIORITY, ZERO_PRIORITY,
@@ -48,10 +48,11 @@ impl Exceptions {
         u32::from(byte) / size * size
     }
 
-    /// How a group of a side counts: with PRIS, a Non-secure one in the upper half.
-    pub fn counted(&self, side: Side, group: u32) -> u32
+    /// The priority of a group of a side: with PRIS, a Non-secure one is restricted to the upper half (DDI0553,
+    /// `RestrictedNSPri`).
+    pub fn restricted_priority(&self, side: Side, group: u32) -> u32
         requires { group < 256 }
-        ensures is { result ≡ counted self.now side group }
+        ensures is { result ≡ restricted_priority self.now side group }
         ensures few { result < 256 }
     {
         match side {
@@ -84,7 +85,7 @@ impl Exceptions {
         ensures is { result ≡ priority_of self.now index }
         ensures few { result < 260 }
     {
-        let number = number_at(index);
+        let number = exception_number(index);
         let side = self.side_at(index);
         if number == NMI {
             NMI_PRIORITY
@@ -92,7 +93,7 @@ impl Exceptions {
             self.hard_priority(side)
         } else {
             let group = self.group_of(side, self.slots[index].priority);
-            ZERO_PRIORITY + self.counted(side, group)
+            ZERO_PRIORITY + self.restricted_priority(side, group)
         }
     }
 
@@ -103,7 +104,7 @@ impl Exceptions {
         ensures is { result ≡ subpriority_of self.now index }
         ensures few { result < 256 }
     {
-        let number = number_at(index);
+        let number = exception_number(index);
         let side = self.side_at(index);
         if number == NMI || number == HARD_FAULT {
             0

@@ -8,7 +8,7 @@ use Rattle.tz_table.specs.declared.units.Side.TheVariants.{Secure, NonSecure}
 use Rattle.tz_regs.specs.declared.parts.Masks.{Masks}
 use Rattle.tz_regs.specs.declared.parts.SideMasks.{SideMasks}
 use Rattle.tz_state.specs.Slots.{ExceptionsValue}
-use Rattle.tz_state.specs.Priority.{group_of, counted}
+use Rattle.tz_state.specs.Priority.{group_of, restricted_priority}
 use Rattle.tz_state.specs.Execution.{raw_priority, basepri_priority, primask_priority, faultmask_priority, faultmask_set, side_priority, execution, manual_priority}
 use Rattle.tz_state.specs.State.{is_negative_at}
 
@@ -23,7 +23,7 @@ masked true n = refl
 masked false n = from_four n
 
 basepri_not : (e : ExceptionsValue) (side : Side) (byte : ℕ) → nat_lt (basepri_priority e side byte) 4 ≡ false
-basepri_not e side byte = masked (byte == 0) (counted e side (group_of e side byte))
+basepri_not e side byte = masked (byte == 0) (restricted_priority e side (group_of e side byte))
 
 primask_not : (e : ExceptionsValue) (side : Side) (set : Bool) → nat_lt (primask_priority e side set) 4 ≡ false
 primask_not e side true = from_four _
@@ -44,7 +44,7 @@ hard_either false n = from_four n
 
 faultmask_negative : (e : ExceptionsValue) (side : Side) (set : Bool) → nat_lt (faultmask_priority e side set) 4 ≡ counts_hard e side set
 faultmask_negative e Secure true = hard_secure e.bfhfnmins
-faultmask_negative e NonSecure true = hard_either e.bfhfnmins (counted e NonSecure 0)
+faultmask_negative e NonSecure true = hard_either e.bfhfnmins (restricted_priority e NonSecure 0)
 faultmask_negative e Secure false = refl
 faultmask_negative e NonSecure false = refl
 

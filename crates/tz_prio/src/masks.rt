@@ -16,7 +16,7 @@ fn basepri(exceptions: &Exceptions, side: Side, byte: u8) -> u32
     if byte == 0 {
         IDLE_PRIORITY
     } else {
-        ZERO_PRIORITY + exceptions.counted(side, exceptions.group_of(side, byte))
+        ZERO_PRIORITY + exceptions.restricted_priority(side, exceptions.group_of(side, byte))
     }
 }
 
@@ -26,7 +26,7 @@ fn primask(exceptions: &Exceptions, side: Side, set: bool) -> u32
     ensures few { result ≤ 260 }
 {
     if set {
-        ZERO_PRIORITY + exceptions.counted(side, 0)
+        ZERO_PRIORITY + exceptions.restricted_priority(side, 0)
     } else {
         IDLE_PRIORITY
     }
@@ -43,7 +43,7 @@ fn faultmask_set(exceptions: &Exceptions, side: Side) -> u32
             if exceptions.fault_side() {
                 exceptions.hard_priority(Side::NonSecure)
             } else {
-                ZERO_PRIORITY + exceptions.counted(Side::NonSecure, 0)
+                ZERO_PRIORITY + exceptions.restricted_priority(Side::NonSecure, 0)
             }
         }
     }

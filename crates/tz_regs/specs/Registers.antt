@@ -30,8 +30,8 @@ uses_process ipsr s = not (is_handler ipsr) && s.spsel
 abbrev pub pointer_of : ℕ → Stacks → ℕ
 pointer_of ipsr s = if uses_process ipsr s then s.psp else s.msp
 
-abbrev pub limit_of : ℕ → Stacks → ℕ
-limit_of ipsr s = if uses_process ipsr s then s.psplim else s.msplim
+abbrev pub pointer_limit_of : ℕ → Stacks → ℕ
+pointer_limit_of ipsr s = if uses_process ipsr s then s.psplim else s.msplim
 
 -- PSP or MSP
 abbrev pub sp_of : Bool → Stacks → ℕ
@@ -73,8 +73,8 @@ abbrev pub is_negative : ℕ → Bool
 is_negative n = nat_le (2 ^ 31) n
 
 -- N and Z tell a value
-abbrev pub told_by : ℕ → Apsr → Apsr
-told_by value a = record a { n = is_negative value; z = value == 0 }
+abbrev pub with_n_and_z : ℕ → Apsr → Apsr
+with_n_and_z value a = record a { n = is_negative value; z = value == 0 }
 
 -- the stack pointer in use
 abbrev pub sp_in : Core → ℕ

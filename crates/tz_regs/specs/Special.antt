@@ -11,7 +11,7 @@ use Rattle.tz_regs.specs.declared.parts.Stacks.{Stacks}
 use Rattle.tz_regs.specs.declared.special.Special.{Special}
 use Rattle.tz_regs.specs.declared.special.Special.TheVariants.{Msp, Psp, Msplim, Psplim, Primask, Basepri, BasepriMax, Faultmask, Control, Sp}
 use Rattle.tz_regs.specs.Banks.{stacks_of, masks_of, with_masks, secure_after, nonsecure_after}
-use Rattle.tz_regs.specs.Registers.{is_privileged, limit_of, pointer_of, with_pointer, word_aligned}
+use Rattle.tz_regs.specs.Registers.{is_privileged, pointer_limit_of, pointer_of, with_pointer, word_aligned}
 
 -- what running code can name: its registers, the stacks of its own and of the Non-secure side, the masks, and
 -- the event flag
@@ -185,7 +185,7 @@ with_special n sysm value priority =
 
 -- SP_NS isn't written below its limit by privileged Secure code
 abbrev pub is_below_by : Side → Named → ℕ → Bool
-is_below_by Secure n value = is_privileged n.registers.ipsr n.own && nat_lt value (limit_of n.registers.ipsr n.ns)
+is_below_by Secure n value = is_privileged n.registers.ipsr n.own && nat_lt value (pointer_limit_of n.registers.ipsr n.ns)
 is_below_by NonSecure n value = false
 
 abbrev pub is_below_limit : Named → ℕ → ℕ → Bool

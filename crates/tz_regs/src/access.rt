@@ -3,7 +3,7 @@
 ghost use Rattle.std.specs.Prelude.{◌≡◌, ◌<◌, ◌≤◌, MatchResult};
 ghost use Rattle.tz_regs.specs.Banks.{stacks_of, with_stacks};
 ghost use Rattle.tz_regs.specs.Special.{named_of, with_named};
-ghost use Rattle.tz_regs.specs.Registers.{is_handler, is_privileged, uses_process, pointer_of, limit_of, with_pointer, sp_of, reg_of, with_reg, with_reg_stacks, told_by, side_in, sp_in, before_in};
+ghost use Rattle.tz_regs.specs.Registers.{is_handler, is_privileged, uses_process, pointer_of, pointer_limit_of, with_pointer, sp_of, reg_of, with_reg, with_reg_stacks, with_n_and_z, side_in, sp_in, before_in};
 
 use crate::parts::{Apsr, Before, Core, Registers, Stacks};
 use crate::special::StackLimit;
@@ -38,7 +38,7 @@ impl Stacks {
 
     /// The limit of the stack pointer in use.
     pub fn limit(&self, ipsr: u16) -> u32
-        ensures { result ≡ limit_of ipsr self.now }
+        ensures { result ≡ pointer_limit_of ipsr self.now }
     {
         if self.uses_process(ipsr) {
             self.psplim
@@ -71,7 +71,7 @@ impl Stacks {
 impl Apsr {
     /// Tells a value in N and Z.
     pub fn tell(&mut self, value: u32)
-        ensures { self.new ≡ told_by value self.old }
+        ensures { self.new ≡ with_n_and_z value self.old }
     {
         self.n = value >= 0x8000_0000;
         self.z = value == 0;
@@ -189,8 +189,8 @@ impl Core {
     /// nothing changes.
     pub fn set_sp_checked(&mut self, value: u32) -> Result<(), StackLimit>
         ensures { MatchResult result
-            (λ _. (limit_of self.old.registers.ipsr (stacks_of self.old.run.side self.old) ≤ value) × (self.new ≡ with_stacks self.old.run.side self.old (with_pointer self.old.registers.ipsr (stacks_of self.old.run.side self.old) value)))
-            (λ _. (value < limit_of self.old.registers.ipsr (stacks_of self.old.run.side self.old)) × (self.new ≡ self.old)) }
+            (λ _. (pointer_limit_of self.old.registers.ipsr (stacks_of self.old.run.side self.old) ≤ value) × (self.new ≡ with_stacks self.old.run.side self.old (with_pointer self.old.registers.ipsr (stacks_of self.old.run.side self.old) value)))
+            (λ _. (value < pointer_limit_of self.old.registers.ipsr (stacks_of self.old.run.side self.old)) × (self.new ≡ self.old)) }
     {
         let ipsr = self.registers.ipsr;
         if value < self.stacks(self.run.side).limit(ipsr) {

@@ -104,7 +104,7 @@ pub struct Status {
     pub bus: BusStatus,
 }
 
-/// The core.
+/// All that a core holds but its exceptions and its monitor.
 #[derive(Clone, Copy)]
 pub struct Core {
     pub run: Running,

@@ -36,7 +36,7 @@ impl Core {
         self.event
     }
 
-    /// LR.
+    /// The link register: where a call goes back to, or an EXC_RETURN value.
     pub fn lr(&self) -> u32
         ensures { result ≡ self.now.registers.lr }
     {
@@ -57,7 +57,7 @@ impl Core {
         self.registers.it
     }
 
-    /// IPSR.
+    /// The number of the exception that runs, 0 in Thread mode.
     pub fn ipsr(&self) -> u16
         ensures { result ≡ self.now.registers.ipsr }
     {
@@ -217,35 +217,35 @@ impl Core {
         self.side_status(side).mmfar
     }
 
-    /// SFSR.
+    /// Which SecureFaults there were.
     pub fn sfsr(&self) -> u32
         ensures { result ≡ self.now.status.security.sfsr }
     {
         self.status.security.sfsr
     }
 
-    /// SFAR.
+    /// The address of a SecureFault, while SFARVALID is 1.
     pub fn sfar(&self) -> u32
         ensures { result ≡ self.now.status.security.sfar }
     {
         self.status.security.sfar
     }
 
-    /// BFSR.
+    /// Which BusFaults there were.
     pub fn bfsr(&self) -> u32
         ensures { result ≡ self.now.status.bus.bfsr }
     {
         self.status.bus.bfsr
     }
 
-    /// BFAR.
+    /// The address of a BusFault, while BFARVALID is 1.
     pub fn bfar(&self) -> u32
         ensures { result ≡ self.now.status.bus.bfar }
     {
         self.status.bus.bfar
     }
 
-    /// HFSR.
+    /// Why there were HardFaults.
     pub fn hfsr(&self) -> u32
         ensures { result ≡ self.now.status.bus.hfsr }
     {

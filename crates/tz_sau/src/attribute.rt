@@ -2,11 +2,11 @@
 
 ghost use Rattle.std.specs.Prelude.{◌≡◌, ◌≤◌, length};
 ghost use Rattle.tz_model.specs.Board.{within, is_callable};
-ghost use Rattle.tz_state.specs.Attribution.{MapState, more_secure, own_side, side_by, is_exempt, side_told, is_fixed, attributed, attribution, data_attribution, fetch_attribution, mapped_side, sau_side, sau_region};
+ghost use Rattle.tz_state.specs.Attribution.{MapState, more_secure, own_side, side_by_regions, is_exempt, side_told, has_fixed_attribution, attributed, attribution, data_attribution, fetch_attribution, mapped_side, sau_side, sau_region};
 ghost use Rattle.tz_state.specs.Regions.{the_only};
 
 use crate::idau::{IdauWord, idau_word};
-use crate::scan::{Holders, look};
+use crate::scan::{Holders, find_holders};
 use crate::unit::Sau;
 use tz_model::{RegionSide, Side};
 use tz_state::Attribute;
@@ -73,8 +73,8 @@ fn side_told(side: RegionSide) -> Side
 }
 
 /// Whether neither the SAU nor the board decides the attribution of an address.
-fn is_fixed(fetch: bool, addr: u32) -> bool
-    ensures { result ≡ is_fixed fetch addr }
+fn has_fixed_attribution(fetch: bool, addr: u32) -> bool
+    ensures { result ≡ has_fixed_attribution fetch addr }
 {
     if fetch {
         addr >= 0xe000_0000
@@ -102,7 +102,7 @@ impl Sau {
                 region: None,
             };
         }
-        match look(&self.bounds, addr) {
+        match find_holders(&self.bounds, addr) {
             Holders::One(number, region) => SauWord {
                 side: if region.rlar / 2 % 2 == 1 {
                     RegionSide::Nsc
@@ -164,7 +164,7 @@ impl Sau {
     pub fn attribute(&self, addr: u32, fetch: bool, side: Side) -> Attribute
         ensures { result ≡ attribution self.now fetch side addr }
     {
-        let fixed = is_fixed(fetch, addr);
+        let fixed = has_fixed_attribution(fetch, addr);
         let sau = self.sau_word(addr);
         let idau = self.idau_word(addr);
         let attributed = if !fixed {

@@ -22,9 +22,9 @@ fn holds(region: &Bounds, addr: u32) -> bool
     region.rlar % 2 == 1 && region.rbar / 32 * 32 <= addr && addr <= region.rlar / 32 * 32 + 31
 }
 
-/// The enabled regions that hold an address. It looks no further than the second of them.
+/// The enabled regions that hold an address. None behind the second of them is asked.
 #[tactic(auto, unfolding(tz_state::specs::Regions::holding))]
-pub fn look(bounds: &[Bounds], addr: u32) -> Holders
+pub fn find_holders(bounds: &[Bounds], addr: u32) -> Holders
     requires { length bounds.now ≤ 8 }
     ensures { result ≡ holders_of (holding 0 bounds.now addr) }
 {

@@ -18,7 +18,7 @@ use tz_access::Bus;
 use tz_model::{Side, Size};
 use tz_nvic::Exceptions;
 use tz_regs::{Core, Status};
-use tz_state::{ControlRegister, Found, Narrow, Register, SauRegister};
+use tz_state::{ControlRegister, Narrow, Register, SauRegister, ViewedRegister};
 
 /// The state that the system registers stand in, with the number of the exception that is handled.
 #[derive(Drop)]
@@ -160,7 +160,7 @@ impl SystemRegisters<'_> {
     }
 
     /// The word that a write of a byte or a halfword makes of a register, None where it is ignored.
-    fn word_with(&self, found: Found, addr: u32, size: Size, value: u32) -> Option<u32>
+    fn word_with(&self, found: ViewedRegister, addr: u32, size: Size, value: u32) -> Option<u32>
         requires { is_aligned size addr ≡ true }
         ensures { MatchOption result
             (narrow_written found.view (state_of self.now) found.register (narrow_of found.register) (addr % 4) size value ≡ state_of self.now)
@@ -177,7 +177,7 @@ impl SystemRegisters<'_> {
     }
 
     /// Writes a number of a size to a register.
-    fn write_sized(&mut self, found: Found, addr: u32, size: Size, value: u32)
+    fn write_sized(&mut self, found: ViewedRegister, addr: u32, size: Size, value: u32)
         requires { is_aligned size addr ≡ true }
         ensures loans { SameLoans self.old self.new }
         ensures is { state_of self.new ≡ sized_written found.view (state_of self.old) found.register (addr % 4) size value }

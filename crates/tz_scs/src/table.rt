@@ -1,7 +1,7 @@
 //! Where the system registers stand (DDI0553, chapter D1.2), by pages of the table of offsets.
 
 ghost use Rattle.std.specs.Prelude.{◌≡◌, ◌/◌, ◌%◌};
-ghost use Rattle.tz_state.specs.RegisterTable.{row_at, timer_rows, nvic_rows, control_rows, mpu_rows, sau_rows, register_at};
+ghost use Rattle.tz_state.specs.RegisterTable.{register_in, timer_rows, nvic_rows, control_rows, mpu_rows, sau_rows, register_at};
 
 use tz_state::{
     Bank, ControlRegister, FaultRegister, MpuRegister, Register, SauRegister, TimerRegister,
@@ -9,7 +9,7 @@ use tz_state::{
 
 /// ICTR and the registers of SysTick.
 fn timer_row(offset: u32) -> Option<Register>
-    ensures { result ≡ row_at timer_rows offset }
+    ensures { result ≡ register_in timer_rows offset }
 {
     match offset {
         0x004 => Some(Register::Ictr),
@@ -23,7 +23,7 @@ fn timer_row(offset: u32) -> Option<Register>
 
 /// The arrays of the NVIC, by blocks of 128 bytes.
 fn nvic_row(offset: u32) -> Option<Register>
-    ensures { result ≡ row_at (nvic_rows (offset % 128 / 4)) (offset / 128) }
+    ensures { result ≡ register_in (nvic_rows (offset % 128 / 4)) (offset / 128) }
 {
     let word = (offset % 128 / 4) as u8;
     match offset / 128 {
@@ -41,7 +41,7 @@ fn nvic_row(offset: u32) -> Option<Register>
 
 /// The system control block with the registers of faults.
 fn control_row(offset: u32) -> Option<Register>
-    ensures { result ≡ row_at control_rows offset }
+    ensures { result ≡ register_in control_rows offset }
 {
     match offset {
         0xD00 => Some(Register::Control(ControlRegister::Cpuid)),
@@ -63,7 +63,7 @@ fn control_row(offset: u32) -> Option<Register>
 
 /// An MPU.
 fn mpu_row(offset: u32) -> Option<Register>
-    ensures { result ≡ row_at mpu_rows offset }
+    ensures { result ≡ register_in mpu_rows offset }
 {
     match offset {
         0xD90 => Some(Register::Mpu(MpuRegister::Type)),
@@ -85,7 +85,7 @@ fn mpu_row(offset: u32) -> Option<Register>
 
 /// The SAU, SFSR, SFAR and STIR.
 fn sau_row(offset: u32) -> Option<Register>
-    ensures { result ≡ row_at sau_rows offset }
+    ensures { result ≡ register_in sau_rows offset }
 {
     match offset {
         0xDD0 => Some(Register::Sau(SauRegister::Ctrl)),

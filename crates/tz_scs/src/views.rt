@@ -6,7 +6,7 @@ ghost use Rattle.tz_state.specs.Views.{found_by, alias_found, found_at};
 
 use crate::table::register_at;
 use tz_model::Side;
-use tz_state::{Found, Register};
+use tz_state::{Register, ViewedRegister};
 
 /// Whether a view shows NMI, BusFault and what goes with them, while AIRCR.BFHFNMINS is as told.
 pub(crate) fn sees_bus(side: Side, bfhfnmins: bool) -> bool
@@ -28,17 +28,17 @@ pub(crate) fn sees_secure(side: Side) -> bool
     }
 }
 
-fn found_by(view: Side, register: Option<Register>) -> Option<Found>
+fn found_by(view: Side, register: Option<Register>) -> Option<ViewedRegister>
     ensures { result ≡ found_by view register }
 {
     match register {
         None => None,
-        Some(register) => Some(Found { view, register }),
+        Some(register) => Some(ViewedRegister { view, register }),
     }
 }
 
 /// The alias gives Secure code the Non-secure view, and nothing to Non-secure code.
-fn alias_found(side: Side, addr: u32) -> Option<Found>
+fn alias_found(side: Side, addr: u32) -> Option<ViewedRegister>
     ensures { result ≡ alias_found side addr }
 {
     match side {
@@ -55,7 +55,7 @@ fn alias_found(side: Side, addr: u32) -> Option<Found>
 
 /// The register that code of a side finds at an address, and whose view it has of it: its own in the system
 /// control space.
-pub(crate) fn found_at(side: Side, addr: u32) -> Option<Found>
+pub(crate) fn found_at(side: Side, addr: u32) -> Option<ViewedRegister>
     ensures { result ≡ found_at side addr }
 {
     if addr >= 0xE000_E000 && addr <= 0xE000_EFFF {

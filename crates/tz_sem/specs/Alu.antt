@@ -20,7 +20,7 @@ use Rattle.tz_model.specs.declared.report.Outcome.TheVariants.{Next, Jump}
 use Rattle.tz_model.specs.Words.{wrap, word_of, even_of}
 use Rattle.tz_regs.specs.declared.parts.Apsr.{Apsr}
 use Rattle.tz_regs.specs.declared.parts.Registers.{Registers}
-use Rattle.tz_regs.specs.Registers.{is_negative, told_by, limit_of}
+use Rattle.tz_regs.specs.Registers.{is_negative, with_n_and_z, pointer_limit_of}
 use Rattle.tz_regs.specs.ItState.{in_it_block}
 use Rattle.tz_sem.specs.declared.computed.Computed.{Computed}
 use Rattle.tz_sem.specs.Operations.{computed, multiplied, multiplied_long, divided, saturated, field_result, extended, reversed}
@@ -79,7 +79,7 @@ abbrev pub delivered : DataOp → ℕ → ℕ → Local → Finished
 delivered op rd value l =
     if is_comparison op then Ok (l, Next)
     else if rd == 15 then Ok (l, Jump (even_of value))
-    else if rd == 13 && is_limited op && nat_lt value (limit_of l.registers.ipsr l.own) then Err (StackLimit l.side)
+    else if rd == 13 && is_limited op && nat_lt value (pointer_limit_of l.registers.ipsr l.own) then Err (StackLimit l.side)
     else gives l rd value
 
 abbrev pub concluded : DataOp → Flags → ℕ → Computed → Local → Finished
@@ -146,7 +146,7 @@ finish_reverse op rd rm l = gives l rd (reversed op (reg l rm))
 -- N and Z tell a product
 abbrev pub product : Flags → ℕ → ℕ → Local → Finished
 product flags rd value l =
-    gives (with_registers l (record l.registers { apsr = if sets_flags flags l.registers then told_by value l.registers.apsr else l.registers.apsr })) rd value
+    gives (with_registers l (record l.registers { apsr = if sets_flags flags l.registers then with_n_and_z value l.registers.apsr else l.registers.apsr })) rd value
 
 abbrev pub finish_multiply : MultiplyOp → Flags → ℕ → ℕ → ℕ → ℕ → Local → Finished
 finish_multiply op flags rd rn rm ra l = product flags rd (multiplied op (reg l rn) (reg l rm) (reg l ra)) l

@@ -37,7 +37,7 @@ with_stores stores p = record { state = p.state; stores = stores; ending = p.end
 
 -- ---- the way out of Secure state
 
--- the step crosses out of Secure state: it looked at it, and ends Non-secure
+-- the step crosses out of Secure state: it touched it, and ends Non-secure
 abbrev pub crosses : Ended → Bool
 crosses e = e.ending.touched && is_nonsecure_side (side_of e.state)
 

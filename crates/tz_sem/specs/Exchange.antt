@@ -51,13 +51,14 @@ abbrev pub back_with : Core → State → Course → Code → Result Core Fault 
 back_with before s course code (Ok c) = ran_by CameBack (with_core s c) course code
 back_with before s course code (Err fault) = faults (with_core s (core_back before s.core)) course fault
 
-abbrev pub looking : Course → Course
-looking course = record course { touched = true }
+-- the course of a step that touches Secure state
+abbrev pub touching : Course → Course
+touching course = record course { touched = true }
 
--- it is a look at Secure state
+-- it touches Secure state
 unfoldable pub comes_back : Core → State → Course → Code → Passed
 comes_back before s course code =
-    back_with before s (looking course) code (function_returned framed s.core (framed_in course.negative s))
+    back_with before s (touching course) code (function_returned framed s.core (framed_in course.negative s))
 
 -- ---- all exchanges
 

@@ -14,7 +14,7 @@ use Rattle.tz_model.specs.declared.report.Fault.TheVariants.{Undef, StackLimit}
 use Rattle.tz_model.specs.declared.report.Outcome.TheVariants.{Next, Exchange}
 use Rattle.tz_model.specs.Ports.{Access, Load, Store}
 use Rattle.tz_model.specs.Words.{wrap, word_of}
-use Rattle.tz_regs.specs.Registers.{limit_of}
+use Rattle.tz_regs.specs.Registers.{pointer_limit_of}
 use Rattle.tz_sem.specs.Local.{Local, Finished, reg, put, gives}
 
 -- ---- addresses
@@ -40,10 +40,10 @@ based (Pre rn offset) l = put l rn (offset_at l rn offset)
 based (Post rn offset) l = put l rn (offset_at l rn offset)
 based address l = l
 
--- a base that is SP doesn't get below its limit; that is looked at before any access
+-- a base that is SP doesn't get below its limit; that is checked before any access
 abbrev pub below_limit : ℕ → ℕ → Local → Option Fault
 below_limit rn value l =
-    if rn == 13 && nat_lt value (limit_of l.registers.ipsr l.own) then Some (StackLimit l.side) else None
+    if rn == 13 && nat_lt value (pointer_limit_of l.registers.ipsr l.own) then Some (StackLimit l.side) else None
 
 abbrev pub refusal_of : Address → Local → Option Fault
 refusal_of (Pre rn offset) l = below_limit rn (offset_at l rn offset) l
@@ -59,8 +59,8 @@ extended_to true Half value = sign_extended value 16
 extended_to signed size value = value
 
 -- the register of a load gets its value; a load of PC exchanges
-abbrev pub loaded : ℕ → Local → ℕ → Finished
-loaded rt l word = if rt == 15 then Ok (l, Exchange word false) else gives l rt word
+abbrev pub register_loaded : ℕ → Local → ℕ → Finished
+register_loaded rt l word = if rt == 15 then Ok (l, Exchange word false) else gives l rt word
 
 -- ---- multiples
 
@@ -163,7 +163,7 @@ plan_load_store insn l = []
 -- what an instruction of this family leaves, given the words that its accesses read
 abbrev pub finish_load_store : Insn → Local → List ℕ → Finished
 finish_load_store (insns.Load size signed rt address user) l words =
-    loaded rt (based address l) (extended_to signed size (slice_index words 0))
+    register_loaded rt (based address l) (extended_to signed size (slice_index words 0))
 finish_load_store (insns.Store size rt address user) l words = Ok (based address l, Next)
 finish_load_store (insns.LoadPair rt rt2 address) l words = gives (put (based address l) rt (slice_index words 0)) rt2 (slice_index words 1)
 finish_load_store (insns.StorePair rt rt2 address) l words = Ok (based address l, Next)

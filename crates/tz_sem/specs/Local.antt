@@ -53,9 +53,9 @@ gives l k value = Ok (put l k value, Next)
 
 -- what is left of the part that an instruction works on, with how it goes on or its fault: a fault leaves it
 -- as it was
-abbrev pub left_by : Local → Finished → Local × Result Outcome Fault
-left_by l (Ok f) = (f.0, Ok f.1)
-left_by l (Err fault) = (l, Err fault)
+abbrev pub finished_part : Local → Finished → Local × Result Outcome Fault
+finished_part l (Ok f) = (f.0, Ok f.1)
+finished_part l (Err fault) = (l, Err fault)
 
 -- the core after it
 abbrev pub finished_in : Core → Finished → Core × Result Outcome Fault

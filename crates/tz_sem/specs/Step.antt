@@ -119,14 +119,14 @@ decoded s course code NoCoprocessor = if is_passed_over s.core.registers then sk
 decoded s course code (Undefined width) = faulting s course Undef
 
 -- SG reached from Non-secure state: Secure code runs on
-abbrev pub enters : State → Course → Code → Ended
-enters s course code = with_stores [] (ran (with_core s (gateway_entered s.core)) course code)
+abbrev pub runs_gateway : State → Course → Code → Ended
+runs_gateway s course code = with_stores [] (ran (with_core s (gateway_entered s.core)) course code)
 
 -- ---- the fetch
 
 abbrev pub fetched : State → Course → Result Fetched Fault → Ended
 fetched s course (Err fault) = faulting s course fault
-fetched s course (Ok f) = if f.gateway then enters s course f.code else decoded s course f.code (meaning_of f.code)
+fetched s course (Ok f) = if f.gateway then runs_gateway s course f.code else decoded s course f.code (meaning_of f.code)
 
 -- the running code as it fetches
 abbrev pub fetcher_in : State → Fetcher
@@ -142,17 +142,17 @@ fetcher_in s =
 abbrev pub fetch_in : State → FetchAnswer
 fetch_in s = fetch s.bus (fetcher_in s) s.core.registers.pc
 
--- the course of a step that has looked at Secure state, or hasn't
+-- the course of a step that has touched Secure state, or hasn't
 abbrev pub course_in : State → Bool → Course
 course_in s touched = record { touched = touched; negative = is_negative_at (priority_in s) }
 
 abbrev pub fetches : State → FetchAnswer → Ended
 fetches s f = fetched s (course_in s f.touched) f.answer
 
--- a step that fetches nothing looks at Secure state where it starts Secure, or at a Secure address
-abbrev pub looks : Side → State → Bool
-looks Secure s = true
-looks NonSecure s = not (is_own_fetch (map_of s) NonSecure s.core.registers.pc)
+-- a step that fetches nothing touches Secure state where it starts Secure, or at a Secure address
+abbrev pub touches_secure : Side → State → Bool
+touches_secure Secure s = true
+touches_secure NonSecure s = not (is_own_fetch (map_of s) NonSecure s.core.registers.pc)
 
 -- (own) its fault: of an entry to Secure code, or of the instruction set
 abbrev pub unready : Bool → Side → Fault
@@ -163,7 +163,7 @@ unready looked side = InvState
 abbrev pub instructs : State → Ended
 instructs s =
     if s.core.registers.t then fetches s (fetch_in s)
-    else faulting s (course_in s (looks s.core.run.side s)) (unready (looks s.core.run.side s) s.core.run.side)
+    else faulting s (course_in s (touches_secure s.core.run.side s)) (unready (touches_secure s.core.run.side s) s.core.run.side)
 
 -- ---- exceptions and sleep
 
@@ -171,8 +171,8 @@ abbrev pub awake : State → State
 awake s = with_run s (record s.core.run { sleep = Awake })
 
 -- what comes first is taken before an instruction, and ends a sleep
-abbrev pub takes : State → Ended
-takes s = with_stores [] (preempted (awake s) (course_in s (is_secure s.core.run.side)) s.core.registers.pc)
+abbrev pub takes_exception : State → Ended
+takes_exception s = with_stores [] (preempted (awake s) (course_in s (is_secure s.core.run.side)) s.core.registers.pc)
 
 -- the core sleeps on
 abbrev pub idles : State → Ended
@@ -203,7 +203,7 @@ by_sleep Wfe s = if s.core.event || is_woken s then instructs (without_event (aw
 unfoldable pub ended : State → Ended
 ended s =
     if s.core.run.locked then with_stores [] (locks s true)
-    else if takes_first s.exceptions s.core.masks then takes s
+    else if takes_first s.exceptions s.core.masks then takes_exception s
     else by_sleep s.core.run.sleep s
 
 -- ---- the step

@@ -22,7 +22,7 @@ pub enum Cause {
 /// What the stages of a step know of it so far.
 #[derive(Clone, Copy)]
 pub struct Course {
-    /// The step has looked at Secure state.
+    /// The step has touched Secure state.
     pub touched: bool,
     /// The execution priority is below 0 after what the step begins with.
     pub negative: bool,
@@ -31,7 +31,7 @@ pub struct Course {
 /// How a step ended.
 #[derive(Clone, Copy)]
 pub struct Ending {
-    /// Whether the step looked at Secure state.
+    /// Whether the step touched Secure state.
     pub touched: bool,
     pub cause: Cause,
     /// The code of the instruction that ran, where one did.

@@ -4,7 +4,7 @@ ghost use Rattle.std.specs.Prelude.{◌≡◌, ◌≤◌, ◌+◌, ◌*◌, ◌/
 ghost use Rattle.std.specs.Result.{result_err};
 ghost use Rattle.tz_regs.specs.Banks.{stacks_of};
 ghost use Rattle.tz_frames.specs.Registers.{psr_word, retpsr_of};
-ghost use Rattle.tz_frames.specs.Stack.{limit_of, with_side_sp, basic_base, pushed_basic, pushed_additional};
+ghost use Rattle.tz_frames.specs.Stack.{splim_of, with_side_sp, basic_base, pushed_basic, pushed_additional};
 
 use crate::words::store_words;
 use tz_frames::return_bits::{RETPSR_IT_HIGH, RETPSR_IT_LOW, RETPSR_SPREALIGN, RETPSR_T};
@@ -16,8 +16,8 @@ use tz_regs::{Core, Registers};
 pub(crate) const SIGNATURE: u32 = 0xFEFA_125B;
 
 /// PSPLIM of a side with `process`, else its MSPLIM.
-fn limit_of(core: &Core, side: Side, process: bool) -> u32
-    ensures { result ≡ limit_of process (stacks_of side core.now) }
+fn splim_of(core: &Core, side: Side, process: bool) -> u32
+    ensures { result ≡ splim_of process (stacks_of side core.now) }
 {
     let stacks = core.stacks(side);
     if process {
@@ -80,7 +80,7 @@ pub fn push_basic<P: Frames>(core: &mut Core, port: &mut P, back: u32) -> Result
     let privileged = stacks.privileged(core.registers.ipsr);
     let sp = core.sp(side, process);
     let base = basic_base(sp);
-    let limit = limit_of(core, side, process);
+    let limit = splim_of(core, side, process);
     if base < limit {
         set_side_sp(core, side, process, limit);
         return Err(StackFault::Limit(side));
@@ -120,7 +120,7 @@ pub fn push_additional<P: Frames>(
     ensures lent { P.lent port.new ≡ P.lent port.old }
 {
     let base = core.sp(Side::Secure, process).wrapping_sub(40);
-    let limit = limit_of(core, Side::Secure, process);
+    let limit = splim_of(core, Side::Secure, process);
     if base < limit {
         set_side_sp(core, Side::Secure, process, limit);
         return Err(StackFault::Limit(Side::Secure));

@@ -5,7 +5,7 @@ use Rattle.tz_table.specs.declared.units.Size.{Size}
 use Rattle.tz_model.specs.declared.report.Fault.{Fault}
 use Rattle.tz_model.specs.Ports.{Access, Load, Store, cut_to}
 use Rattle.tz_state.specs.declared.request.Kind.TheVariants.{Read, Write}
-use Rattle.tz_state.specs.Access.{Reached, read_by, write_by, access, refused}
+use Rattle.tz_state.specs.Access.{Reached, read_by, write_by, access, access_verdict}
 
 read_keeps : (v : Option Fault) (r : Reached) (size : Size) (a : ℕ) → OnErr (read_by v r size a).1 ((read_by v r size a).0 ≡ r)
 read_keeps (Some fault) r size a = refl
@@ -18,5 +18,5 @@ write_keeps None r size a value = tt
 -- an access that faults changes nothing
 pub fault_keeps : (r : Reached) (a : Access) → OnErr (access r a).1 ((access r a).0 ≡ r)
 unfolding access
-fault_keeps r (Load size a must_align user) = read_keeps (refused r Read size a must_align user) r size a
-fault_keeps r (Store size a value must_align user) = write_keeps (refused r Write size a must_align user) r size a (cut_to size value)
+fault_keeps r (Load size a must_align user) = read_keeps (access_verdict r Read size a must_align user) r size a
+fault_keeps r (Store size a value must_align user) = write_keeps (access_verdict r Write size a must_align user) r size a (cut_to size value)

@@ -71,10 +71,11 @@ unfoldable pub is_writable : List Region → ℕ → Bool
 is_writable [] a = false
 is_writable (r ∷ rs) a = if in_region r a then takes_writes r.kind else is_writable rs a
 
-abbrev pub takes : List Region → Kind → ℕ → Bool
-takes rs Read a = is_mapped rs a
-takes rs Write a = is_writable rs a
-takes rs Fetch a = is_mapped rs a
+-- the map takes an access of this kind at the address
+abbrev pub is_accessible : List Region → Kind → ℕ → Bool
+is_accessible rs Read a = is_mapped rs a
+is_accessible rs Write a = is_writable rs a
+is_accessible rs Fetch a = is_mapped rs a
 
 -- ---- all checks
 
@@ -86,7 +87,7 @@ verdict b q =
     else if not (may_touch (map_in b) q.side q.size q.addr) then Some (Violation q.addr)
     else if not (is_let b q) then Some (DataAccess q.addr q.side)
     else if is_private q.addr then (if q.privileged then None else Some (Precise q.addr))
-    else if not (every (takes b.board.regions q.kind) q.addr q.size) then Some (Precise q.addr)
+    else if not (every (is_accessible b.board.regions q.kind) q.addr q.size) then Some (Precise q.addr)
     else None
 
 -- ---- the machine's answers
@@ -117,27 +118,28 @@ request_by k kind size a must_align user =
       must_align = must_align || k.aligned;
     }
 
-abbrev pub refused : Reached → Kind → Size → ℕ → Bool → Bool → Option Fault
-refused r kind size a must_align user = verdict r.system.bus (request_by r.asker kind size a must_align user)
+-- the verdict on an access of the code that asks
+abbrev pub access_verdict : Reached → Kind → Size → ℕ → Bool → Bool → Option Fault
+access_verdict r kind size a must_align user = verdict r.system.bus (request_by r.asker kind size a must_align user)
 
 -- a read that no check refuses, of the system registers or of memory
-abbrev pub loaded : Bool → Reached → Size → ℕ → Reached × ℕ
-loaded true r size a = (record r { system = system_read r.asker.side r.system a }, system_value r.asker.side r.system a size)
-loaded false r size a = (r, value_at r.system.bus.memory size a)
+abbrev pub permitted_read : Bool → Reached → Size → ℕ → Reached × ℕ
+permitted_read true r size a = (record r { system = system_read r.asker.side r.system a }, system_value r.asker.side r.system a size)
+permitted_read false r size a = (r, value_at r.system.bus.memory size a)
 
 -- a read by its verdict
 abbrev pub read_by : Option Fault → Reached → Size → ℕ → Reached × Result ℕ Fault
 read_by (Some fault) r size a = (r, Err fault)
-read_by None r size a = ((loaded (is_private a) r size a).0, Ok (loaded (is_private a) r size a).1)
+read_by None r size a = ((permitted_read (is_private a) r size a).0, Ok (permitted_read (is_private a) r size a).1)
 
 -- a write that no check refuses, to the system registers or to memory
 abbrev pub stored_in : Bool → Side → SystemState → Size → ℕ → ℕ → SystemState
 stored_in true side s size a value = system_written side s a size value
 stored_in false side s size a value = record s { bus = with_memory s.bus (with_value s.bus.memory size a value) }
 
--- it is noted, with its number cut to its size
-abbrev pub noted : Reached → Size → ℕ → ℕ → Reached
-noted r size a value =
+-- a write that no check refuses, which is noted among the stores
+abbrev pub permitted_write : Reached → Size → ℕ → ℕ → Reached
+permitted_write r size a value =
     record r {
       system = stored_in (is_private a) r.asker.side r.system size a value;
       stores = r.stores ++ record { addr = a; size = size; value = value } ∷ [];
@@ -145,11 +147,11 @@ noted r size a value =
 
 abbrev pub write_by : Option Fault → Reached → Size → ℕ → ℕ → Reached × Result ℕ Fault
 write_by (Some fault) r size a value = (r, Err fault)
-write_by None r size a value = (noted r size a value, Ok 0)
+write_by None r size a value = (permitted_write r size a value, Ok 0)
 
 -- how the machine answers an access; registers alone decide its verdict, and no byte is read for it. What a store
 -- of an instruction changes counts for the checks of its next one
 unfoldable pub access : Answering Reached
-access r (Load size a must_align user) = read_by (refused r Read size a must_align user) r size a
+access r (Load size a must_align user) = read_by (access_verdict r Read size a must_align user) r size a
 access r (Store size a value must_align user) =
-    write_by (refused r Write size a must_align user) r size a (cut_to size value)
+    write_by (access_verdict r Write size a must_align user) r size a (cut_to size value)

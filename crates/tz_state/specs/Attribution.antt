@@ -47,16 +47,16 @@ is_all_nonsecure u = u.ctrl / 2 % 2 == 1
 abbrev pub is_nsc : Bounds → Bool
 is_nsc r = r.rlar / 2 % 2 == 1
 
--- what the regions that hold an address say: none or several of them, Secure
-abbrev pub side_by : List (ℕ × Bounds) → RegionSide
-side_by [] = Secure
-side_by (r ∷ []) = if is_nsc r.1 then Nsc else NonSecure
-side_by (r ∷ q ∷ more) = Secure
+-- the side by the regions that hold an address: where none or several do, Secure
+abbrev pub side_by_regions : List (ℕ × Bounds) → RegionSide
+side_by_regions [] = Secure
+side_by_regions (r ∷ []) = if is_nsc r.1 then Nsc else NonSecure
+side_by_regions (r ∷ q ∷ more) = Secure
 
 -- the SAU's word on an address; where it is off, one word for all
 unfoldable pub sau_side : SauState → ℕ → RegionSide
 sau_side u a =
-    if is_sau_on u then side_by (holding 0 u.regions a)
+    if is_sau_on u then side_by_regions (holding 0 u.regions a)
     else if is_all_nonsecure u then NonSecure
     else Secure
 
@@ -102,9 +102,9 @@ attributed m true side a = fetch_attribution m side a
 attributed m false side a = data_attribution m side a
 
 -- an address whose attribution neither the SAU nor the board decides
-abbrev pub is_fixed : Bool → ℕ → Bool
-is_fixed true a = nat_le 0xE0000000 a
-is_fixed false a = is_exempt a
+abbrev pub has_fixed_attribution : Bool → ℕ → Bool
+has_fixed_attribution true a = nat_le 0xE0000000 a
+has_fixed_attribution false a = is_exempt a
 
 -- callable memory is Secure memory
 abbrev pub side_told : RegionSide → Side
@@ -119,7 +119,7 @@ attribution m fetch side a =
     record {
       side = side_told (attributed m fetch side a);
       callable = is_callable (attributed m fetch side a);
-      sregion = if is_fixed fetch a then None else sau_region m.sau a;
+      sregion = if has_fixed_attribution fetch a then None else sau_region m.sau a;
       iregion = idau_region 0 m.regions a;
     }
 

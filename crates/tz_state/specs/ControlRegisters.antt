@@ -10,7 +10,7 @@ use Rattle.tz_regs.specs.declared.parts.SideStatus.{SideStatus}
 use Rattle.tz_state.specs.declared.slot.SlotState.{SlotState}
 use Rattle.tz_state.specs.ExceptionNumbers.{nmi, hard_fault, mem_manage, bus_fault, usage_fault, secure_fault, sv_call, pend_sv, sys_tick}
 use Rattle.tz_state.specs.ControlBits.{icsr_rettobase, icsr_vectpending, icsr_isrpending, icsr_pendstclr, icsr_pendstset, icsr_pendsvclr, icsr_pendsvset, icsr_pendnmiclr, icsr_pendnmiset, aircr_prigroup, aircr_bfhfnmins, aircr_pris, aircr_vectkey, vectkey, vectkeystat, shcsr_memfaultact, shcsr_busfaultact, shcsr_hardfaultact, shcsr_usgfaultact, shcsr_securefaultact, shcsr_nmiact, shcsr_svcallact, shcsr_pendsvact, shcsr_systickact, shcsr_usgfaultpended, shcsr_memfaultpended, shcsr_busfaultpended, shcsr_svcallpended, shcsr_memfaultena, shcsr_busfaultena, shcsr_usgfaultena, shcsr_securefaultena, shcsr_securefaultpended, shcsr_hardfaultpended}
-use Rattle.tz_state.specs.Slots.{ExceptionsValue, at, places, number_at, index_of}
+use Rattle.tz_state.specs.Slots.{ExceptionsValue, at, places, exception_number, index_of}
 use Rattle.tz_state.specs.SlotChanges.{is_fault_side_held}
 use Rattle.tz_state.specs.Priority.{chosen}
 use Rattle.tz_state.specs.Execution.{is_active}
@@ -68,7 +68,7 @@ is_interrupt_pending e = any_below (λ n. (at e (32 + n)).pending) e.interrupts
 
 -- a slot is active at a place beside the one that is handled: of another number, or the second that is active
 abbrev pub is_other_active : ExceptionsValue → ℕ → ℕ → Bool
-is_other_active e ipsr i = is_active e i && (not (number_at i == ipsr) || any_below (is_active e) i)
+is_other_active e ipsr i = is_active e i && (not (exception_number i == ipsr) || any_below (is_active e) i)
 
 -- RETTOBASE: an exception is handled, and no slot is active but one of its number
 abbrev pub returns_to_base : ExceptionsValue → ℕ → Bool

@@ -7,7 +7,7 @@ use Rattle.tz_model.specs.declared.report.Slot.{Slot}
 use Rattle.tz_regs.specs.declared.parts.Masks.{Masks}
 use Rattle.tz_regs.specs.declared.parts.SideMasks.{SideMasks}
 use Rattle.tz_state.specs.Slots.{ExceptionsValue, at, places, is_place, index_of}
-use Rattle.tz_state.specs.Priority.{zero_priority, group_of, counted, hard_priority, priority_of, chosen}
+use Rattle.tz_state.specs.Priority.{zero_priority, group_of, restricted_priority, hard_priority, priority_of, chosen}
 
 -- that of no exception and no mask
 abbrev pub idle_priority : ℕ
@@ -32,17 +32,17 @@ raw_priority e = active_below e places
 
 -- a BASEPRI that isn't 0 counts as the priority of an exception of its side does
 abbrev pub basepri_priority : ExceptionsValue → Side → ℕ → ℕ
-basepri_priority e side byte = if byte == 0 then idle_priority else zero_priority + counted e side (group_of e side byte)
+basepri_priority e side byte = if byte == 0 then idle_priority else zero_priority + restricted_priority e side (group_of e side byte)
 
 -- PRIMASK counts as priority 0 of its side
 abbrev pub primask_priority : ExceptionsValue → Side → Bool → ℕ
-primask_priority e side set = if set then zero_priority + counted e side 0 else idle_priority
+primask_priority e side set = if set then zero_priority + restricted_priority e side 0 else idle_priority
 
 -- FAULTMASK of the Secure side counts as Secure HardFault; that of the Non-secure side as Non-secure HardFault
 -- while BFHFNMINS is 1, else as priority 0
 abbrev pub faultmask_set : ExceptionsValue → Side → ℕ
 faultmask_set e Secure = hard_priority e Secure
-faultmask_set e NonSecure = if e.bfhfnmins then hard_priority e NonSecure else zero_priority + counted e NonSecure 0
+faultmask_set e NonSecure = if e.bfhfnmins then hard_priority e NonSecure else zero_priority + restricted_priority e NonSecure 0
 
 abbrev pub faultmask_priority : ExceptionsValue → Side → Bool → ℕ
 faultmask_priority e side set = if set then faultmask_set e side else idle_priority
@@ -61,12 +61,12 @@ abbrev pub can_take : ExceptionsValue → Masks → Slot → Bool
 can_take e m slot = nat_lt (priority_of e (index_of slot)) (execution e m)
 
 -- the exception that comes first, where there is one, can be taken
-abbrev pub takes : ExceptionsValue → Masks → Option Slot → Bool
-takes e m None = false
-takes e m (Some slot) = can_take e m slot
+abbrev pub can_take_any : ExceptionsValue → Masks → Option Slot → Bool
+can_take_any e m None = false
+can_take_any e m (Some slot) = can_take e m slot
 
 abbrev pub takes_first : ExceptionsValue → Masks → Bool
-takes_first e m = takes e m (chosen e)
+takes_first e m = can_take_any e m (chosen e)
 
 -- with both PRIMASKs read as 0
 abbrev pub without_primask : Masks → Masks

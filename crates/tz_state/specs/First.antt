@@ -1,7 +1,7 @@
 -- What it is to come first, said of each other slot, and how places are ordered.
 use Rattle.std.specs.Prelude.{◌≡◌, ◌≢◌, ◌⊎◌, ℕ, ◌<◌, ◌≤◌, true}
 use Rattle.tz_table.specs.declared.units.Side.TheVariants.{Secure, NonSecure}
-use Rattle.tz_state.specs.Slots.{ExceptionsValue, places, number_at, side_at}
+use Rattle.tz_state.specs.Slots.{ExceptionsValue, places, exception_number, side_at}
 use Rattle.tz_state.specs.Priority.{priority_of, subpriority_of, is_ready}
 
 -- by group priority, then subpriority, then place
@@ -24,4 +24,4 @@ FitGroups e = (e.prigroup_s ≤ 7) × (e.prigroup_ns ≤ 7)
 -- by number, and of one number Secure before Non-secure
 abbrev pub Ascends : ExceptionsValue → ℕ → ℕ → Type 0
 Ascends e i j =
-    (number_at i < number_at j) ⊎ ((number_at i ≡ number_at j) × (side_at e i ≡ Secure) × (side_at e j ≡ NonSecure))
+    (exception_number i < exception_number j) ⊎ ((exception_number i ≡ exception_number j) × (side_at e i ≡ Secure) × (side_at e j ≡ NonSecure))

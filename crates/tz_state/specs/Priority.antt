@@ -5,7 +5,7 @@ use Rattle.tz_table.specs.declared.units.Side.{Side}
 use Rattle.tz_table.specs.declared.units.Side.TheVariants.{Secure, NonSecure}
 use Rattle.tz_model.specs.declared.report.Slot.{Slot}
 use Rattle.tz_state.specs.ExceptionNumbers.{nmi, hard_fault}
-use Rattle.tz_state.specs.Slots.{ExceptionsValue, at, places, is_place, number_at, side_at, slot_at, is_enabled, is_fixed, prigroup_of}
+use Rattle.tz_state.specs.Slots.{ExceptionsValue, at, places, is_place, exception_number, side_at, slot_at, is_enabled, has_fixed_priority, prigroup_of}
 use Rattle.tz_state.specs.Least.{least_below}
 
 -- the manual's priority 0; those below it are negative
@@ -36,10 +36,10 @@ group_of e side byte = byte / group_size e side * group_size e side
 abbrev pub subgroup_of : ExceptionsValue → Side → ℕ → ℕ
 subgroup_of e side byte = byte % group_size e side
 
--- with PRIS, Non-secure groups count in the upper half
-abbrev pub counted : ExceptionsValue → Side → ℕ → ℕ
-counted e Secure group = group
-counted e NonSecure group = if e.pris then 128 + group / 2 else group
+-- with PRIS, Non-secure priorities are restricted to the upper half (DDI0553, `RestrictedNSPri`)
+abbrev pub restricted_priority : ExceptionsValue → Side → ℕ → ℕ
+restricted_priority e Secure group = group
+restricted_priority e NonSecure group = if e.pris then 128 + group / 2 else group
 
 -- HardFault of a side
 abbrev pub hard_priority : ExceptionsValue → Side → ℕ
@@ -49,13 +49,13 @@ hard_priority e NonSecure = hard_fault_priority
 -- the group priority of the slot at a place
 unfoldable pub priority_of : ExceptionsValue → ℕ → ℕ
 priority_of e i =
-    if number_at i == nmi then nmi_priority
-    else if number_at i == hard_fault then hard_priority e (side_at e i)
-    else zero_priority + counted e (side_at e i) (group_of e (side_at e i) (at e i).priority)
+    if exception_number i == nmi then nmi_priority
+    else if exception_number i == hard_fault then hard_priority e (side_at e i)
+    else zero_priority + restricted_priority e (side_at e i) (group_of e (side_at e i) (at e i).priority)
 
 -- what decides among equal group priorities
 unfoldable pub subpriority_of : ExceptionsValue → ℕ → ℕ
-subpriority_of e i = if is_fixed (number_at i) then 0 else subgroup_of e (side_at e i) (at e i).priority
+subpriority_of e i = if has_fixed_priority (exception_number i) then 0 else subgroup_of e (side_at e i) (at e i).priority
 
 -- by group priority, then subpriority, then number, then Secure before Non-secure, as places are
 unfoldable pub rank_of : ExceptionsValue → ℕ → ℕ

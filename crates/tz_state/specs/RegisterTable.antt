@@ -10,14 +10,15 @@ use Rattle.tz_state.specs.declared.units.MpuRegister.TheVariants as mpu
 use Rattle.tz_state.specs.declared.units.SauRegister.TheVariants as sau
 
 -- an offset and the register there
-abbrev pub Row : Type 0
-Row = ℕ × Register
+abbrev pub RegisterRow : Type 0
+RegisterRow = ℕ × Register
 
-abbrev pub row_at : List Row → ℕ → Option Register
-row_at [] a = None
-row_at (row ∷ rows) a = if a == row.0 then Some row.1 else row_at rows a
+-- the register at an offset
+abbrev pub register_in : List RegisterRow → ℕ → Option Register
+register_in [] a = None
+register_in (row ∷ rows) a = if a == row.0 then Some row.1 else register_in rows a
 
-abbrev pub timer_rows : List Row
+abbrev pub timer_rows : List RegisterRow
 timer_rows =
     (0x004, Ictr)
     ∷ (0x010, Timer syst.Csr)
@@ -27,7 +28,7 @@ timer_rows =
     ∷ []
 
 -- the arrays of the NVIC by blocks of 128 bytes, of which each word has its number
-abbrev pub nvic_rows : ℕ → List Row
+abbrev pub nvic_rows : ℕ → List RegisterRow
 nvic_rows word =
     (2, Bits nvic.Enable word)
     ∷ (3, Bits nvic.Disable word)
@@ -39,7 +40,7 @@ nvic_rows word =
     ∷ (9, Priorities (32 + word))
     ∷ []
 
-abbrev pub control_rows : List Row
+abbrev pub control_rows : List RegisterRow
 control_rows =
     (0xD00, Control scb.Cpuid)
     ∷ (0xD04, Control scb.Icsr)
@@ -56,7 +57,7 @@ control_rows =
     ∷ (0xD38, Fault fault.Bfar)
     ∷ []
 
-abbrev pub mpu_rows : List Row
+abbrev pub mpu_rows : List RegisterRow
 mpu_rows =
     (0xD90, Mpu mpu.Type)
     ∷ (0xD94, Mpu mpu.Ctrl)
@@ -73,7 +74,7 @@ mpu_rows =
     ∷ (0xDC4, Mpu mpu.Mair1)
     ∷ []
 
-abbrev pub sau_rows : List Row
+abbrev pub sau_rows : List RegisterRow
 sau_rows =
     (0xDD0, Sau sau.Ctrl)
     ∷ (0xDD4, Sau sau.Type)
@@ -88,8 +89,8 @@ sau_rows =
 -- the register whose word has an offset
 abbrev pub register_at : ℕ → Option Register
 register_at a =
-    if nat_lt a 0x100 then row_at timer_rows a
-    else if nat_lt a 0xD00 then row_at (nvic_rows (a % 128 / 4)) (a / 128)
-    else if nat_lt a 0xD90 then row_at control_rows a
-    else if nat_lt a 0xDD0 then row_at mpu_rows a
-    else row_at sau_rows a
+    if nat_lt a 0x100 then register_in timer_rows a
+    else if nat_lt a 0xD00 then register_in (nvic_rows (a % 128 / 4)) (a / 128)
+    else if nat_lt a 0xD90 then register_in control_rows a
+    else if nat_lt a 0xDD0 then register_in mpu_rows a
+    else register_in sau_rows a

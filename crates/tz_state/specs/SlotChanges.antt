@@ -5,7 +5,7 @@ use Rattle.tz_table.specs.declared.units.Side.TheVariants.{Secure, NonSecure}
 use Rattle.tz_model.specs.declared.report.Slot.{Slot}
 use Rattle.tz_state.specs.declared.slot.SlotState.{SlotState}
 use Rattle.tz_state.specs.declared.slot.Timer.{Timer}
-use Rattle.tz_state.specs.Slots.{ExceptionsValue, at, with_slot, index_of, is_always_enabled, is_fixed}
+use Rattle.tz_state.specs.Slots.{ExceptionsValue, at, with_slot, index_of, is_always_enabled, has_fixed_priority}
 
 abbrev pub pended : ExceptionsValue → Slot → ExceptionsValue
 pended e slot = with_slot e (index_of slot) (record (at e (index_of slot)) { pending = true })
@@ -23,7 +23,7 @@ deactivated e slot = with_slot e (index_of slot) (record (at e (index_of slot)) 
 -- fixed priorities stay
 abbrev pub prioritized : ExceptionsValue → Slot → ℕ → ExceptionsValue
 prioritized e slot raw =
-    with_slot e (index_of slot) (record (at e (index_of slot)) { priority = if is_fixed slot.number then (at e (index_of slot)).priority else raw })
+    with_slot e (index_of slot) (record (at e (index_of slot)) { priority = if has_fixed_priority slot.number then (at e (index_of slot)).priority else raw })
 
 -- what is always enabled stays so
 abbrev pub switched : ExceptionsValue → Slot → Bool → ExceptionsValue

@@ -61,8 +61,8 @@ abbrev pub index_of : Slot → ℕ
 index_of slot = if nat_lt slot.number first_interrupt then 2 * slot.number + bank_of slot.number slot.side else slot.number + 16
 
 -- the number whose slot stands at a place
-abbrev pub number_at : ℕ → ℕ
-number_at i = if nat_lt i 32 then i / 2 else i - 16
+abbrev pub exception_number : ℕ → ℕ
+exception_number i = if nat_lt i 32 then i / 2 else i - 16
 
 -- a slot stands at this place
 abbrev pub is_place : ExceptionsValue → ℕ → Bool
@@ -78,18 +78,18 @@ side_at e i = if nat_lt i 32 then (if i % 2 == 1 then NonSecure else system_side
 
 -- the slot at a place
 abbrev pub slot_at : ExceptionsValue → ℕ → Slot
-slot_at e i = record { number = number_at i; side = side_at e i }
+slot_at e i = record { number = exception_number i; side = side_at e i }
 
 -- NMI, HardFault, SVCall, PendSV and SysTick can't be disabled
 abbrev pub is_always_enabled : ℕ → Bool
 is_always_enabled n = n == nmi || (n == hard_fault || (n == sv_call || (n == pend_sv || n == sys_tick)))
 
 abbrev pub is_enabled : ExceptionsValue → ℕ → Bool
-is_enabled e i = is_always_enabled (number_at i) || (at e i).enabled
+is_enabled e i = is_always_enabled (exception_number i) || (at e i).enabled
 
 -- NMI and HardFault have fixed priorities
-abbrev pub is_fixed : ℕ → Bool
-is_fixed n = n == nmi || n == hard_fault
+abbrev pub has_fixed_priority : ℕ → Bool
+has_fixed_priority n = n == nmi || n == hard_fault
 
 abbrev pub prigroup_of : ExceptionsValue → Side → ℕ
 prigroup_of e Secure = e.prigroup_s

@@ -6,13 +6,13 @@ use Rattle.tz_regs.specs.Special.{number_of}
 use Rattle.tz_state.specs.declared.probe.Probe.{Probe}
 use Rattle.tz_state.specs.declared.request.Kind.{Kind}
 use Rattle.tz_state.specs.declared.request.Kind.TheVariants.{Read, Write}
-use Rattle.tz_state.specs.Attribution.{sau_region, is_fixed, idau_region, data_attribution}
+use Rattle.tz_state.specs.Attribution.{sau_region, has_fixed_attribution, idau_region, data_attribution}
 use Rattle.tz_model.specs.Board.{is_nonsecure}
 use Rattle.tz_state.specs.Protection.{permits, mpu_region}
 use Rattle.tz_state.specs.TargetBits.{tt_mregion, tt_sregion, tt_mrvalid, tt_srvalid, tt_r, tt_rw, tt_nsr, tt_nsrw, tt_s, tt_irvalid, tt_iregion}
 use Rattle.tz_state.specs.State.{Bus, map_in, mpu_of}
 
--- the state whose MPU is looked at: Secure code may ask for the Non-secure one
+-- the state whose MPU is asked: Secure code may ask for the Non-secure one
 abbrev pub examined : Side → Bool → Side
 examined NonSecure alternate = NonSecure
 examined Secure alternate = if alternate then NonSecure else Secure
@@ -21,7 +21,7 @@ examined Secure alternate = if alternate then NonSecure else Secure
 abbrev pub learns : Probe → Bool
 learns p = p.privileged || p.alternate
 
--- an access of this kind is permitted, with the privilege in the state looked at, or without it
+-- an access of this kind is permitted, with the privilege in the state whose MPU is asked, or without it
 abbrev pub may : Bus → Probe → Kind → Bool
 may b p kind =
     learns p
@@ -45,7 +45,7 @@ common_part b p = told_at tt_mregion tt_mrvalid (mregion b p) + flag_at tt_r (ma
 
 -- the region of the SAU, which isn't told where neither it nor the board attributes the address
 abbrev pub sregion : Bus → Probe → Option ℕ
-sregion b p = if is_fixed false p.addr then None else sau_region b.sau p.addr
+sregion b p = if has_fixed_attribution false p.addr then None else sau_region b.sau p.addr
 
 abbrev pub is_open_to : Bus → Probe → Bool
 is_open_to b p = is_nonsecure (data_attribution (map_in b) p.side p.addr)

@@ -6,7 +6,7 @@ use Rattle.tz_table.specs.declared.units.Side.TheVariants.{Secure, NonSecure}
 use Rattle.tz_table.specs.declared.units.Size.{Size}
 use Rattle.tz_table.specs.declared.units.Size.TheVariants.{Byte, Half, Word}
 use Rattle.tz_model.specs.Board.{within}
-use Rattle.tz_state.specs.declared.register.Found.{Found}
+use Rattle.tz_state.specs.declared.register.ViewedRegister.{ViewedRegister}
 use Rattle.tz_state.specs.declared.register.Narrow.{Narrow}
 use Rattle.tz_state.specs.declared.register.Narrow.TheVariants.{Keeps, Zeros, Ignored}
 use Rattle.tz_state.specs.declared.register.Register.{Register}
@@ -20,7 +20,7 @@ use Rattle.tz_state.specs.SystemRegisters.{SystemState, value_of, after_read, wr
 
 -- ---- addresses
 
-abbrev pub found_by : Side → Option Register → Option Found
+abbrev pub found_by : Side → Option Register → Option ViewedRegister
 found_by side None = None
 found_by side (Some r) = Some (record { view = side; register = r })
 
@@ -29,12 +29,12 @@ abbrev pub in_window : ℕ → ℕ → Option Register
 in_window base a = register_at ((a - base) / 4 * 4)
 
 -- the alias gives Secure code the Non-secure view, and nothing to Non-secure code
-abbrev pub alias_found : Side → ℕ → Option Found
+abbrev pub alias_found : Side → ℕ → Option ViewedRegister
 alias_found Secure a = if within 0xE002E000 0xE002EFFF a then found_by NonSecure (in_window 0xE002E000 a) else None
 alias_found NonSecure a = None
 
 -- what an access by code of a side finds at an address: in the system control space its own view
-abbrev pub found_at : Side → ℕ → Option Found
+abbrev pub found_at : Side → ℕ → Option ViewedRegister
 found_at side a = if within 0xE000E000 0xE000EFFF a then found_by side (in_window 0xE000E000 a) else alias_found side a
 
 -- ---- sizes
@@ -84,16 +84,16 @@ sized_written side s r lane Word value = written side s r value
 -- ---- reads and writes
 
 -- where there is no register, reads give zero
-abbrev pub found_value : SystemState → Option Found → ℕ → Size → ℕ
+abbrev pub found_value : SystemState → Option ViewedRegister → ℕ → Size → ℕ
 found_value s None lane size = 0
 found_value s (Some f) lane size = part_of (value_of f.view s f.register) lane size
 
-abbrev pub found_read : SystemState → Option Found → SystemState
+abbrev pub found_read : SystemState → Option ViewedRegister → SystemState
 found_read s None = s
 found_read s (Some f) = after_read f.view s f.register
 
 -- and writes do nothing
-abbrev pub found_written : SystemState → Option Found → ℕ → Size → ℕ → SystemState
+abbrev pub found_written : SystemState → Option ViewedRegister → ℕ → Size → ℕ → SystemState
 found_written s None lane size value = s
 found_written s (Some f) lane size value = sized_written f.view s f.register lane size value
 

@@ -1,4 +1,4 @@
-//! The state of the machine, as definitions speak of it, and how it answers looks: memory, attribution, protection,
+//! The state of the machine, as definitions speak of it, and how it answers: memory, attribution, protection,
 //! accesses, fetches, TT; the exceptions with their priorities and timers; the system registers by address; and what
 //! tells two states apart.
 //!
@@ -29,7 +29,9 @@ mod units;
 pub use asker::Asker;
 pub use fetcher::Fetcher;
 pub use probe::Probe;
-pub use register::{Bank, ControlRegister, FaultRegister, Found, Narrow, Register, TimerRegister};
+pub use register::{
+    Bank, ControlRegister, FaultRegister, Narrow, Register, TimerRegister, ViewedRegister,
+};
 pub use request::{Exclusive, Kind, Request};
 pub use slot::{SlotState, Timer};
 pub use taken::Taken;

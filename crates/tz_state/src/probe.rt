@@ -1,4 +1,4 @@
-//! Looks at an address (TT).
+//! A question about an address (TT).
 
 use tz_model::Side;
 
@@ -8,11 +8,11 @@ pub struct Probe {
     pub addr: u32,
     /// The state of the code that asks.
     pub side: Side,
-    /// That code is privileged in the state whose MPU is looked at.
+    /// That code is privileged in the state whose MPU is asked.
     pub privileged: bool,
     /// The execution priority is below 0.
     pub negative: bool,
-    /// The Non-secure MPU is looked at.
+    /// The Non-secure MPU is asked.
     pub alternate: bool,
     /// For an access without privilege.
     pub user: bool,

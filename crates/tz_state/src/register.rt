@@ -66,7 +66,7 @@ pub enum Register {
 
 /// A register at an address, and whose view of it is had there.
 #[derive(Clone, Copy)]
-pub struct Found {
+pub struct ViewedRegister {
     pub view: Side,
     pub register: Register,
 }

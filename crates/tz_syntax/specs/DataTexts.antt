@@ -8,10 +8,10 @@ use Rattle.tz_table.specs.declared.instruction.MultiplyOp.TheVariants.{Mul, Mla,
 use Rattle.tz_table.specs.declared.instruction.LongOp.TheVariants.{Smull, Umull, Smlal, Umlal}
 use Rattle.tz_syntax.specs.FormNumbers.{constant, register, shift_register, add_wide, adr, mov_wide, saturate, bit_field, extend, reverse, multiply, multiply_long, divide, no, yes, never, always, outside, lsl, lsr, asr, ror}
 use Rattle.tz_syntax.specs.Operands.{reg, num, imm, aligned, shifted, left, right, rotated}
-use Rattle.tz_syntax.specs.Rows.{TextRow, is, narrow, wide}
+use Rattle.tz_syntax.specs.Rows.{TextRowValue, is, narrow, wide}
 
 -- operations with a constant: flags
-abbrev pub constants : List TextRow
+abbrev pub constants : List TextRowValue
 constants =
     wide (constant And) (is 1 never ∷ []) (codes "and.w") (reg 5 ∷ reg 6 ∷ imm 7 ∷ []) ∷  -- and.w rd, rn, #i
     wide (constant And) (is 1 always ∷ []) (codes "ands.w") (reg 5 ∷ reg 6 ∷ imm 7 ∷ []) ∷  -- ands.w rd, rn, #i
@@ -49,7 +49,7 @@ constants =
     []
 
 -- operations with a register: flags; kind of the shift, and its amount at place 8
-abbrev pub registers : List TextRow
+abbrev pub registers : List TextRowValue
 registers =
     narrow (register And) (is 1 outside ∷ []) (codes "ands") (reg 5 ∷ reg 6 ∷ reg 7 ∷ []) ∷  -- ands rd, rd, rm
     wide (register And) (is 1 never ∷ []) (codes "and.w") (reg 5 ∷ reg 6 ∷ shifted 7 2 8 ∷ []) ∷  -- and.w rd, rn, rm, shift
@@ -100,7 +100,7 @@ registers =
     []
 
 -- other operations
-abbrev pub other_data : List TextRow
+abbrev pub other_data : List TextRowValue
 other_data =
     narrow shift_register (is 1 lsl ∷ is 2 outside ∷ []) (codes "lsls") (reg 5 ∷ reg 6 ∷ reg 7 ∷ []) ∷  -- lsls rd, rd, rm
     narrow shift_register (is 1 lsr ∷ is 2 outside ∷ []) (codes "lsrs") (reg 5 ∷ reg 6 ∷ reg 7 ∷ []) ∷  -- lsrs rd, rd, rm

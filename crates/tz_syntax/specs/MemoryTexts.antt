@@ -2,10 +2,10 @@
 use Rattle.std.specs.Prelude.{List, [], ◌∷◌, codes}
 use Rattle.tz_syntax.specs.FormNumbers.{load, store, load_pair, store_pair, load_many, store_many, preload, load_exclusive, store_exclusive, load_acquire, store_release, no, yes, byte, half, word, index, offset, post, pre, literal}
 use Rattle.tz_syntax.specs.Operands.{reg, back, num, list, at_base, at, at_pre, at_sum, at_scaled, at_pc}
-use Rattle.tz_syntax.specs.Rows.{TextRow, is, narrow, wide}
+use Rattle.tz_syntax.specs.Rows.{TextRowValue, is, narrow, wide}
 
 -- loads: size, signed, kind of the address, user
-abbrev pub loads : List TextRow
+abbrev pub loads : List TextRowValue
 loads =
     narrow load (is 1 word ∷ is 2 no ∷ is 3 offset ∷ is 4 no ∷ []) (codes "ldr") (reg 5 ∷ at 6 7 ∷ []) ∷  -- ldr rt, [rn, #k]
     narrow load (is 1 byte ∷ is 2 no ∷ is 3 offset ∷ is 4 no ∷ []) (codes "ldrb") (reg 5 ∷ at 6 7 ∷ []) ∷  -- ldrb rt, [rn, #k]
@@ -49,7 +49,7 @@ loads =
     []
 
 -- stores: size, kind of the address, user
-abbrev pub stores : List TextRow
+abbrev pub stores : List TextRowValue
 stores =
     narrow store (is 1 word ∷ is 2 offset ∷ is 3 no ∷ []) (codes "str") (reg 5 ∷ at 6 7 ∷ []) ∷  -- str rt, [rn, #k]
     narrow store (is 1 byte ∷ is 2 offset ∷ is 3 no ∷ []) (codes "strb") (reg 5 ∷ at 6 7 ∷ []) ∷  -- strb rt, [rn, #k]
@@ -75,7 +75,7 @@ stores =
     []
 
 -- pairs: kind of the address
-abbrev pub pairs : List TextRow
+abbrev pub pairs : List TextRowValue
 pairs =
     wide load_pair (is 1 offset ∷ []) (codes "ldrd") (reg 5 ∷ reg 6 ∷ at 7 8 ∷ []) ∷  -- ldrd rt, rt2, [rn, #k]
     wide load_pair (is 1 pre ∷ []) (codes "ldrd") (reg 5 ∷ reg 6 ∷ at_pre 7 8 ∷ []) ∷  -- ldrd rt, rt2, [rn, #k]!
@@ -87,7 +87,7 @@ pairs =
     []
 
 -- multiples: down, back; SP at place 5 pops and pushes
-abbrev pub multiples : List TextRow
+abbrev pub multiples : List TextRowValue
 multiples =
     narrow load_many (is 1 no ∷ is 2 yes ∷ is 5 13 ∷ []) (codes "pop") (list 6 ∷ []) ∷  -- pop {list}
     narrow load_many (is 1 no ∷ is 2 yes ∷ []) (codes "ldm") (back 5 ∷ list 6 ∷ []) ∷  -- ldm rn!, {list}
@@ -107,7 +107,7 @@ multiples =
     []
 
 -- preloads, exclusive accesses, acquire and release: size, acquire or release
-abbrev pub exclusives : List TextRow
+abbrev pub exclusives : List TextRowValue
 exclusives =
     wide preload [] (codes "pld") [] ∷  -- pld
     wide load_exclusive (is 1 word ∷ is 2 no ∷ []) (codes "ldrex") (reg 5 ∷ at 6 7 ∷ []) ∷  -- ldrex rt, [rn, #k]

@@ -3,10 +3,10 @@ use Rattle.std.specs.Prelude.{List, [], ◌∷◌, codes}
 use Rattle.tz_table.specs.declared.instruction.BarrierOp.TheVariants.{Clrex, Dsb, Dmb, Isb}
 use Rattle.tz_syntax.specs.FormNumbers.{branch, branch_if, branch_link, branch_zero, table_branch, branch_exchange, call_exchange, if_then, hint, barrier, change_state, read_special, write_special, test_target, secure_gateway, lazy_state, supervisor, breakpoint, undefined, no, yes}
 use Rattle.tz_syntax.specs.Operands.{reg, num, target, special, condition, masks, at_sum, at_doubled}
-use Rattle.tz_syntax.specs.Rows.{TextRow, is, narrow, wide, lettered}
+use Rattle.tz_syntax.specs.Rows.{TextRowValue, is, narrow, wide, lettered}
 
 -- branches
-abbrev pub branches : List TextRow
+abbrev pub branches : List TextRowValue
 branches =
     narrow branch [] (codes "b") (target 5 ∷ []) ∷  -- b target
     wide branch [] (codes "b.w") (target 5 ∷ []) ∷  -- b.w target
@@ -50,7 +50,7 @@ branches =
     []
 
 -- the system
-abbrev pub system : List TextRow
+abbrev pub system : List TextRowValue
 system =
     lettered if_then [] (codes "it") (condition 5 ∷ []) ∷  -- it condition; ite condition ..
     narrow hint (is 5 0 ∷ []) (codes "nop") [] ∷  -- nop

@@ -7,14 +7,14 @@ use Rattle.tz_table.specs.declared.units.Width.{Width}
 use Rattle.tz_syntax.specs.DataTexts.{constants, registers, other_data}
 use Rattle.tz_syntax.specs.MemoryTexts.{loads, stores, pairs, multiples, exclusives}
 use Rattle.tz_syntax.specs.OtherTexts.{branches, system}
-use Rattle.tz_syntax.specs.Rows.{TextRow, fits, row_text}
+use Rattle.tz_syntax.specs.Rows.{TextRowValue, fits, row_text}
 
 -- all rows
-unfoldable pub texts : List TextRow
+unfoldable pub texts : List TextRowValue
 texts = constants ++ registers ++ other_data ++ loads ++ stores ++ pairs ++ multiples ++ exclusives ++ branches ++ system
 
 -- the text of a row, where there is one
-abbrev pub found_text : Option TextRow → List ℤ → ℕ → List ℕ
+abbrev pub found_text : Option TextRowValue → List ℤ → ℕ → List ℕ
 found_text None e pc = []
 found_text (Some r) e pc = row_text r e pc
 

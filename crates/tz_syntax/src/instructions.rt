@@ -6,14 +6,14 @@ ghost use Rattle.tz_syntax.specs.Rows.{row_most, row_text, row_view};
 ghost use Rattle.tz_syntax.specs.Text.{text_of};
 
 use crate::pieces::push_pieces;
-use crate::row::Row;
+use crate::row::TextRow;
 use crate::search::row_of;
 use arrayvec::ArrayString;
 use tz_bits::values;
 use tz_table::{Insn, Width};
 
 /// What a row prints.
-fn push_row<const N: usize>(line: &mut ArrayString<N>, row: &Row, values: &[i32; 9], pc: u32)
+fn push_row<const N: usize>(line: &mut ArrayString<N>, row: &TextRow, values: &[i32; 9], pc: u32)
     requires { array_string_len line.old + row_most (row_view row.now) ≤ N }
     ensures bytes { line.new.bytes ≡ line.old.bytes ++ row_text (row_view row.now) values.now pc }
     ensures len { array_string_len line.new ≤ array_string_len line.old + row_most (row_view row.now) }

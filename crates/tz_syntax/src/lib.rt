@@ -28,7 +28,7 @@ pub use instructions::{instruction_text, push_instruction};
 pub use lines::first_line;
 pub use names::register_name;
 pub use pieces::number_at;
-pub use row::{Mark, Piece, Row};
+pub use row::{Mark, Piece, TextRow};
 pub use rows::text_rows;
 pub use runs::without_comment;
 pub use spelling::{condition_of, register_of, shift_of, special_of, spells};

@@ -72,7 +72,6 @@ fn name_at(names: &[&'static str], number: u32) -> &'static str
     }
 }
 
-/// The name of a register.
 pub fn register_name(number: u32) -> &'static str
     ensures text { result.now ≡ register_text number }
     ensures short { length result.now ≤ 3 }
@@ -80,7 +79,6 @@ pub fn register_name(number: u32) -> &'static str
     name_at(&REGISTERS, number)
 }
 
-/// The name of a condition.
 pub fn condition_name(number: u32) -> &'static str
     ensures text { result.now ≡ condition_text number }
     ensures short { length result.now ≤ 2 }

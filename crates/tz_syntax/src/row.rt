@@ -60,7 +60,7 @@ pub enum Piece {
 
 /// The text of the instructions of a form and a width that have these values at these places.
 #[derive(Clone, Copy)]
-pub struct Row {
+pub struct TextRow {
     /// The value at place 0.
     pub form: u16,
     pub width: Width,

@@ -9,7 +9,7 @@ ghost use Rattle.tz_syntax.specs.Rows.{row_view};
 ghost use Rattle.tz_syntax.specs.Starts.{start_at};
 ghost use Rattle.tz_syntax.specs.Text.{texts};
 
-use crate::row::Row;
+use crate::row::TextRow;
 use table::{ROWS, STARTS};
 use tz_table::Width;
 
@@ -135,7 +135,7 @@ macro_rules! pieces {
 /// A line of the table. `letters 5 6` in front of the operands are the letters behind `it`.
 macro_rules! row {
     (@ $form:literal $width:ident [$(($place:literal $value:literal))*] $mnemonic:literal $pieces:expr) => {
-        Row {
+        TextRow {
             form: $form,
             width: Width::$width,
             fixed: padded!({} [None None None None] $(($place, $value)),*),
@@ -157,14 +157,14 @@ macro_rules! row {
 mod table;
 
 /// All rows, in the order in which the first that fits gives the text of an instruction.
-pub fn text_rows() -> &'static [Row]
+pub fn text_rows() -> &'static [TextRow]
     ensures { map row_view result.now ≡ texts }
 {
     &ROWS
 }
 
 /// The rows from one of them on.
-fn behind(rows: &'static [Row], start: u16) -> &'static [Row]
+fn behind(rows: &'static [TextRow], start: u16) -> &'static [TextRow]
     ensures { result.now ≡ drop start rows.now }
 {
     let start = usize::from(start);
@@ -194,7 +194,7 @@ fn start_of(number: u32, width: Width) -> u16
 }
 
 /// All rows of a form and a width, and those behind them.
-pub fn rows_from(number: u32, width: Width) -> &'static [Row]
+pub fn rows_from(number: u32, width: Width) -> &'static [TextRow]
     ensures { map row_view result.now ≡ drop (start_at number width) texts }
 {
     behind(text_rows(), start_of(number, width))

@@ -8,7 +8,7 @@ ghost use Rattle.tz_syntax.specs.Rows.{fits as fits_of, has_fixed as has_fixed_o
 ghost use Rattle.tz_syntax.specs.Text.{texts};
 
 use crate::pieces::{number_at, value_at};
-use crate::row::Row;
+use crate::row::TextRow;
 use crate::rows::rows_from;
 use tz_table::Width;
 
@@ -37,7 +37,7 @@ fn has_fixed(fixed: &[Option<(u8, i32)>], values: &[i32; 9]) -> bool
 }
 
 /// The row is that of an instruction of this width with these values.
-fn fits(row: &Row, values: &[i32; 9], width: Width) -> bool
+fn fits(row: &TextRow, values: &[i32; 9], width: Width) -> bool
     ensures { result ≡ fits_of values.now width (row_view row.now) }
 {
     u32::from(row.form) == number_at(values, 0)
@@ -46,7 +46,7 @@ fn fits(row: &Row, values: &[i32; 9], width: Width) -> bool
 }
 
 /// The first row that fits.
-fn first_of(rows: &'static [Row], values: &[i32; 9], width: Width) -> Option<&'static Row>
+fn first_of(rows: &'static [TextRow], values: &[i32; 9], width: Width) -> Option<&'static TextRow>
     ensures { option_map (λ r. r.now) result ≡ find (λ r. fits_of values.now width (row_view r)) rows.now }
 {
     for row in rows {
@@ -58,7 +58,7 @@ fn first_of(rows: &'static [Row], values: &[i32; 9], width: Width) -> Option<&'s
 }
 
 /// The row of an instruction of this width with these values.
-pub fn row_of(values: &[i32; 9], width: Width) -> Option<&'static Row>
+pub fn row_of(values: &[i32; 9], width: Width) -> Option<&'static TextRow>
     ensures { option_map (λ r. row_view r.now) result ≡ find (fits_of values.now width) texts }
 {
     first_of(rows_from(number_at(values, 0), width), values, width)

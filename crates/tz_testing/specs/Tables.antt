@@ -6,7 +6,7 @@ use Rattle.tz_model.specs.Ports.{Load, Store}
 use Rattle.tz_testing.specs.TablePorts.{TableValue, table_answer}
 use Rattle.tz_model.specs.Words.{wrap}
 use Rattle.tz_regs.specs.Banks.{of_side}
-use Rattle.tz_frames.specs.Looks.{Looking, Vector, SecureLoad, FrameLoad, FrameStore}
+use Rattle.tz_frames.specs.FrameAccess.{FrameAnswering, Vector, SecureLoad, FrameLoad, FrameStore}
 
 -- a table, and the vector tables of both sides
 pub record FramesValue : Type 0 where
@@ -17,7 +17,7 @@ pub record FramesValue : Type 0 where
 abbrev pub with_table : FramesValue → TableValue × Result ℕ Fault → FramesValue × Result ℕ Fault
 with_table f a = (record f { table = a.0 }, a.1)
 
-abbrev pub table_looks : Looking FramesValue
+abbrev pub table_looks : FrameAnswering FramesValue
 table_looks f (Vector number side) =
     with_table f (table_answer f.table (Load Word (wrap (of_side side f.vtor_s f.vtor_ns + 4 * number)) true false))
 table_looks f (SecureLoad addr) = with_table f (table_answer f.table (Load Word addr true false))

@@ -11,28 +11,28 @@ use Rattle.tz_table.specs.declared.decoded.Decoded.TheVariants.{One, NoCoprocess
 use Rattle.tz_table.specs.declared.instruction.Insn.{Insn}
 use Rattle.tz_table.specs.declared.units.Width.{Width}
 use Rattle.tz_table.specs.declared.units.Width.TheVariants.{Narrow}
-use Rattle.tz_syntax.specs.Rows.{TextRow, fits, row_text}
+use Rattle.tz_syntax.specs.Rows.{TextRowValue, fits, row_text}
 use Rattle.tz_syntax.specs.Text.{found_text, text_of, texts}
 use Rattle.tz_text.proofs.AllSpelled.{all_spelled}
 use Rattle.tz_text.proofs.TextGroups.{EachIsSpelled, HasText}
 
 -- ---- the text of a row
 
-abbrev is_named : TextRow → Bool
+abbrev is_named : TextRowValue → Bool
 is_named r = nat_lt 0 (length r.mnemonic)
 
 texts_named : list_all is_named texts ≡ true
 unfolding texts
 texts_named = refl
 
-row_some : (r : TextRow) (e : List ℤ) (pc : ℕ) → is_named r ≡ true → row_text r e pc ≢ []
+row_some : (r : TextRowValue) (e : List ℤ) (pc : ℕ) → is_named r ≡ true → row_text r e pc ≢ []
 row_some r e pc named none =
     let some = ltb-true 0 (length r.mnemonic) named in
     let long = ap length none in
     let parts = length-append r.mnemonic (row_text (record r { mnemonic = [] }) e pc) in
     absurd (omega (arith, long, parts))
 
-found_some : (p : TextRow → Bool) (rows : List TextRow) (e : List ℤ) (pc : ℕ) → list_any p rows ≡ true → list_all is_named rows ≡ true → found_text (find p rows) e pc ≢ []
+found_some : (p : TextRowValue → Bool) (rows : List TextRowValue) (e : List ℤ) (pc : ℕ) → list_any p rows ≡ true → list_all is_named rows ≡ true → found_text (find p rows) e pc ≢ []
 found_some p [] e pc h named = absurd (cc)
 found_some p (r ∷ rows) e pc h named =
     let parts = and_parts (is_named r) (list_all is_named rows) named in

@@ -9,11 +9,11 @@ use Rattle.tz_table.specs.declared.units.Width.{Width}
 use Rattle.tz_syntax.specs.DataTexts.{constants, registers, other_data}
 use Rattle.tz_syntax.specs.MemoryTexts.{loads, stores, pairs, multiples, exclusives}
 use Rattle.tz_syntax.specs.OtherTexts.{branches, system}
-use Rattle.tz_syntax.specs.Rows.{TextRow, fits}
+use Rattle.tz_syntax.specs.Rows.{TextRowValue, fits}
 use Rattle.tz_syntax.specs.Text.{texts}
 
 -- a text among these fits an instruction at a width
-abbrev pub Among : List TextRow → Insn → Width → Type 0
+abbrev pub Among : List TextRowValue → Insn → Width → Type 0
 Among rows insn width = list_any (fits (values_of insn) width) rows ≡ true
 
 unfoldable pub HasText : Insn → Width → Type 0
@@ -32,7 +32,7 @@ infixr 5 ◌▹◌
 pub ◌▹◌ : {A B : Type 0} → A → B → A × B
 ◌▹◌ a b = (a, b)
 
-any_left : (p : TextRow → Bool) (xs ys : List TextRow) → list_any p xs ≡ true → list_any p (xs ++ ys) ≡ true
+any_left : (p : TextRowValue → Bool) (xs ys : List TextRowValue) → list_any p xs ≡ true → list_any p (xs ++ ys) ≡ true
 any_left p [] ys h = cc
 any_left p (x ∷ xs) ys h =
     elim (or_cases (p x) (list_any p xs) h) [
@@ -40,16 +40,16 @@ any_left p (x ∷ xs) ys h =
       | inr k ↦ or_right (p x) (list_any p (xs ++ ys)) (any_left p xs ys k)
     ]
 
-any_right : (p : TextRow → Bool) (xs ys : List TextRow) → list_any p ys ≡ true → list_any p (xs ++ ys) ≡ true
+any_right : (p : TextRowValue → Bool) (xs ys : List TextRowValue) → list_any p ys ≡ true → list_any p (xs ++ ys) ≡ true
 any_right p [] ys h = h
 any_right p (x ∷ xs) ys h = or_right (p x) (list_any p (xs ++ ys)) (any_right p xs ys h)
 
 -- ten groups, one behind the other
-module _ (p : TextRow → Bool) (a b c d e f g h i j : List TextRow) where
-  abbrev Any : List TextRow → Type 0
+module _ (p : TextRowValue → Bool) (a b c d e f g h i j : List TextRowValue) where
+  abbrev Any : List TextRowValue → Type 0
   Any xs = list_any p xs ≡ true
 
-  abbrev All10 : List TextRow
+  abbrev All10 : List TextRowValue
   All10 = a ++ b ++ c ++ d ++ e ++ f ++ g ++ h ++ i ++ j
 
   upto_9 : Any (a ++ b ++ c ++ d ++ e ++ f ++ g ++ h ++ i) → Any All10

@@ -16,7 +16,7 @@ use Rattle.tz_state.specs.Attribution.{is_open}
 use Rattle.tz_state.specs.Slots.{at}
 use Rattle.tz_state.specs.SystemRegisters.{SystemState}
 use Rattle.tz_state.specs.Views.{system_read, system_written}
-use Rattle.tz_state.specs.Access.{Reached, is_private, may_touch, is_crooked, is_let, verdict, refused, loaded, stored_in, read_by, write_by, access}
+use Rattle.tz_state.specs.Access.{Reached, is_private, may_touch, is_crooked, is_let, verdict, access_verdict, permitted_read, stored_in, read_by, write_by, access}
 use Rattle.tz_twin.specs.Integrity.{KeepsBytes}
 use Rattle.tz_twin.proofs.Bytes.{value_same, write_same, write_kept, keeps_nothing_changed, keeps_then}
 use Rattle.tz_twin.proofs.Split.{Open, Rest, open_map, Same}
@@ -64,7 +64,7 @@ word_is_fault word fault e = cc
 
 -- what refuses an access is open
 refused_same : (k : Asker) (o : Open) (x x' : Rest) (stores : List stored.Store) (kind : Kind) (size : Size) (a : ℕ) (must_align user : Bool)
-    → refused (reached k o x stores) kind size a must_align user ≡ refused (reached k o x' stores) kind size a must_align user
+    → access_verdict (reached k o x stores) kind size a must_align user ≡ access_verdict (reached k o x' stores) kind size a must_align user
 unfolding verdict is_let
 refused_same k o x x' stores kind size a must_align user = refl
 
@@ -76,7 +76,7 @@ touched_by a false false rest e = cc
 
 -- an access that no check refuses is to Non-secure bytes
 open_of_refused : (k : Asker) (o : Open) (x : Rest) (stores : List stored.Store) (kind : Kind) (size : Size) (a : ℕ) (must_align user : Bool)
-    → refused (reached k o x stores) kind size a must_align user ≡ None → every (is_open (open_map o)) a size ≡ true
+    → access_verdict (reached k o x stores) kind size a must_align user ≡ None → every (is_open (open_map o)) a size ≡ true
 unfolding verdict may_touch
 open_of_refused k o x stores kind size a must_align user e =
     touched_by a (every (is_open (open_map o)) a size) (is_crooked size a (must_align || k.aligned)) _ e
@@ -134,7 +134,7 @@ same_system k o x x' stores s s' r r' same h q e = record {
 
 -- a read that no check refuses
 loaded_same : (k : Asker) (o : Open) (x x' : Rest) (stores : List stored.Store) (private : Bool) (size : Size) (a : ℕ) → Same o x x' → every (is_open (open_map o)) a size ≡ true
-    → SameAnswers {A = Result ℕ Fault} k o x x' ((loaded private (reached k o x stores) size a).0, Ok (loaded private (reached k o x stores) size a).1) ((loaded private (reached k o x' stores) size a).0, Ok (loaded private (reached k o x' stores) size a).1)
+    → SameAnswers {A = Result ℕ Fault} k o x x' ((permitted_read private (reached k o x stores) size a).0, Ok (permitted_read private (reached k o x stores) size a).1) ((permitted_read private (reached k o x' stores) size a).0, Ok (permitted_read private (reached k o x' stores) size a).1)
 loaded_same k o x x' stores true size a same is =
     same_system k o x x' stores (system_read NonSecure (system_of o x) a) (system_read NonSecure (system_of o x') a) _ _ same (system_read_same o x x' a same) (registers.read_kept (system_of o x) a)
     (ap Ok (system_value_same o x x' a size same))

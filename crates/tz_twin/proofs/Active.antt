@@ -14,7 +14,7 @@ use Rattle.tz_state.specs.Slots.{ExceptionsValue, at, idle, places, index_of, sy
 use Rattle.tz_state.specs.SlotChanges.{activated}
 use Rattle.tz_state.specs.Priority.{is_ready, rank_of, chosen_place, slot_found, chosen}
 use Rattle.tz_state.specs.Execution.{takes_first}
-use Rattle.tz_frames.specs.Looks.{Vector}
+use Rattle.tz_frames.specs.FrameAccess.{Vector}
 use Rattle.tz_frames.specs.Machine.{Framed, framed}
 use Rattle.tz_frames.specs.declared.frame.StackFault.{StackFault}
 use Rattle.tz_frames.specs.declared.entering.Entering.{Entering}
@@ -28,8 +28,8 @@ use Rattle.tz_frames.specs.declared.leaving.Left.{Left}
 use Rattle.tz_frames.specs.declared.leaving.Left.TheVariants as lefts
 use Rattle.tz_frames.specs.Status.{Raised, faulted, frame_faulted}
 use Rattle.tz_frames.specs.Stack.{Pushed, pushed_basic, pushed_additional}
-use Rattle.tz_frames.specs.Enter.{Work, Chosen, Done, can_harden, vector_choice, vectored_by, vectored, vector_failed, looking_at, falls, fallen, callee_process, callee_privileged, raised_choice, after_raise, stacked_by, stacked, taking, choosing_from, choosing, locked_up, goes_on, tries, interrupted, begins_raised, begins, enters}
-use Rattle.tz_frames.specs.Leave.{returning_by, side_by, noted, slot_returning, freed, unhandled, chaining, Leaving, left_of, chained, chained_raised, unstacked, modes_agree, resumes, goes_back, leaves_noting, leaves}
+use Rattle.tz_frames.specs.Enter.{Work, Chosen, Done, can_harden, vector_choice, vectored_by, vectored, vector_failed, vector_touched, falls, fallen, callee_process, callee_privileged, raised_choice, after_raise, stacked_by, stacked, taking, choosing_from, choosing, locked_up, goes_on, tries, interrupted, begins_raised, begins, enters}
+use Rattle.tz_frames.specs.Leave.{returning_by, side_of_bit, exc_return_fault, slot_returning, freed, unhandled, chaining, Leaving, left_of, chained, chained_raised, unstacked, modes_agree, resumes, goes_back, leaves_noting, leaves}
 use Rattle.tz_nvic.proofs.Least.{least_found}
 use Rattle.tz_nvic.proofs.Places.{index_back}
 use Rattle.tz_twin.specs.Integrity.{Handles}
@@ -104,7 +104,7 @@ vectored_by_picks profile w given (Err fault) h = go (can_harden w.core w.except
 vectored_picks : (profile : Profile) (w : Work Framed) (given : Slot) → Waits w.exceptions given → Picks (vectored framed profile w given)
 unfolding vectored
 vectored_picks profile w given h =
-    vectored_by_picks profile (record w { entry = looking_at w.entry given.side }) given (framed w.held (Vector given.number given.side)).1 h
+    vectored_by_picks profile (record w { entry = vector_touched w.entry given.side }) given (framed w.held (Vector given.number given.side)).1 h
 
 raise_picks : (f : Framed) (x : Entering) (r : Raised) → Picks (after_raise f x r)
 unfolding HandlesBy
@@ -221,9 +221,9 @@ raised_leaves profile r touched f raised =
 
 resumes_leaves : (profile : Profile) (r : Returning) (c : Core) (e : ExceptionsValue) (f : Framed) (u : Result Unstacked StackFault)
     → Leaves (resumes framed profile r c e f u)
-resumes_leaves profile r c e f (Err fault) = raised_leaves profile r r.secure f (frame_faulted false (side_by r.secure) fault c e)
+resumes_leaves profile r c e f (Err fault) = raised_leaves profile r r.secure f (frame_faulted false (side_of_bit r.secure) fault c e)
 resumes_leaves profile r c e f (Ok u) =
-    let raised = faulted (side_by r.secure) (InvPc (side_by r.secure)) c e in
+    let raised = faulted (side_of_bit r.secure) (InvPc (side_of_bit r.secure)) c e in
     leaves_cond (modes_agree r u.basic) _ (chained_raised framed profile r r.secure f raised) tt (raised_leaves profile r r.secure f raised)
 
 goes_back_leaves : (profile : Profile) (r : Returning) (c : Core) (e : ExceptionsValue) (f : Framed) → Leaves (goes_back framed profile r c e f)
@@ -242,4 +242,4 @@ pub leaves_handles : (profile : Profile) (c : Core) (e : ExceptionsValue) (f : F
 unfolding leaves
 leaves_handles profile c e f value =
     let r = returning_by c.run.side value in
-    noting_leaves profile c.run.side (noted c e value) r (unhandled e r c) (freed e (slot_returning c r)) f
+    noting_leaves profile c.run.side (exc_return_fault c e value) r (unhandled e r c) (freed e (slot_returning c r)) f

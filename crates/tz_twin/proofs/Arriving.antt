@@ -18,7 +18,7 @@ use Rattle.tz_state.specs.Memory.{Memory, word_at}
 use Rattle.tz_state.specs.Slots.{ExceptionsValue}
 use Rattle.tz_state.specs.Execution.{takes_first}
 use Rattle.tz_state.specs.State.{State, with_core, side_of}
-use Rattle.tz_frames.specs.Machine.{Framed, frame_verdict, looked, framed}
+use Rattle.tz_frames.specs.Machine.{Framed, frame_verdict, framed_read, framed}
 use Rattle.tz_frames.specs.declared.frame.StackFault.{StackFault}
 use Rattle.tz_frames.specs.declared.frame.StackFault.TheVariants.{Signature}
 use Rattle.tz_frames.specs.declared.frame.Basic.{Basic}
@@ -31,15 +31,15 @@ use Rattle.tz_frames.specs.declared.leaving.Left.{Left}
 use Rattle.tz_frames.specs.declared.leaving.Left.TheVariants as left
 use Rattle.tz_frames.specs.Status.{Raised, faulted, frame_faulted}
 use Rattle.tz_frames.specs.Registers.{number_in, resumed_registers}
-use Rattle.tz_frames.specs.Stack.{with_sp, signature, word_answer, word_read, with_first, reads, callee_of, callee_read, signed, popped_additional, basic_of, basic_read, popped_basic}
+use Rattle.tz_frames.specs.Stack.{with_sp, signature, word_answer, word_read, with_lowest_word, reads, callee_of, callee_read, signed, popped_additional, basic_of, basic_read, popped_basic}
 use Rattle.tz_frames.specs.Enter.{enters, tries}
-use Rattle.tz_frames.specs.Leave.{returning_by, side_by, noted, slot_returning, freed, unhandled, chaining, Leaving, left_of, chained, chained_raised, returns_privileged, return_sp, with_callee, unstacked, sp_above, resumed, modes_agree, resumes, goes_back, leaves_noting, leaves}
+use Rattle.tz_frames.specs.Leave.{returning_by, side_of_bit, exc_return_fault, slot_returning, freed, unhandled, chaining, Leaving, left_of, chained, chained_raised, returns_privileged, return_sp, with_callee, unstacked, sp_above, resumed, modes_agree, resumes, goes_back, leaves_noting, leaves}
 use Rattle.tz_frames.specs.Gate.{return_base, numbers_agree, came_back, after_second, after_first, function_returned}
 use Rattle.tz_sem.specs.declared.ending.Cause.TheVariants as causes
 use Rattle.tz_sem.specs.declared.ending.Course.{Course}
 use Rattle.tz_sem.specs.Ended.{Passed}
 use Rattle.tz_sem.specs.Taking.{state_of, locks, framed_in, taken, taken_by, preempted, goes_on_at, passed_by, faults, left_by, returns}
-use Rattle.tz_sem.specs.Exchange.{core_back, back_with, looking, comes_back}
+use Rattle.tz_sem.specs.Exchange.{core_back, back_with, touching, comes_back}
 use Rattle.tz_twin.specs.Integrity.{Handles, NumbersAgree, IsCallFrame, word_above, IsUnstacked, above_frames, TookFrames, Came, ByException, ByReturn, ByUnstacking}
 use Rattle.tz_twin.proofs.ReturnSpares.{bits, leaves_still}
 use Rattle.tz_twin.proofs.Active.{EnteredHandles, LeftHandles, enters_handles, leaves_handles}
@@ -120,7 +120,7 @@ signed_raised stacks m profile r touched f raised =
 -- ---- words that were read
 
 -- the word that was read, where it was
-looked_word : (v : Option Fault) (f : Framed) (a word : ℕ) → word_answer (looked v f a).1 ≡ Ok word → word_at f.bus.memory a ≡ word
+looked_word : (v : Option Fault) (f : Framed) (a word : ℕ) → word_answer (framed_read v f a).1 ≡ Ok word → word_at f.bus.memory a ≡ word
 looked_word None f a word e = cc
 looked_word (Some fault) f a word e = cc
 
@@ -140,7 +140,7 @@ record Split (x : Result ℕ StackFault) (y : Result (List ℕ) StackFault) (wor
   pub later : y ≡ Ok more
   pub whole : words ≡ word ∷ more
 
-split : (x : Result ℕ StackFault) (y : Result (List ℕ) StackFault) (words : List ℕ) → with_first x y ≡ Ok words → Split x y words
+split : (x : Result ℕ StackFault) (y : Result (List ℕ) StackFault) (words : List ℕ) → with_lowest_word x y ≡ Ok words → Split x y words
 split (Err fault) y words e = cc
 split (Ok word) (Err fault) words e = cc
 split (Ok word) (Ok more) words e = record { word = word; more = more; first = refl; later = refl; whole = cc }
@@ -256,7 +256,7 @@ took_frames c f es process thread dcrs u mode h = go thread (sym mode) h where
       (λ k. record { frames = k.frames; pointer = pointer_put (not (is_handler ipsr) && c.stacks_s.spsel) (sp_above (pointer_of ipsr c.stacks_s) u) c.stacks_s ∙ k.above }) g
 
 resumed_signed : (c : Core) (f : Framed) (es process thread dcrs secure : Bool) (u : Unstacked) → es ≡ false → unstacked framed c (bits es process thread dcrs secure) f ≡ Ok u
-    → modes_agree (bits es process thread dcrs secure) u.basic ≡ true → is_nonsecure_side (side_by secure) ≡ false
+    → modes_agree (bits es process thread dcrs secure) u.basic ≡ true → is_nonsecure_side (side_of_bit secure) ≡ false
     → TookFrames c.stacks_s (resumed (bits es process thread dcrs secure) u c) f.bus.memory
 resumed_signed c f es process thread dcrs true u own e agree is =
     took_frames c f es process thread dcrs u (mode_of thread (number_in u.basic.retpsr == 0) agree) (unstacked_signed c f es process thread dcrs u own e)
@@ -264,9 +264,9 @@ resumed_signed c f es process thread dcrs false u own e agree is = cc
 
 resumes_signed : (profile : Profile) (r : Returning) (c : Core) (e : ExceptionsValue) (f : Framed) (u : Result Unstacked StackFault) → r.es ≡ false → unstacked framed c r f ≡ u
     → SignedBy c.stacks_s f.bus.memory (resumes framed profile r c e f u)
-resumes_signed profile r c e f (Err fault) own is = signed_raised c.stacks_s f.bus.memory profile r r.secure f (frame_faulted false (side_by r.secure) fault c e)
+resumes_signed profile r c e f (Err fault) own is = signed_raised c.stacks_s f.bus.memory profile r r.secure f (frame_faulted false (side_of_bit r.secure) fault c e)
 resumes_signed profile r c e f (Ok u) own is =
-    let raised = faulted (side_by r.secure) (InvPc (side_by r.secure)) c e in
+    let raised = faulted (side_of_bit r.secure) (InvPc (side_of_bit r.secure)) c e in
     signed_cond c.stacks_s f.bus.memory (modes_agree r u.basic) _ (chained_raised framed profile r r.secure f raised)
     (λ agree secure. resumed_signed c f r.es r.process r.thread r.dcrs r.secure u own is agree secure) (signed_raised c.stacks_s f.bus.memory profile r r.secure f raised)
 
@@ -295,9 +295,9 @@ unfolding leaves
 leaves_signed profile c e f value is =
     let r = returning_by c.run.side value in
     let own = no_es c.run.side value is in
-    subst (λ (t : Stacks). SignedBy t f.bus.memory (leaves_noting framed profile c.run.side (noted c e value) r (unhandled e r c) (freed e (slot_returning c r)) f))
+    subst (λ (t : Stacks). SignedBy t f.bus.memory (leaves_noting framed profile c.run.side (exc_return_fault c e value) r (unhandled e r c) (freed e (slot_returning c r)) f))
     (unhandled_stacks e c r.es r.process r.thread r.dcrs r.secure own)
-    (noting_signed profile c.run.side (noted c e value) r (unhandled e r c) (freed e (slot_returning c r)) f own)
+    (noting_signed profile c.run.side (exc_return_fault c e value) r (unhandled e r c) (freed e (slot_returning c r)) f own)
 
 came_signed : (ipsr : ℕ) (stacks : Stacks) (s : State) (m : Memory) → s.bus.memory ≡ m → TookFrames stacks s.core m → Came ipsr stacks s causes.Resumed
 came_signed ipsr stacks s m same h = ByUnstacking refl (subst (λ (n : Memory). TookFrames stacks s.core n) (sym same) h)
@@ -336,7 +336,7 @@ abbrev CalledFrom : Core → Memory → Result Core Fault → Type 0
 CalledFrom c m (Ok back) = IsCallFrame c.registers.ipsr c.stacks_s back m
 CalledFrom c m (Err fault) = Unit {0}
 
-second_called : (c : Core) (m : Memory) (v : Option Fault) (f : Framed) (back a : ℕ) → f.bus.memory ≡ m → a ≡ wrap (return_base c + 4) → back ≡ word_at m (return_base c) → CalledFrom c m (after_second c back (looked v f a).1)
+second_called : (c : Core) (m : Memory) (v : Option Fault) (f : Framed) (back a : ℕ) → f.bus.memory ≡ m → a ≡ wrap (return_base c + 4) → back ≡ word_at m (return_base c) → CalledFrom c m (after_second c back (framed_read v f a).1)
 second_called c m (Some fault) f back a same at is = tt
 second_called c m None f back a same at is = go (numbers_agree c.registers.ipsr number) refl where
   number : ℕ
@@ -350,7 +350,7 @@ second_called c m None f back a same at is = go (numbers_agree c.registers.ipsr 
       record { pc = ap even_of is; t = ap (λ (n : ℕ). n % 2 == 1) is; it = refl; pointer = refl; number = above; agree = subst (λ (n : ℕ). NumbersAgree c.registers.ipsr n) above (agreed c.registers.ipsr number agree) }
   go false agree = tt
 
-first_called : (c : Core) (m : Memory) (v w : Option Fault) (f : Framed) → f.bus.memory ≡ m → CalledFrom c m (after_first c (looked v f (return_base c)).1 (looked w f (wrap (return_base c + 4))).1)
+first_called : (c : Core) (m : Memory) (v w : Option Fault) (f : Framed) → f.bus.memory ≡ m → CalledFrom c m (after_first c (framed_read v f (return_base c)).1 (framed_read w f (wrap (return_base c + 4))).1)
 first_called c m (Some fault) w f same = tt
 first_called c m None w f same = second_called c m w f (word_at f.bus.memory (return_base c)) (wrap (return_base c + 4)) same refl (ap (λ (n : Memory). word_at n (return_base c)) same)
 
@@ -362,5 +362,5 @@ pub comes_comes_back : (before : Core) (s : State) (course : Course) (code : Cod
 unfolding comes_back
 comes_comes_back before s course code =
     let f = framed_in course.negative s in
-    comes_back_with before s (looking course) code (function_returned framed s.core f)
+    comes_back_with before s (touching course) code (function_returned framed s.core f)
     (first_called s.core s.bus.memory (frame_verdict f Read (return_base s.core) Secure f.secure_privileged) (frame_verdict f Read (wrap (return_base s.core + 4)) Secure f.secure_privileged) f refl)

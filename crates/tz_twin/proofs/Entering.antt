@@ -20,7 +20,7 @@ use Rattle.tz_state.specs.Fetch.{is_entry, is_runnable, is_half_mapped, sg_half,
 use Rattle.tz_sem.specs.declared.ending.Course.{Course}
 use Rattle.tz_sem.specs.Ended.{with_stores}
 use Rattle.tz_sem.specs.Taking.{faults}
-use Rattle.tz_sem.specs.Step.{enters, fetched, fetcher_in, course_in}
+use Rattle.tz_sem.specs.Step.{runs_gateway, fetched, fetcher_in, course_in}
 use Rattle.tz_twin.specs.Integrity.{IsGatewayHalf}
 use Rattle.tz_twin.specs.Seen.{Seen, seen}
 use Rattle.tz_twin.proofs.Bytes.{and_first, and_second}
@@ -38,7 +38,7 @@ touching_faults s0 s before negative fault stores e knows =
     touching_halts s0 s before true s.core.registers.general stores _ e knows (h.touched refl) h
 
 -- SG that is reached from Non-secure state
-pub touching_enters : (s0 s : State) (before : Seen) (negative : Bool) (code : Code) → board_seen before ≡ s.bus.board → Touching s0 before (enters s (record { touched = true; negative = negative }) code)
+pub touching_enters : (s0 s : State) (before : Seen) (negative : Bool) (code : Code) → board_seen before ≡ s.bus.board → Touching s0 before (runs_gateway s (record { touched = true; negative = negative }) code)
 touching_enters s0 s before negative code e = touching_secure s0 before _ refl e refl
 
 -- a halfword that every check of the gateway let pass

@@ -14,7 +14,7 @@ use Rattle.tz_state.specs.SlotChanges.{activated}
 use Rattle.tz_state.specs.Priority.{chosen}
 use Rattle.tz_state.specs.Escalation.{hard_side}
 use Rattle.tz_state.specs.State.{map_in}
-use Rattle.tz_frames.specs.Looks.{Vector}
+use Rattle.tz_frames.specs.FrameAccess.{Vector}
 use Rattle.tz_frames.specs.Machine.{Framed, framed}
 use Rattle.tz_frames.specs.declared.frame.StackFault.{StackFault}
 use Rattle.tz_frames.specs.declared.entering.Entering.{Entering}
@@ -24,7 +24,7 @@ use Rattle.tz_frames.specs.declared.entering.Entered.{Entered}
 use Rattle.tz_frames.specs.declared.entering.Entered.TheVariants as entered
 use Rattle.tz_frames.specs.Status.{slot, Raised, frame_faulted}
 use Rattle.tz_frames.specs.Stack.{pushed_basic, pushed_additional}
-use Rattle.tz_frames.specs.Enter.{Work, Chosen, Done, is_secure, handling, vectored_by, vectored, vector_failed, looking_at, falls, callee_process, callee_privileged, stacked, taking, choosing_from, choosing, with_lock, locked_up, goes_on, tries, interrupted, begins_raised, begins, enters}
+use Rattle.tz_frames.specs.Enter.{Work, Chosen, Done, is_secure, handling, vectored_by, vectored, vector_failed, vector_touched, falls, callee_process, callee_privileged, stacked, taking, choosing_from, choosing, with_lock, locked_up, goes_on, tries, interrupted, begins_raised, begins, enters}
 use Rattle.tz_twin.proofs.Slots.{quiet}
 use Rattle.tz_twin.proofs.Spared.{KeptBy, kept_from, kept_all, kept_then, flags_quiet, frame_faulted_kept, frame_faulted_side}
 use Rattle.tz_twin.proofs.OwnFrames.{OwnFrameSome, basic_own}
@@ -74,7 +74,7 @@ abbrev of_number : ℕ → Side → Slot
 of_number number side = record { number = number; side = side }
 
 abbrev looking : Work Framed → Side → Work Framed
-looking w side = record w { entry = looking_at w.entry side }
+looking w side = record w { entry = vector_touched w.entry side }
 
 handling_spared : (profile : Profile) (w : Work Framed) (number vector : ℕ) → let given = of_number number NonSecure in Spared w.core (handling profile w.core w.entry given vector) w.exceptions (activated w.exceptions given)
 handling_spared profile w number vector =

@@ -22,16 +22,16 @@ use Rattle.tz_state.specs.Slots.{ExceptionsValue}
 use Rattle.tz_state.specs.Priority.{chosen}
 use Rattle.tz_state.specs.Access.{may_touch, is_let, verdict}
 use Rattle.tz_state.specs.State.{Bus, State}
-use Rattle.tz_frames.specs.Looks.{Vector}
-use Rattle.tz_frames.specs.Machine.{Framed, frame_verdict, vector_at, vector_verdict, looked, framed_write, framed}
+use Rattle.tz_frames.specs.FrameAccess.{Vector}
+use Rattle.tz_frames.specs.Machine.{Framed, frame_verdict, vector_at, vector_verdict, framed_read, framed_write, framed}
 use Rattle.tz_frames.specs.declared.frame.StackFault.{StackFault}
 use Rattle.tz_frames.specs.declared.entering.Entering.{Entering}
 use Rattle.tz_frames.specs.declared.entering.Choice.{Choice}
 use Rattle.tz_frames.specs.declared.entering.Choice.TheVariants as choices
 use Rattle.tz_frames.specs.declared.entering.Entered.TheVariants as entered
 use Rattle.tz_frames.specs.Status.{Raised, frame_faulted}
-use Rattle.tz_frames.specs.Stack.{limit_of, with_sp, after_store, written, Pushed, access_fault, pushed_with, pushed, basic_base, basic_words, pushed_basic}
-use Rattle.tz_frames.specs.Enter.{Work, Chosen, Done, vectored_by, vectored, vector_failed, looking_at, falls, taking, choosing_from, choosing, goes_on, tries, interrupted, begins_raised, begins, after_basic, enters}
+use Rattle.tz_frames.specs.Stack.{splim_of, with_sp, after_store, written, Pushed, access_fault, pushed_with, pushed, basic_base, basic_words, pushed_basic}
+use Rattle.tz_frames.specs.Enter.{Work, Chosen, Done, vectored_by, vectored, vector_failed, vector_touched, falls, taking, choosing_from, choosing, goes_on, tries, interrupted, begins_raised, begins, after_basic, enters}
 use Rattle.tz_twin.proofs.Bytes.{SameOpen, value_same, write_same}
 use Rattle.tz_twin.proofs.Split.{Open, Rest, open_of, rest_of, open_map, join_bus, join, Same}
 use Rattle.tz_twin.proofs.OwnFrames.{OwnFrameSome, basic_own}
@@ -122,7 +122,7 @@ pushed_with_twins o x x' k g g' stacks a a' h = record {
 pushed_twins : (o : Open) (x x' : Rest) (k : Ground) (g g' : Guise) (process privileged : Bool) (base : ℕ) (words : List ℕ) → Same o x x'
     → PushTwins o x x' k g g' (pushed framed (join o x).core (held_of o x k g) NonSecure process privileged base words) (pushed framed (join o x').core (held_of o x' k g') NonSecure process privileged base words)
 pushed_twins o x x' k g g' process privileged base words same =
-    let low = limit_of process o.stacks_ns in
+    let low = splim_of process o.stacks_ns in
     push_cond o x x' k g g' (nat_lt base low) _ _ _ _
     (record {
       stacks = with_sp process low o.stacks_ns;
@@ -156,7 +156,7 @@ vector_open o x a e = go (every (is_open (open_map o)) a Word) _ e where
   go true rest h = refl
   go false rest h = cc
 
-looked_same : (v : Option Fault) (f f' : Framed) (a : ℕ) → (v ≡ None → word_at f.bus.memory a ≡ word_at f'.bus.memory a) → (looked v f a).1 ≡ (looked v f' a).1
+looked_same : (v : Option Fault) (f f' : Framed) (a : ℕ) → (v ≡ None → word_at f.bus.memory a ≡ word_at f'.bus.memory a) → (framed_read v f a).1 ≡ (framed_read v f' a).1
 looked_same (Some fault) f f' a h = refl
 looked_same None f f' a h = ap Ok (h refl)
 
@@ -216,7 +216,7 @@ vectored_by_twins profile o x x' k g g' entry number (Err fault) same =
 vectored_looking : (profile : Profile) (w : Work Framed) (number : ℕ) → (vectored framed profile w (of_number number Secure)).work.entry.touched ≡ true
 unfolding vectored vector_failed
 vectored_looking profile w number = go (framed w.held (Vector number Secure)).1 where
-  go : (r : Result ℕ Fault) → (vectored_by profile (record w { entry = looking_at w.entry Secure }) (of_number number Secure) r).work.entry.touched ≡ true
+  go : (r : Result ℕ Fault) → (vectored_by profile (record w { entry = vector_touched w.entry Secure }) (of_number number Secure) r).work.entry.touched ≡ true
   go (Ok vector) = refl
   go (Err fault) = refl
 
@@ -227,7 +227,7 @@ vectored_twins profile o x x' k g g' entry number Secure same =
     ChoosesLooking (vectored_looking profile (work_of o x k g entry) number) (vectored_looking profile (work_of o x' k g' entry) number)
 vectored_twins profile o x x' k g g' entry number NonSecure same =
     let given = of_number number NonSecure in
-    let looking = looking_at entry NonSecure in
+    let looking = vector_touched entry NonSecure in
     let r = (framed (held_of o x k g) (Vector number NonSecure)).1 in
     subst (λ r'. ChosenBoth (vectored_by profile (work_of o x k g looking) given r) (vectored_by profile (work_of o x' k g' looking) given r')) (vector_same o x x' k g g' number same)
     (vectored_by_twins profile o x x' k g g' looking number r same)

@@ -15,18 +15,18 @@ use Rattle.tz_table.specs.declared.instruction.Insn.TheVariants as insns
 use Rattle.tz_model.specs.declared.report.Fault.{Fault}
 use Rattle.tz_model.specs.declared.report.Fault.TheVariants.{InvPc, StackLimit, DataAccess, Exec}
 use Rattle.tz_model.specs.Ports.{Access, Load, Store, with_read, after_answer, answers, cut_to}
-use Rattle.tz_regs.specs.Registers.{limit_of}
+use Rattle.tz_regs.specs.Registers.{pointer_limit_of}
 use Rattle.tz_regs.specs.ItState.{condition_holds}
 use Rattle.tz_regs.specs.Special.{Named, is_below_limit}
 use Rattle.tz_state.specs.declared.request.Kind.TheVariants.{Read, Write}
 use Rattle.tz_state.specs.declared.request.Request.{Request}
 use Rattle.tz_state.specs.State.{Bus, map_in}
 use Rattle.tz_state.specs.Memory.{every}
-use Rattle.tz_state.specs.Access.{Reached, is_crooked, may_touch, is_let, is_private, takes, verdict, request_by, loaded, read_by, write_by, access}
+use Rattle.tz_state.specs.Access.{Reached, is_crooked, may_touch, is_let, is_private, is_accessible, verdict, request_by, permitted_read, read_by, write_by, access}
 use Rattle.tz_sem.specs.Operations.{computed}
 use Rattle.tz_sem.specs.Local.{Local, reg}
 use Rattle.tz_sem.specs.Alu.{constant_of, shifted_value, shifted_carry, flagged, is_comparison, is_limited, delivered, operated, is_width, is_field, traps_division, finish_alu}
-use Rattle.tz_sem.specs.LoadStore.{below_limit, is_listed, refusal_of, refusal_past, refusal, loaded as loaded_into, finish_load_store}
+use Rattle.tz_sem.specs.LoadStore.{below_limit, is_listed, refusal_of, refusal_past, refusal, register_loaded as loaded_into, finish_load_store}
 use Rattle.tz_sem.specs.Branch.{taken_if, exchange_ns, finish_branch, call_ns}
 use Rattle.tz_sem.specs.System.{waits_for_event, finish_hint, finish_write, finish_lazy, finish_test, finish_system}
 
@@ -74,14 +74,14 @@ own_verdict b q e =
     (own_some (not (may_touch (map_in b) q.side q.size q.addr)) _ _ refl
     (own_some (not (is_let b q)) _ _ (own_access q.addr q.side e)
     (own_some (is_private q.addr) _ _ (own_some q.privileged _ _ tt refl)
-    (own_some (not (every (takes b.board.regions q.kind) q.addr q.size)) _ _ refl tt))))
+    (own_some (not (every (is_accessible b.board.regions q.kind) q.addr q.size)) _ _ refl tt))))
 
 -- an answer whose fault is of no Secure side, to code that is still Non-secure
 record OwnAnswer {A : Type 0} (a : Reached × Result A Fault) : Type 0 where
   pub own : Own a.1
   pub side : a.0.asker.side ≡ NonSecure
 
-loaded_side : (private : Bool) (r : Reached) (size : Size) (a : ℕ) → (loaded private r size a).0.asker.side ≡ r.asker.side
+loaded_side : (private : Bool) (r : Reached) (size : Size) (a : ℕ) → (permitted_read private r size a).0.asker.side ≡ r.asker.side
 loaded_side true r size a = refl
 loaded_side false r size a = refl
 
@@ -121,7 +121,7 @@ own_delivered : (op : DataOp) (rd value : ℕ) (l : Local) → l.side ≡ NonSec
 unfolding Own
 own_delivered op rd value l e =
     own_cond (is_comparison op) _ _ tt
-    (own_cond (rd == 15) _ _ tt (own_cond (rd == 13 && is_limited op && nat_lt value (limit_of l.registers.ipsr l.own)) _ _ (own_limit l.side e) tt))
+    (own_cond (rd == 15) _ _ tt (own_cond (rd == 13 && is_limited op && nat_lt value (pointer_limit_of l.registers.ipsr l.own)) _ _ (own_limit l.side e) tt))
 
 own_operated : (op : DataOp) (flags : Flags) (rd x y : ℕ) (carry : Bool) (l : Local) → l.side ≡ NonSecure → Own (operated op flags rd x y carry l)
 own_operated op flags rd x y carry l e =
@@ -150,7 +150,7 @@ own_alu _ l e = refl
 
 own_below : (rn value : ℕ) (l : Local) → l.side ≡ NonSecure → OwnSome (below_limit rn value l)
 unfolding OwnSome
-own_below rn value l e = own_some (rn == 13 && nat_lt value (limit_of l.registers.ipsr l.own)) _ _ (own_limit l.side e) tt
+own_below rn value l e = own_some (rn == 13 && nat_lt value (pointer_limit_of l.registers.ipsr l.own)) _ _ (own_limit l.side e) tt
 
 own_refusal_of : (a : Address) (l : Local) → l.side ≡ NonSecure → OwnSome (refusal_of a l)
 unfolding OwnSome

@@ -19,7 +19,7 @@ use Rattle.tz_state.specs.Memory.{word_at}
 use Rattle.tz_state.specs.Slots.{ExceptionsValue}
 use Rattle.tz_state.specs.Escalation.{escalated}
 use Rattle.tz_state.specs.State.{Bus, State, map_in, side_of, with_core}
-use Rattle.tz_frames.specs.Looks.{SecureLoad}
+use Rattle.tz_frames.specs.FrameAccess.{SecureLoad}
 use Rattle.tz_frames.specs.Machine.{Framed, framed}
 use Rattle.tz_frames.specs.declared.entering.Entered.{Entered}
 use Rattle.tz_frames.specs.declared.entering.Entered.TheVariants as entered
@@ -33,7 +33,7 @@ use Rattle.tz_sem.specs.declared.ending.Cause.TheVariants as causes
 use Rattle.tz_sem.specs.declared.ending.Course.{Course}
 use Rattle.tz_sem.specs.Ended.{Passed, Ended, with_stores}
 use Rattle.tz_sem.specs.Taking.{state_of, locks, framed_in, taken, taken_by, preempted, goes_on_at, passed_by, after_raise, faults, left_by, returns}
-use Rattle.tz_sem.specs.Exchange.{core_back, back_with, looking, comes_back}
+use Rattle.tz_sem.specs.Exchange.{core_back, back_with, touching, comes_back}
 use Rattle.tz_sem.specs.Exec.{released}
 use Rattle.tz_twin.specs.Seen.{public_of, handed, Seen, Hidden, seen}
 use Rattle.tz_twin.proofs.Split.{board_seen}
@@ -208,7 +208,7 @@ pub halts_comes_back : (side : Side) (before : Core) (s : State) (course : Cours
 unfolding comes_back
 halts_comes_back side before s course code =
     let f = framed_in course.negative s in
-    halts_back_with side before s (looking course) code (function_returned framed s.core f)
+    halts_back_with side before s (touching course) code (function_returned framed s.core f)
     (back_secure s.core (framed f (SecureLoad (return_base s.core))).1 (framed f (SecureLoad (wrap (return_base s.core + 4)))).1)
 
 -- ---- what is seen after them

@@ -27,8 +27,8 @@ use Rattle.tz_state.specs.Execution.{takes_first}
 use Rattle.tz_state.specs.Escalation.{escalated}
 use Rattle.tz_state.specs.Access.{may_touch}
 use Rattle.tz_state.specs.State.{Bus, map_in}
-use Rattle.tz_frames.specs.Looks.{FrameStore}
-use Rattle.tz_frames.specs.Machine.{Framed, frame_verdict, vector_at, vector_verdict, looked, framed_write, framed}
+use Rattle.tz_frames.specs.FrameAccess.{FrameStore}
+use Rattle.tz_frames.specs.Machine.{Framed, frame_verdict, vector_at, vector_verdict, framed_read, framed_write, framed}
 use Rattle.tz_frames.specs.declared.frame.StackFault.{StackFault}
 use Rattle.tz_frames.specs.declared.frame.StackFault.TheVariants.{Limit, Access, Signature as Unsigned}
 use Rattle.tz_frames.specs.declared.entering.Entering.{Entering}
@@ -42,9 +42,9 @@ use Rattle.tz_frames.specs.declared.leaving.Left.{Left}
 use Rattle.tz_frames.specs.declared.leaving.Left.TheVariants as lefts
 use Rattle.tz_frames.specs.Registers.{no_flags, scratch_cleared, all_cleared}
 use Rattle.tz_frames.specs.Status.{with_ufsr, with_mmfsr, with_mmfar, status_after, word_status, frame_status, exception_of, frame_exception, Raised, with_status, raised_as, faulted, frame_faulted}
-use Rattle.tz_frames.specs.Stack.{Pushed, limit_of, with_side_sp, after_store, written, pushed_with, pushed, basic_base, basic_words, pushed_basic, callee_words, pushed_additional}
-use Rattle.tz_frames.specs.Enter.{Work, Chosen, Done, is_secure, exc_return, dcrs_of, handling, can_harden, vector_choice, vectored_by, vectored, vector_failed, looking_at, falls, fallen, callee_process, callee_privileged, raised_choice, after_raise, stacked_by, stacked, taking, choosing_from, choosing, locked_up, goes_on, tries, interrupted, begins_raised, begins, enters}
-use Rattle.tz_frames.specs.Leave.{returning_by, side_by, noted, slot_returning, freed, unhandled, chaining, Leaving, left_of, chained, chained_raised, unstacked, modes_agree, resumes, goes_back, leaves_noting, leaves}
+use Rattle.tz_frames.specs.Stack.{Pushed, splim_of, with_side_sp, after_store, written, pushed_with, pushed, basic_base, basic_words, pushed_basic, callee_words, pushed_additional}
+use Rattle.tz_frames.specs.Enter.{Work, Chosen, Done, is_secure, exc_return, dcrs_of, handling, can_harden, vector_choice, vectored_by, vectored, vector_failed, vector_touched, falls, fallen, callee_process, callee_privileged, raised_choice, after_raise, stacked_by, stacked, taking, choosing_from, choosing, locked_up, goes_on, tries, interrupted, begins_raised, begins, enters}
+use Rattle.tz_frames.specs.Leave.{returning_by, side_of_bit, exc_return_fault, slot_returning, freed, unhandled, chaining, Leaving, left_of, chained, chained_raised, unstacked, modes_agree, resumes, goes_back, leaves_noting, leaves}
 
 -- what a Non-secure handler finds, from the registers `r` of the code before it, which was Secure or not, and from the
 -- table that VTOR of the Non-secure side names
@@ -205,7 +205,7 @@ pushed_cond k false x y p q = q
 pushed_carried : (k : Known) (c : Core) (f : Framed) (side : Side) (process privileged : Bool) (base : ℕ) (words : List ℕ) → Carried k c f
     → CarriedBy k (pushed framed c f side process privileged base words)
 pushed_carried k c f side process privileged base words h =
-    pushed_cond k (nat_lt base (limit_of process (stacks_of side c))) _ (pushed_with (with_side_sp side process base c) (written framed side privileged f base words))
+    pushed_cond k (nat_lt base (splim_of process (stacks_of side c))) _ (pushed_with (with_side_sp side process base c) (written framed side privileged f base words))
     (record { registers = h.registers; status = h.status; held = h.held })
     (record { registers = h.registers; status = h.status; held = written_vtor k.vtor side privileged words f base h.held })
 
@@ -292,7 +292,7 @@ failed_came k w given h = go (can_harden w.core w.exceptions given) where
 
 -- by what the vector's address was refused for, or wasn't
 vectored_by_came : (k : Known) (profile : Profile) (w : Work Framed) (number : ℕ) (side : Side) (v : Option Fault) → vector_verdict w.held.bus side (vector_at w.held number side) ≡ v → Carries k w
-    → CameOf k (vectored_by profile w (of_number number side) (looked v w.held (vector_at w.held number side)).1)
+    → CameOf k (vectored_by profile w (of_number number side) (framed_read v w.held (vector_at w.held number side)).1)
 vectored_by_came k profile w number Secure None e h = refl
 vectored_by_came k profile w number NonSecure None e h =
     let vector = word_at w.held.bus.memory (vector_at w.held number NonSecure) in
@@ -302,7 +302,7 @@ vectored_by_came k profile w number side (Some fault) e h = failed_came k w (of_
 vectored_came : (k : Known) (profile : Profile) (w : Work Framed) (given : Slot) → Carries k w → CameOf k (vectored framed profile w given)
 unfolding vectored
 vectored_came k profile w given h =
-    vectored_by_came k profile (record w { entry = looking_at w.entry given.side }) given.number given.side _ refl (record { carried = h.carried; secure = h.secure })
+    vectored_by_came k profile (record w { entry = vector_touched w.entry given.side }) given.number given.side _ refl (record { carried = h.carried; secure = h.secure })
 
 -- ---- one choice
 
@@ -407,17 +407,17 @@ chained_raised_leaves k profile r touched f raised h is =
     leaving_cond k raised.locks _ (chained framed profile r touched raised.core raised.exceptions f) tt
     (chained_leaves k profile r touched raised.core raised.exceptions f h is)
 
-secured : (secure : Bool) → secure ≡ true → side_by secure ≡ Secure
+secured : (secure : Bool) → secure ≡ true → side_of_bit secure ≡ Secure
 secured true e = refl
 secured false e = cc
 
 resumes_leaves : (k : Known) (profile : Profile) (r : Returning) (c : Core) (e : ExceptionsValue) (f : Framed) (u : Result Unstacked StackFault) → Carried k c f → r.secure ≡ k.secure
     → Leaves k (resumes framed profile r c e f u)
 resumes_leaves k profile r c e f (Err fault) h is =
-    let side = side_by r.secure in
+    let side = side_of_bit r.secure in
     chained_raised_leaves k profile r r.secure f (frame_faulted false side fault c e) (frame_faulted_carried k false side fault c e f h) is
 resumes_leaves k profile r c e f (Ok u) h is =
-    let side = side_by r.secure in
+    let side = side_of_bit r.secure in
     let raised = faulted side (InvPc side) c e in
     leaving_cond k (modes_agree r u.basic) _ (chained_raised framed profile r r.secure f raised) (secured r.secure)
     (chained_raised_leaves k profile r r.secure f raised (faulted_carried k side (InvPc side) c e f h) is)
@@ -440,4 +440,4 @@ unfolding leaves
 leaves_handled profile c e f value held =
     let r = returning_by c.run.side value in
     let k : Known = record { secure = r.secure; vtor = c.status.ns.vtor; registers = c.registers } in
-    leaves_noting_leaves k profile c.run.side (noted c e value) r (unhandled e r c) (freed e (slot_returning c r)) f (record { registers = refl; status = refl; held = held }) refl
+    leaves_noting_leaves k profile c.run.side (exc_return_fault c e value) r (unhandled e r c) (freed e (slot_returning c r)) f (record { registers = refl; status = refl; held = held }) refl

@@ -16,8 +16,8 @@ use Rattle.tz_state.specs.Slots.{ExceptionsValue}
 use Rattle.tz_state.specs.Priority.{chosen}
 use Rattle.tz_state.specs.Execution.{takes_first}
 use Rattle.tz_state.specs.State.{Bus, with_memory}
-use Rattle.tz_frames.specs.Looks.{Look, Vector, SecureLoad, FrameLoad, FrameStore}
-use Rattle.tz_frames.specs.Machine.{Framed, frame_verdict, looked, framed_write, framed}
+use Rattle.tz_frames.specs.FrameAccess.{FrameAccess, Vector, SecureLoad, FrameLoad, FrameStore}
+use Rattle.tz_frames.specs.Machine.{Framed, frame_verdict, framed_read, framed_write, framed}
 use Rattle.tz_frames.specs.declared.frame.StackFault.{StackFault}
 use Rattle.tz_frames.specs.declared.entering.Entering.{Entering}
 use Rattle.tz_frames.specs.declared.entering.Choice.{Choice}
@@ -25,9 +25,9 @@ use Rattle.tz_frames.specs.declared.entering.Choice.TheVariants as choices
 use Rattle.tz_frames.specs.declared.leaving.Returning.{Returning}
 use Rattle.tz_frames.specs.declared.leaving.Unstacked.{Unstacked}
 use Rattle.tz_frames.specs.Status.{Raised, faulted, frame_faulted}
-use Rattle.tz_frames.specs.Stack.{Pushed, limit_of, with_side_sp, after_store, written, pushed_with, pushed, basic_base, basic_words, pushed_basic, callee_words, pushed_additional}
-use Rattle.tz_frames.specs.Enter.{Work, Chosen, Done, vectored_by, vectored, vector_failed, looking_at, falls, fallen, callee_process, callee_privileged, stacked_by, stacked, taking, choosing_from, choosing, locked_up, goes_on, tries, interrupted, begins_raised, begins, enters}
-use Rattle.tz_frames.specs.Leave.{returning_by, noted, slot_returning, freed, unhandled, chaining, side_by, Leaving, chained, chained_raised, unstacked, modes_agree, resumes, goes_back, leaves_noting, leaves}
+use Rattle.tz_frames.specs.Stack.{Pushed, splim_of, with_side_sp, after_store, written, pushed_with, pushed, basic_base, basic_words, pushed_basic, callee_words, pushed_additional}
+use Rattle.tz_frames.specs.Enter.{Work, Chosen, Done, vectored_by, vectored, vector_failed, vector_touched, falls, fallen, callee_process, callee_privileged, stacked_by, stacked, taking, choosing_from, choosing, locked_up, goes_on, tries, interrupted, begins_raised, begins, enters}
+use Rattle.tz_frames.specs.Leave.{returning_by, exc_return_fault, slot_returning, freed, unhandled, chaining, side_of_bit, Leaving, chained, chained_raised, unstacked, modes_agree, resumes, goes_back, leaves_noting, leaves}
 
 -- of a bus the memory alone is another
 abbrev pub BusKept : Framed → Framed → Type 0
@@ -38,7 +38,7 @@ bus_then f f' f'' h k = k ∙ ap (λ (b : Bus). with_memory b f''.bus.memory) h
 
 -- ---- looks
 
-looked_kept : (v : Option Fault) (f : Framed) (a : ℕ) → BusKept f (looked v f a).0
+looked_kept : (v : Option Fault) (f : Framed) (a : ℕ) → BusKept f (framed_read v f a).0
 looked_kept (Some fault) f a = refl
 looked_kept None f a = refl
 
@@ -46,7 +46,7 @@ store_kept : (v : Option Fault) (f : Framed) (a value : ℕ) → BusKept f (fram
 store_kept (Some fault) f a value = refl
 store_kept None f a value = refl
 
-pub framed_kept : (f : Framed) (q : Look) → BusKept f (framed f q).0
+pub framed_kept : (f : Framed) (q : FrameAccess) → BusKept f (framed f q).0
 framed_kept f (Vector number side) = looked_kept _ f _
 framed_kept f (SecureLoad a) = looked_kept _ f a
 framed_kept f (FrameLoad a side privileged) = looked_kept _ f a
@@ -71,7 +71,7 @@ pushed_cond f false x y h k = k
 
 pushed_held : (c : Core) (f : Framed) (side : Side) (process privileged : Bool) (base : ℕ) (words : List ℕ) → BusKept f (pushed framed c f side process privileged base words).held
 pushed_held c f side process privileged base words =
-    pushed_cond f (nat_lt base (limit_of process (stacks_of side c))) _ (pushed_with (with_side_sp side process base c) (written framed side privileged f base words)) refl
+    pushed_cond f (nat_lt base (splim_of process (stacks_of side c))) _ (pushed_with (with_side_sp side process base c) (written framed side privileged f base words)) refl
     (written_held side privileged words f base)
 
 pub basic_held : (c : Core) (f : Framed) (back : ℕ) → BusKept f (pushed_basic framed c f back).held
@@ -96,7 +96,7 @@ vectored_by_held profile w given (Err fault) = refl
 vectored_held : (profile : Profile) (w : Work Framed) (given : Slot) → BusKept w.held (vectored framed profile w given).work.held
 unfolding vectored
 vectored_held profile w given =
-    vectored_by_held profile (record w { entry = looking_at w.entry given.side }) given (framed w.held (Vector given.number given.side)).1
+    vectored_by_held profile (record w { entry = vector_touched w.entry given.side }) given (framed w.held (Vector given.number given.side)).1
 
 stacked_by_held : (profile : Profile) (w : Work Framed) (given : Slot) (faulted : Bool) (fault : Option StackFault) → BusKept w.held (stacked_by framed profile w given faulted fault).work.held
 stacked_by_held profile w given false (Some fault) = refl
@@ -181,9 +181,9 @@ chained_raised_held profile r touched f raised =
     (chained_held profile r touched raised.core raised.exceptions f)
 
 resumes_held : (profile : Profile) (r : Returning) (c : Core) (e : ExceptionsValue) (f : Framed) (u : Result Unstacked StackFault) → BusKept f (resumes framed profile r c e f u).held
-resumes_held profile r c e f (Err fault) = chained_raised_held profile r r.secure f (frame_faulted false (side_by r.secure) fault c e)
+resumes_held profile r c e f (Err fault) = chained_raised_held profile r r.secure f (frame_faulted false (side_of_bit r.secure) fault c e)
 resumes_held profile r c e f (Ok u) =
-    let raised = faulted (side_by r.secure) (InvPc (side_by r.secure)) c e in
+    let raised = faulted (side_of_bit r.secure) (InvPc (side_of_bit r.secure)) c e in
     leaving_cond f (modes_agree r u.basic) _ (chained_raised framed profile r r.secure f raised) refl (chained_raised_held profile r r.secure f raised)
 
 goes_back_held : (profile : Profile) (r : Returning) (c : Core) (e : ExceptionsValue) (f : Framed) → BusKept f (goes_back framed profile r c e f).held
@@ -200,4 +200,4 @@ pub leaves_held : (profile : Profile) (c : Core) (e : ExceptionsValue) (f : Fram
 unfolding leaves
 leaves_held profile c e f value =
     let r = returning_by c.run.side value in
-    leaves_noting_held profile c.run.side (noted c e value) r (unhandled e r c) (freed e (slot_returning c r)) f
+    leaves_noting_held profile c.run.side (exc_return_fault c e value) r (unhandled e r c) (freed e (slot_returning c r)) f

@@ -17,7 +17,7 @@ use Rattle.tz_model.specs.Ports.{answers}
 use Rattle.tz_regs.specs.declared.parts.Registers.{Registers}
 use Rattle.tz_state.specs.declared.request.Exclusive.{Exclusive}
 use Rattle.tz_regs.specs.ItState.{condition_holds}
-use Rattle.tz_regs.specs.Registers.{limit_of, with_reg}
+use Rattle.tz_regs.specs.Registers.{pointer_limit_of, with_reg}
 use Rattle.tz_regs.specs.Special.{Named, is_below_limit, named_of}
 use Rattle.tz_state.specs.Access.{is_aligned, Reached, reached_in, access}
 use Rattle.tz_state.specs.State.{State, priority_in, is_held}
@@ -26,7 +26,7 @@ use Rattle.tz_sem.specs.declared.family.Family.TheVariants.{Alu, LoadStore, Bran
 use Rattle.tz_sem.specs.Operations.{computed}
 use Rattle.tz_sem.specs.Local.{Local, Finished, FinishedNamed, local_of, reg, put, finished_in, finished_named}
 use Rattle.tz_sem.specs.Alu.{constant_of, shifted_value, shifted_carry, flagged, is_comparison, is_limited, delivered, operated, is_width, is_field, traps_division, finish_alu}
-use Rattle.tz_sem.specs.LoadStore.{offset_at, based, is_listed, listed, past_words, words_loaded, based_past, filled, loaded, refusal, plan_load_store, finish_load_store}
+use Rattle.tz_sem.specs.LoadStore.{offset_at, based, is_listed, listed, past_words, words_loaded, based_past, filled, register_loaded, refusal, plan_load_store, finish_load_store}
 use Rattle.tz_sem.specs.Branch.{taken_if, exchange_ns, call_ns, plan_branch, finish_branch}
 use Rattle.tz_sem.specs.System.{waits_for_event, finish_hint, finish_write, finish_lazy, finish_test, finish_system, probe_of}
 use Rattle.tz_sem.specs.Exec.{Ported, ported, after_accesses, over, unless_refused, probed, cleared_by, Executed, alone, beside, through, Exclusivity, Free, Marks, Takes, exclusivity, released, not_stored, loads_stores, stores_exclusive, exclusively, family_of, executed_by, executed}
@@ -88,7 +88,7 @@ numbered_delivered : (n : ℕ) (op : DataOp) (rd value : ℕ) (l : Local) → Nu
 unfolding NumberedIn
 numbered_delivered n op rd value l =
     numbered_cond of_local n (is_comparison op) _ _ (never _ _)
-    (numbered_cond of_local n (rd == 15) _ _ (never _ _) (numbered_cond of_local n (rd == 13 && is_limited op && nat_lt value (limit_of l.registers.ipsr l.own)) _ _ tt (never _ _)))
+    (numbered_cond of_local n (rd == 15) _ _ (never _ _) (numbered_cond of_local n (rd == 13 && is_limited op && nat_lt value (pointer_limit_of l.registers.ipsr l.own)) _ _ tt (never _ _)))
 
 numbered_operated : (n : ℕ) (op : DataOp) (flags : Flags) (rd x y : ℕ) (carry : Bool) (l : Local) → NumberedIn of_local n (operated op flags rd x y carry l)
 numbered_operated n op flags rd x y carry l =
@@ -115,7 +115,7 @@ numbered_alu n (insns.MultiplyLong op lo hi rn rm) l = never _ _
 numbered_alu n _ l = tt
 
 -- a load of PC exchanges
-numbered_loaded : (rt : ℕ) (l : Local) (value : ℕ) (n : ℕ) → l.registers.ipsr ≡ n → NumberedIn of_local n (loaded rt l value)
+numbered_loaded : (rt : ℕ) (l : Local) (value : ℕ) (n : ℕ) → l.registers.ipsr ≡ n → NumberedIn of_local n (register_loaded rt l value)
 unfolding NumberedIn
 numbered_loaded rt l value n e = numbered_cond of_local n (rt == 15) _ _ (λ x. e) (never _ _)
 

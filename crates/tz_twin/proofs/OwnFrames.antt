@@ -15,12 +15,12 @@ use Rattle.tz_state.specs.declared.request.Request.{Request}
 use Rattle.tz_state.specs.Memory.{every}
 use Rattle.tz_state.specs.Attribution.{MapState, is_open}
 use Rattle.tz_state.specs.Slots.{ExceptionsValue}
-use Rattle.tz_state.specs.Access.{is_crooked, may_touch, is_let, is_private, takes, verdict, request_by}
+use Rattle.tz_state.specs.Access.{is_crooked, may_touch, is_let, is_private, is_accessible, verdict, request_by}
 use Rattle.tz_state.specs.State.{Bus, map_in}
-use Rattle.tz_frames.specs.Looks.{FrameStore}
-use Rattle.tz_frames.specs.Machine.{Framed, framer, in_map_alone, frame_verdict, looked, framed_write, framed}
+use Rattle.tz_frames.specs.FrameAccess.{FrameStore}
+use Rattle.tz_frames.specs.Machine.{Framed, framer, in_map_alone, frame_verdict, framed_read, framed_write, framed}
 use Rattle.tz_frames.specs.declared.frame.StackFault.{StackFault}
-use Rattle.tz_frames.specs.Stack.{limit_of, with_side_sp, after_store, written, word_answer, word_read, with_first, reads, Pushed, access_fault, pushed_with, pushed, basic_base, basic_words, pushed_basic, basic_read, popped_basic}
+use Rattle.tz_frames.specs.Stack.{splim_of, with_side_sp, after_store, written, word_answer, word_read, with_lowest_word, reads, Pushed, access_fault, pushed_with, pushed, basic_base, basic_words, pushed_basic, basic_read, popped_basic}
 use Rattle.tz_twin.specs.Integrity.{KeepsBytes}
 use Rattle.tz_twin.proofs.Accesses.{touched_by}
 use Rattle.tz_twin.proofs.Bytes.{keeps_nothing_changed, keeps_then, write_kept}
@@ -51,7 +51,7 @@ own_asked f kind a privileged =
     (own_some (not (may_touch (map_in f.bus) q.side q.size q.addr)) _ _ refl
     (own_some (not (is_let f.bus q)) _ _ refl
     (own_some (is_private q.addr) _ _ (own_some q.privileged _ _ tt refl)
-    (own_some (not (every (takes f.bus.board.regions q.kind) q.addr q.size)) _ _ refl tt))))
+    (own_some (not (every (is_accessible f.bus.board.regions q.kind) q.addr q.size)) _ _ refl tt))))
 
 own_in_map : (a : ℕ) (v : Option Fault) → OwnSome v → OwnSome (in_map_alone a v)
 unfolding OwnSome is_own
@@ -145,7 +145,7 @@ pushed_own : (c : Core) (f : Framed) (side : Side) (process privileged : Bool) (
 unfolding OwnFrameSome is_own_frame
 pushed_own c f Secure process privileged base words is = secure_is_nonsecure is
 pushed_own c f NonSecure process privileged base words is =
-    let low = limit_of process (stacks_of NonSecure c) in
+    let low = splim_of process (stacks_of NonSecure c) in
     pushed_own_cond c f (nat_lt base low) _ (pushed_with (with_side_sp NonSecure process base c) (written framed NonSecure privileged f base words))
     (record {
       kept = λ e. kept_from c (with_side_sp NonSecure process low c) e e (map_in f.bus) f.bus.memory refl refl refl (quiet e);
@@ -164,7 +164,7 @@ basic_own c f back is =
 
 -- ---- words that are read
 
-own_looked : (v : Option Fault) (f : Framed) (a : ℕ) → OwnSome v → OwnFrame (word_answer (looked v f a).1)
+own_looked : (v : Option Fault) (f : Framed) (a : ℕ) → OwnSome v → OwnFrame (word_answer (framed_read v f a).1)
 unfolding OwnSome OwnFrame is_own_frame
 own_looked (Some fault) f a h = h
 own_looked None f a h = tt
@@ -172,7 +172,7 @@ own_looked None f a h = tt
 own_word : (f : Framed) (a : ℕ) (privileged : Bool) → OwnFrame (word_read framed NonSecure privileged f a)
 own_word f a privileged = own_looked (frame_verdict f Read a NonSecure privileged) f a (own_verdict f Read a privileged)
 
-own_first : (x : Result ℕ StackFault) (later : Result (List ℕ) StackFault) → OwnFrame x → OwnFrame later → OwnFrame (with_first x later)
+own_first : (x : Result ℕ StackFault) (later : Result (List ℕ) StackFault) → OwnFrame x → OwnFrame later → OwnFrame (with_lowest_word x later)
 unfolding OwnFrame
 own_first (Err fault) later h k = h
 own_first (Ok word) (Err fault) h k = k

@@ -12,7 +12,7 @@ use Rattle.tz_state.specs.declared.register.ControlRegister.{ControlRegister}
 use Rattle.tz_state.specs.declared.register.ControlRegister.TheVariants.{Cpuid, Icsr, Vtor, Aircr, Ccr, Shpr1, Shpr2, Shpr3, Shcsr}
 use Rattle.tz_state.specs.declared.register.FaultRegister.{FaultRegister}
 use Rattle.tz_state.specs.declared.register.FaultRegister.TheVariants.{Cfsr, Hfsr, Mmfar, Bfar, Sfsr, Sfar}
-use Rattle.tz_state.specs.declared.register.Found.{Found}
+use Rattle.tz_state.specs.declared.register.ViewedRegister.{ViewedRegister}
 use Rattle.tz_state.specs.declared.register.Narrow.{Narrow}
 use Rattle.tz_state.specs.declared.register.Narrow.TheVariants.{Keeps, Zeros, Ignored}
 use Rattle.tz_state.specs.Slots.{ExceptionsValue}
@@ -176,15 +176,15 @@ sized_same o x x' r lane Half value same = narrow_same o x x' r (narrow_of r) la
 sized_same o x x' r lane Word value same = word_written o x x' r value same
 
 -- a fact of each register as Non-secure code names it, and of no register, is a fact of each address
-at_view : (P : Option Found → Type 0) → P None → ((r : Register) → P (Some (record { view = NonSecure; register = r }))) → (r : Option Register) → P (found_by NonSecure r)
+at_view : (P : Option ViewedRegister → Type 0) → P None → ((r : Register) → P (Some (record { view = NonSecure; register = r }))) → (r : Option Register) → P (found_by NonSecure r)
 at_view P none some None = none
 at_view P none some (Some r) = some r
 
-in_view : (P : Option Found → Type 0) → P None → ((r : Register) → P (Some (record { view = NonSecure; register = r }))) → (b : Bool) (r : Option Register) → P (cond b (found_by NonSecure r) None)
+in_view : (P : Option ViewedRegister → Type 0) → P None → ((r : Register) → P (Some (record { view = NonSecure; register = r }))) → (b : Bool) (r : Option Register) → P (cond b (found_by NonSecure r) None)
 in_view P none some true r = at_view P none some r
 in_view P none some false r = none
 
-pub at_address : (P : Option Found → Type 0) → P None → ((r : Register) → P (Some (record { view = NonSecure; register = r }))) → (a : ℕ) → P (found_at NonSecure a)
+pub at_address : (P : Option ViewedRegister → Type 0) → P None → ((r : Register) → P (Some (record { view = NonSecure; register = r }))) → (a : ℕ) → P (found_at NonSecure a)
 at_address P none some a = in_view P none some (within 0xE000E000 0xE000EFFF a) (register_at ((a - 0xE000E000) / 4 * 4))
 
 -- what an access reads

@@ -23,7 +23,7 @@ use Rattle.tz_frames.specs.declared.leaving.Left.TheVariants as lefts
 use Rattle.tz_frames.specs.Status.{Raised, faulted, frame_faulted}
 use Rattle.tz_frames.specs.Stack.{popped_basic}
 use Rattle.tz_frames.specs.Enter.{Work, with_lock, tries}
-use Rattle.tz_frames.specs.Leave.{returning_by, side_by, slot_returning, is_well_formed, is_forged, is_returnable, noted, is_urgent, urgent_slot, freed, unhandled, chaining, Leaving, left_of, chained, chained_raised, returns_privileged, return_sp, with_basic, unstacked, resumed, modes_agree, resumes, goes_back, leaves_noting, leaves}
+use Rattle.tz_frames.specs.Leave.{returning_by, side_of_bit, slot_returning, is_well_formed, is_forged, is_returnable, exc_return_fault, is_urgent, urgent_slot, freed, unhandled, chaining, Leaving, left_of, chained, chained_raised, returns_privileged, return_sp, with_basic, unstacked, resumed, modes_agree, resumes, goes_back, leaves_noting, leaves}
 use Rattle.tz_twin.proofs.Slots.{Quiet, quiet}
 use Rattle.tz_twin.proofs.Faults.{is_own, OwnSome, own_some}
 use Rattle.tz_twin.proofs.Spared.{KeptBy, kept_from, flags_quiet, faulted_kept, faulted_side, is_own_frame, frame_faulted_kept, frame_faulted_side}
@@ -112,7 +112,7 @@ unfolding is_own
 own_inv_pc Secure is = cc
 own_inv_pc NonSecure is = refl
 
-nonsecure_by : (secure : Bool) → secure ≡ false → side_by secure ≡ NonSecure
+nonsecure_by : (secure : Bool) → secure ≡ false → side_of_bit secure ≡ NonSecure
 nonsecure_by true is = cc
 nonsecure_by false is = refl
 
@@ -145,15 +145,15 @@ pub resumes_returns : (profile : Profile) (r : Returning) (c : Core) (e : Except
     → Returns r.secure c e f (resumes framed profile r c e f u)
 unfolding OwnFrame
 resumes_returns profile r c e f (Err fault) own frame =
-    chained_raised_returns profile r r.secure c e f (frame_faulted false (side_by r.secure) fault c e) own
-    (λ is. frame_spared (side_by r.secure) fault c e (nonsecure_by r.secure is) (frame is))
+    chained_raised_returns profile r r.secure c e f (frame_faulted false (side_of_bit r.secure) fault c e) own
+    (λ is. frame_spared (side_of_bit r.secure) fault c e (nonsecure_by r.secure is) (frame is))
 resumes_returns profile r c e f (Ok u) own frame =
-    let raised = faulted (side_by r.secure) (InvPc (side_by r.secure)) c e in
+    let raised = faulted (side_of_bit r.secure) (InvPc (side_of_bit r.secure)) c e in
     returns_cond r.secure c e f (modes_agree r u.basic) (record { core = resumed r u c; exceptions = e; held = f; result = lefts.Resumed r.secure })
     (chained_raised framed profile r r.secure f raised)
     (record { held = refl; touched = λ t. t; spared = λ t. resumed_spared c e u r.es r.process r.thread r.dcrs r.secure t })
     (chained_raised_returns profile r r.secure c e f raised own
-    (λ is. faulted_spared (side_by r.secure) (InvPc (side_by r.secure)) c e (nonsecure_by r.secure is) (own_inv_pc (side_by r.secure) (nonsecure_by r.secure is))))
+    (λ is. faulted_spared (side_of_bit r.secure) (InvPc (side_of_bit r.secure)) c e (nonsecure_by r.secure is) (own_inv_pc (side_of_bit r.secure) (nonsecure_by r.secure is))))
 
 -- ---- all of it
 
@@ -168,11 +168,11 @@ goes_back_returns profile r c e f own =
 leaves_noting_returns : (profile : Profile) (side : Side) (fault : Option Fault) (r : Returning) (c : Core) (e : ExceptionsValue) (f : Framed) → side ≡ NonSecure → r.es ≡ false → OwnSome fault
     → Returns false c e f (leaves_noting framed profile side fault r c e f)
 unfolding OwnSome
-leaves_noting_returns profile side (Some fault) r c e f is own noted =
-    chained_raised_returns profile r false c e f (faulted side fault c e) own (λ t. faulted_spared side fault c e is noted)
-leaves_noting_returns profile side None r c e f is own noted = goes_back_returns profile r c e f own
+leaves_noting_returns profile side (Some fault) r c e f is own exc_return_fault =
+    chained_raised_returns profile r false c e f (faulted side fault c e) own (λ t. faulted_spared side fault c e is exc_return_fault)
+leaves_noting_returns profile side None r c e f is own exc_return_fault = goes_back_returns profile r c e f own
 
-pub own_noted : (c : Core) (e : ExceptionsValue) (value : ℕ) → c.run.side ≡ NonSecure → OwnSome (noted c e value)
+pub own_noted : (c : Core) (e : ExceptionsValue) (value : ℕ) → c.run.side ≡ NonSecure → OwnSome (exc_return_fault c e value)
 unfolding OwnSome is_own
 own_noted c e value is =
     own_some (not (is_well_formed value)) _ _ (own_inv_pc c.run.side is)
@@ -212,7 +212,7 @@ leaves_returns profile c e f value is =
     let own = no_es c.run.side value is in
     returns_after false c (unhandled e r c) e free f (leaves framed profile c e f value)
     (λ t. unhandled_spared c e free r.es r.process r.thread r.dcrs r.secure own (freed_quiet e (slot_returning c r)))
-    (leaves_noting_returns profile c.run.side (noted c e value) r (unhandled e r c) free f is own (own_noted c e value is))
+    (leaves_noting_returns profile c.run.side (exc_return_fault c e value) r (unhandled e r c) free f is own (own_noted c e value is))
 
 -- a return of Non-secure code writes nothing
 pub leaves_still : (profile : Profile) (c : Core) (e : ExceptionsValue) (f : Framed) (value : ℕ) → c.run.side ≡ NonSecure → (leaves framed profile c e f value).held ≡ f

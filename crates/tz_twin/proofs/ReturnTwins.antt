@@ -13,7 +13,7 @@ use Rattle.tz_state.specs.Attribution.{is_open}
 use Rattle.tz_state.specs.Access.{is_let, verdict}
 use Rattle.tz_state.specs.Execution.{takes_first}
 use Rattle.tz_state.specs.State.{State}
-use Rattle.tz_frames.specs.Machine.{Framed, frame_verdict, looked, framed}
+use Rattle.tz_frames.specs.Machine.{Framed, frame_verdict, framed_read, framed}
 use Rattle.tz_frames.specs.declared.frame.StackFault.{StackFault}
 use Rattle.tz_frames.specs.declared.frame.Basic.{Basic}
 use Rattle.tz_frames.specs.declared.entering.Entered.{Entered}
@@ -22,9 +22,9 @@ use Rattle.tz_frames.specs.declared.leaving.Returning.{Returning}
 use Rattle.tz_frames.specs.declared.leaving.Unstacked.{Unstacked}
 use Rattle.tz_frames.specs.declared.leaving.Left.TheVariants as lefts
 use Rattle.tz_frames.specs.Status.{Raised, faulted, frame_faulted}
-use Rattle.tz_frames.specs.Stack.{word_answer, word_read, with_first, reads, basic_read, popped_basic}
+use Rattle.tz_frames.specs.Stack.{word_answer, word_read, with_lowest_word, reads, basic_read, popped_basic}
 use Rattle.tz_frames.specs.Enter.{Done, tries}
-use Rattle.tz_frames.specs.Leave.{returning_by, slot_returning, noted, freed, unhandled, chaining, Leaving, left_of, leaving_by, chained, chained_raised, returns_privileged, return_sp, with_basic, unstacked, resumed, modes_agree, resumes, goes_back, leaves_noting, leaves}
+use Rattle.tz_frames.specs.Leave.{returning_by, slot_returning, exc_return_fault, freed, unhandled, chaining, Leaving, left_of, leaving_by, chained, chained_raised, returns_privileged, return_sp, with_basic, unstacked, resumed, modes_agree, resumes, goes_back, leaves_noting, leaves}
 use Rattle.tz_twin.proofs.Bytes.{value_same}
 use Rattle.tz_twin.proofs.Split.{Open, Rest, open_of, open_map, join, Same}
 use Rattle.tz_twin.proofs.Faults.{OwnSome}
@@ -113,7 +113,7 @@ unfolding verdict is_let
 verdict_same o x x' k g g' a privileged = refl
 
 looked_same : (v : Option Fault) (o : Open) (x x' : Rest) (k : Ground) (g g' : Guise) (a : ℕ) → Same o x x' → (v ≡ None → every (is_open (open_map o)) a Word ≡ true)
-    → (looked v (held_of o x k g) a).1 ≡ (looked v (held_of o x' k g') a).1
+    → (framed_read v (held_of o x k g) a).1 ≡ (framed_read v (held_of o x' k g') a).1
 looked_same (Some fault) o x x' k g g' a same is = refl
 looked_same None o x x' k g g' a same is = ap Ok (value_same (open_map o) x.memory x'.memory Word a same.bytes (is refl))
 
@@ -122,7 +122,7 @@ word_same : (o : Open) (x x' : Rest) (k : Ground) (g g' : Guise) (privileged : B
 word_same o x x' k g g' privileged a same =
     let v = frame_verdict (held_of o x k g) Read a NonSecure privileged in
     ap word_answer (looked_same v o x x' k g g' a same (open_framed (held_of o x k g) Read a privileged)
-    ∙ ap (λ (u : Option Fault). (looked u (held_of o x' k g') a).1) (verdict_same o x x' k g g' a privileged))
+    ∙ ap (λ (u : Option Fault). (framed_read u (held_of o x' k g') a).1) (verdict_same o x x' k g g' a privileged))
 
 reads_same : (o : Open) (x x' : Rest) (k : Ground) (g g' : Guise) (privileged : Bool) (n a : ℕ) → Same o x x'
     → reads framed NonSecure privileged (held_of o x k g) a n ≡ reads framed NonSecure privileged (held_of o x' k g') a n
@@ -131,7 +131,7 @@ reads_same o x x' k g g' privileged zero a same = refl
 reads_same o x x' k g g' privileged (suc n) a same =
     let first = word_same o x x' k g g' privileged a same in
     let later = reads_same o x x' k g g' privileged n (wrap (a + 4)) same in
-    λ i. with_first (first i) (later i)
+    λ i. with_lowest_word (first i) (later i)
 
 popped_same : (o : Open) (x x' : Rest) (k : Ground) (g g' : Guise) (sp : ℕ) (privileged : Bool) → Same o x x'
     → popped_basic framed (held_of o x k g) sp NonSecure privileged ≡ popped_basic framed (held_of o x' k g') sp NonSecure privileged
@@ -229,5 +229,5 @@ unfolding leaves
 leaves_twins profile o x x' k g g' value same =
     let r = returning_by NonSecure value in
     let q = freed_quiet o.exceptions (slot_returning (join o x).core r) in
-    noting_both profile (noted (join o x).core o.exceptions value) (open_of (freed_in (join o x) r)) x x' k g g' r.process r.thread r.dcrs r.secure (own_noted (join o x).core o.exceptions value refl)
+    noting_both profile (exc_return_fault (join o x).core o.exceptions value) (open_of (freed_in (join o x) r)) x x' k g g' r.process r.thread r.dcrs r.secure (own_noted (join o x).core o.exceptions value refl)
     (record { bytes = same.bytes; bus = λ t. same.bus (sym q.keeps.bfhfnmins ∙ t) })

@@ -24,7 +24,7 @@ use Rattle.tz_regs.specs.Special.{named_of}
 use Rattle.tz_state.specs.declared.request.Exclusive.{Exclusive}
 use Rattle.tz_regs.specs.declared.parts.Core.{Core}
 use Rattle.tz_state.specs.State.{State, priority_in, is_negative_at, is_held, side_of, with_pc}
-use Rattle.tz_state.specs.Access.{is_aligned, is_private, Reached, reached_in, loaded, read_by, stored_in, write_by, access}
+use Rattle.tz_state.specs.Access.{is_aligned, is_private, Reached, reached_in, permitted_read, read_by, stored_in, write_by, access}
 use Rattle.tz_state.specs.Fetch.{fetch, own_fetch}
 use Rattle.tz_sem.specs.declared.family.Family.{Family}
 use Rattle.tz_sem.specs.declared.family.Family.TheVariants.{Alu, LoadStore, Branch, System}
@@ -37,14 +37,14 @@ use Rattle.tz_sem.specs.ItRules.{is_misplaced, is_passed_over, ignores_condition
 use Rattle.tz_sem.specs.Exec.{Ported, ported, unless_refused, after_accesses, probed, Executed, alone, beside, through, Exclusivity, Free, Marks, Takes, exclusivity, marked, released, loads_stores, exclusively, family_of, executed_by}
 use Rattle.tz_sem.specs.Ended.{Passed, Ended, with_stores}
 use Rattle.tz_regs.specs.declared.parts.Before.{Before}
-use Rattle.tz_regs.specs.Registers.{is_handler, limit_of, side_in, before_in}
+use Rattle.tz_regs.specs.Registers.{is_handler, pointer_limit_of, side_in, before_in}
 use Rattle.tz_state.specs.Execution.{takes_first}
 use Rattle.tz_state.specs.Protection.{MpuState}
 use Rattle.tz_state.specs.State.{Bus, with_mpu}
 use Rattle.tz_state.specs.declared.register.Register.{Register}
 use Rattle.tz_state.specs.declared.register.Register.TheVariants.{Ictr, Control, Mpu}
 use Rattle.tz_state.specs.declared.register.ControlRegister.TheVariants.{Cpuid}
-use Rattle.tz_state.specs.declared.register.Found.{Found}
+use Rattle.tz_state.specs.declared.register.ViewedRegister.{ViewedRegister}
 use Rattle.tz_state.specs.declared.register.Narrow.{Narrow}
 use Rattle.tz_state.specs.declared.register.Narrow.TheVariants.{Keeps, Zeros, Ignored}
 use Rattle.tz_state.specs.SystemRegisters.{SystemState, after_read, written}
@@ -57,7 +57,7 @@ use Rattle.tz_sem.specs.declared.ending.Cause.TheVariants.{Went, Returned}
 use Rattle.tz_sem.specs.declared.ending.Course.{Course}
 use Rattle.tz_sem.specs.Taking.{faults}
 use Rattle.tz_sem.specs.Exchange.{ran, branched, branch_ns, exchanged, through_port, called_with, calls}
-use Rattle.tz_sem.specs.Step.{length_of, with_it, past, skips, is_call, goes_on, concludes, executes, placed, decoded, fetched, fetcher_in, course_in, asleep, instructs, awake, without_event, takes, idles, is_woken, by_sleep, stepped, ended}
+use Rattle.tz_sem.specs.Step.{length_of, with_it, past, skips, is_call, goes_on, concludes, executes, placed, decoded, fetched, fetcher_in, course_in, asleep, instructs, awake, without_event, takes_exception, idles, is_woken, by_sleep, stepped, ended}
 use Rattle.tz_twin.specs.Seen.{crossing, Seen}
 use Rattle.tz_twin.proofs.Split.{board_seen}
 use Rattle.tz_twin.proofs.After.{general_seen, after}
@@ -96,7 +96,7 @@ sized_board side s r lane Byte value = narrow_board side s r (narrow_of r) lane 
 sized_board side s r lane Half value = narrow_board side s r (narrow_of r) lane Half value
 sized_board side s r lane Word value = word_board side s r value
 
-found_written_board : (s : SystemState) (f : Option Found) (lane : ℕ) (size : Size) (value : ℕ) → (found_written s f lane size value).bus.board ≡ s.bus.board
+found_written_board : (s : SystemState) (f : Option ViewedRegister) (lane : ℕ) (size : Size) (value : ℕ) → (found_written s f lane size value).bus.board ≡ s.bus.board
 found_written_board s None lane size value = refl
 found_written_board s (Some f) lane size value = sized_board f.view s f.register lane size value
 
@@ -104,12 +104,12 @@ after_read_board : (side : Side) (s : SystemState) (r : Register) → (after_rea
 after_read_board side s Ictr = refl
 after_read_board side s _ = refl
 
-found_read_board : (s : SystemState) (f : Option Found) → (found_read s f).bus.board ≡ s.bus.board
+found_read_board : (s : SystemState) (f : Option ViewedRegister) → (found_read s f).bus.board ≡ s.bus.board
 found_read_board s None = refl
 found_read_board s (Some f) = after_read_board f.view s f.register
 
 -- and so do accesses
-loaded_board : (private : Bool) (r : Reached) (size : Size) (a : ℕ) → (loaded private r size a).0.system.bus.board ≡ r.system.bus.board
+loaded_board : (private : Bool) (r : Reached) (size : Size) (a : ℕ) → (permitted_read private r size a).0.system.bus.board ≡ r.system.bus.board
 loaded_board true r size a = found_read_board r.system (found_at r.asker.side a)
 loaded_board false r size a = refl
 
@@ -201,7 +201,7 @@ touching_after_call s0 s before i negative code target (h, Err fault) starts e =
 
 touching_calls : (s0 s : State) (before : Seen) (i : Insn) (negative : Bool) (code : Code) (target next : ℕ) → s0.core.run.side ≡ Secure → Of before s → Touching s0 before (calls (past i) s (seeing negative) code target next)
 unfolding calls
-touching_calls s0 s before i negative code target next starts e = go (nat_lt (call_base s.core) (limit_of s.core.registers.ipsr s.core.stacks_s)) where
+touching_calls s0 s before i negative code target next starts e = go (nat_lt (call_base s.core) (pointer_limit_of s.core.registers.ipsr s.core.stacks_s)) where
   a : Reached × Result (List ℕ) Fault
   a = answers access (reached_in s) (call_stores s.core next)
 
@@ -348,7 +348,7 @@ touching_sleeps s before Wfe e =
     (touching_woken s (without_event (awake s)) before _ refl (touching_instructs (without_event (awake s)) before e)) (touching_idles s before e)
 
 -- an exception that comes before an instruction
-touching_taken : (s : State) (before : Seen) → Of before s → Touching (secured s) before (takes (secured s))
+touching_taken : (s : State) (before : Seen) → Of before s → Touching (secured s) before (takes_exception (secured s))
 touching_taken s before e =
     let h = halts_preempted Secure (awake (secured s)) (course_in (secured s) true) s.core.registers.pc in
     touching_halts (secured s) (awake (secured s)) before true s.core.registers.general [] _ e (λ is. absurd (never (secured s) refl is)) (h.touched refl) h

@@ -17,7 +17,7 @@ use Rattle.tz_state.specs.Execution.{takes_first}
 use Rattle.tz_state.specs.Due.{begun}
 use Rattle.tz_model.specs.Codes.{meaning_of}
 use Rattle.tz_sem.specs.Ended.{Ended}
-use Rattle.tz_sem.specs.Step.{stepped, fetched, fetches, fetcher_in, fetch_in, looks, unready, instructs, course_in, takes, idles, is_woken, by_sleep, ended, started}
+use Rattle.tz_sem.specs.Step.{stepped, fetched, fetches, fetcher_in, fetch_in, touches_secure, unready, instructs, course_in, takes_exception, idles, is_woken, by_sleep, ended, started}
 use Rattle.tz_twin.specs.Seen.{Seen, seen}
 use Rattle.tz_twin.proofs.Fetching.{own_fetch_same, own_fetch_own}
 use Rattle.tz_twin.proofs.Faults.{is_own, Own}
@@ -100,7 +100,7 @@ touching_resting o x sleep event before e t = record { touched = t.touched; seen
 instructs_same : (o : Open) (x x' : Rest) → Same o x x' → Both (join o x) (join o x') (instructs (join o x)) (instructs (join o x'))
 instructs_same o x x' same =
     both_cond _ _ o.registers.t _ _ _ _ (fetches_same o x x' same)
-    (both_fault o x x' (course_in (join o x) (looks NonSecure (join o x))) (unready (looks NonSecure (join o x)) NonSecure) (own_unready (looks NonSecure (join o x)) NonSecure) same)
+    (both_fault o x x' (course_in (join o x) (touches_secure NonSecure (join o x))) (unready (touches_secure NonSecure (join o x)) NonSecure) (own_unready (touches_secure NonSecure (join o x)) NonSecure) same)
 
 -- ---- exceptions and sleep
 
@@ -170,7 +170,7 @@ sleeps_same o x x' Awake same = instructs_same o x x' same
 sleeps_same o x x' Wfi same = both_cond _ _ (is_woken (join o x)) _ _ _ _ (wakes_same o x x' o.event same) (idles_same o x x' same)
 sleeps_same o x x' Wfe same = both_cond _ _ (o.event || is_woken (join o x)) _ _ _ _ (wakes_same o x x' false same) (idles_same o x x' same)
 
-taken_same : (o : Open) (x x' : Rest) → Same o x x' → Both (join o x) (join o x') (takes (join o x)) (takes (join o x'))
+taken_same : (o : Open) (x x' : Rest) → Same o x x' → Both (join o x) (join o x') (takes_exception (join o x)) (takes_exception (join o x'))
 unfolding resting
 taken_same o x x' same =
     let p = resting o Awake o.event in

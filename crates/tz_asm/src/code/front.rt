@@ -1,11 +1,10 @@
 //! What stands first among tokens, with the tokens behind it; none where something else does.
 
 ghost use Rattle.std.specs.Prelude.{◌≡◌, option_map};
-ghost use Rattle.tz_asm.specs.Front.{constant_at, mark_at, number_at, signed_at, views, word_at};
+ghost use Rattle.tz_asm.specs.Front.{constant_at, mark_at, leading_number, signed_at, views, word_at};
 
 use tz_syntax::Token;
 
-/// A mark.
 pub fn mark_at<'t, 's>(tokens: &'t [Token<'s>], mark: u8) -> Option<&'t [Token<'s>]>
     ensures { option_map (λ rest. views rest.now) result ≡ mark_at mark (views tokens.now) }
 {
@@ -15,7 +14,6 @@ pub fn mark_at<'t, 's>(tokens: &'t [Token<'s>], mark: u8) -> Option<&'t [Token<'
     }
 }
 
-/// A word.
 pub fn word_at<'t, 's>(tokens: &'t [Token<'s>]) -> Option<(&'s [u8], &'t [Token<'s>])>
     ensures { option_map (λ read. (read.0.now, views read.1.now)) result ≡ word_at (views tokens.now) }
 {
@@ -26,8 +24,8 @@ pub fn word_at<'t, 's>(tokens: &'t [Token<'s>]) -> Option<(&'s [u8], &'t [Token<
 }
 
 /// A number without a sign.
-pub fn number_at<'t, 's>(tokens: &'t [Token<'s>]) -> Option<(u32, &'t [Token<'s>])>
-    ensures { option_map (λ read. (read.0, views read.1.now)) result ≡ number_at (views tokens.now) }
+pub fn leading_number<'t, 's>(tokens: &'t [Token<'s>]) -> Option<(u32, &'t [Token<'s>])>
+    ensures { option_map (λ read. (read.0, views read.1.now)) result ≡ leading_number (views tokens.now) }
 {
     match tokens {
         [Token::Number(number), rest @ ..] => Some((*number, rest)),
@@ -41,11 +39,11 @@ pub fn signed_at<'t, 's>(tokens: &'t [Token<'s>]) -> Option<(bool, u32, &'t [Tok
     ensures { option_map (λ read. (read.0, read.1, views read.2.now)) result ≡ signed_at (views tokens.now) }
 {
     match mark_at(tokens, b'-') {
-        None => match number_at(tokens) {
+        None => match leading_number(tokens) {
             None => None,
             Some((number, rest)) => Some((false, number, rest)),
         },
-        Some(behind) => match number_at(behind) {
+        Some(behind) => match leading_number(behind) {
             None => None,
             Some((number, rest)) => Some((true, number, rest)),
         },

@@ -7,7 +7,7 @@ ghost use Rattle.tz_syntax.specs.Rows.{row_view};
 ghost use Rattle.tz_syntax.specs.Text.{texts};
 
 use crate::code::mnemonics::{behind, is_named};
-use tz_syntax::{Row, text_rows};
+use tz_syntax::{TextRow, text_rows};
 
 /// How many sums are told apart.
 const SUMS: u32 = 64;
@@ -156,14 +156,14 @@ pub fn rows_of(word: &[u8]) -> &'static [u16]
 }
 
 /// The row with a number.
-fn row_at(place: u16) -> Option<&'static Row>
+fn row_at(place: u16) -> Option<&'static TextRow>
     ensures { option_map (λ row. row_view row.now) result ≡ slice_get texts place }
 {
     text_rows().get(usize::from(place))
 }
 
 /// The first of some rows that has a mnemonic, and the numbers behind it.
-pub fn next_row(places: &'static [u16], word: &[u8]) -> Option<(&'static Row, &'static [u16])>
+pub fn next_row(places: &'static [u16], word: &[u8]) -> Option<(&'static TextRow, &'static [u16])>
     ensures row { MatchOption result (named_at word.now places.now ≡ []) (λ next. named_at word.now places.now ≡ row_view next.0.now ∷ named_at word.now next.1.now) }
     ensures shorter { MatchOption result (named_at word.now places.now ≡ []) (λ next. length next.1.now < length places.now) }
 {

@@ -4,7 +4,7 @@ ghost use Rattle.std.specs.Prelude.{◌≡◌, option_map};
 ghost use Rattle.tz_asm.specs.Mnemonics.{are_letters, behind, ends_well, is_letter, is_named, lettered, letters_of, may_end};
 ghost use Rattle.tz_syntax.specs.Rows.{row_view, somes};
 
-use tz_syntax::{Piece, Row};
+use tz_syntax::{Piece, TextRow};
 
 /// What stands behind a name of small letters in a word that begins with it, in letters of either case.
 pub fn behind<'w>(name: &[u8], word: &'w [u8]) -> Option<&'w [u8]>
@@ -83,7 +83,7 @@ fn may_end(places: Option<(u8, u8)>, bytes: &[u8]) -> bool
 }
 
 /// Whether a word is the mnemonic of a row.
-pub fn is_named(word: &[u8], row: &Row) -> bool
+pub fn is_named(word: &[u8], row: &TextRow) -> bool
     ensures { result ≡ is_named word.now (row_view row.now) }
 {
     match behind(row.mnemonic.as_bytes(), word) {

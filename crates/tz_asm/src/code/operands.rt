@@ -49,7 +49,6 @@ fn named<'t, 's>(number: Option<u32>, rest: &'t [Token<'s>]) -> Option<Operand<'
     }
 }
 
-/// A register.
 pub fn register_operand<'t, 's>(tokens: &'t [Token<'s>]) -> Option<Operand<'t, 's>>
     ensures { option_map operand_view result ≡ name_at register_of (views tokens.now) }
 {
@@ -59,7 +58,6 @@ pub fn register_operand<'t, 's>(tokens: &'t [Token<'s>]) -> Option<Operand<'t, '
     }
 }
 
-/// A condition.
 pub fn condition_operand<'t, 's>(tokens: &'t [Token<'s>]) -> Option<Operand<'t, 's>>
     ensures { option_map operand_view result ≡ name_at condition_of (views tokens.now) }
 {

@@ -73,7 +73,6 @@ fn with_rest<'t, 's>(reading: Reading<'t, 's>, rest: &'t [Token<'s>]) -> Reading
     }
 }
 
-/// Behind a mark.
 pub fn behind_mark<'t, 's>(
     reading: Reading<'t, 's>,
     rest: Option<&'t [Token<'s>]>,

@@ -11,7 +11,7 @@ use crate::code::bits::mask_of;
 use crate::code::mnemonics::{behind, lettered};
 use crate::code::pieces::{Site, label_load_read, pieces_read};
 use crate::code::progress::{Reading, put, with_value};
-use tz_syntax::{Row, Token, number_at};
+use tz_syntax::{TextRow, Token, number_at};
 
 /// The number of the form of loads, of the size of a word, and of an address beside the program counter.
 const LOAD: u32 = 58;
@@ -33,7 +33,7 @@ fn fix(values: &mut [i32; 9], fixed: &[Option<(u8, i32)>])
 
 /// The values of a row before its operands.
 #[tactic(auto, unfolding(crate::specs::Rows::row_values))]
-fn row_values(row: &Row) -> [i32; 9]
+fn row_values(row: &TextRow) -> [i32; 9]
     ensures { result ≡ row_values (row_view row.now) }
 {
     let mut values = [i32::from(row.form), 0, 0, 0, 0, 0, 0, 0, 0];
@@ -63,7 +63,7 @@ fn all_read<'t, 's>(read: Option<Reading<'t, 's>>) -> Option<Reading<'t, 's>>
 }
 
 /// What is read before the operands.
-fn begun<'t, 's>(row: &Row, tokens: &'t [Token<'s>]) -> Reading<'t, 's>
+fn begun<'t, 's>(row: &TextRow, tokens: &'t [Token<'s>]) -> Reading<'t, 's>
     ensures { progress_view result ≡ begun (row_view row.now) (views tokens.now) }
 {
     Reading {
@@ -75,7 +75,7 @@ fn begun<'t, 's>(row: &Row, tokens: &'t [Token<'s>]) -> Reading<'t, 's>
 }
 
 /// The letters behind the mnemonic of a row in a word.
-fn letters_behind<'w>(row: &Row, word: &'w [u8]) -> &'w [u8]
+fn letters_behind<'w>(row: &TextRow, word: &'w [u8]) -> &'w [u8]
     ensures { result.now ≡ unwrap_or (behind_of (row_view row.now).mnemonic word.now) [] }
 {
     match behind(row.mnemonic.as_bytes(), word) {
@@ -103,7 +103,7 @@ fn with_letters<'t, 's>(
 
 /// A statement by the text of a row.
 fn by_text<'t, 's>(
-    row: &Row,
+    row: &TextRow,
     mnemonic: &[u8],
     tokens: &'t [Token<'s>],
     site: Site,
@@ -121,7 +121,7 @@ fn by_text<'t, 's>(
 }
 
 /// A load by a label.
-fn by_label<'t, 's>(row: &Row, tokens: &'t [Token<'s>], site: Site) -> Option<Reading<'t, 's>>
+fn by_label<'t, 's>(row: &TextRow, tokens: &'t [Token<'s>], site: Site) -> Option<Reading<'t, 's>>
     ensures { option_map progress_view result ≡ by_label (row_view row.now) (views tokens.now) (site_view site) }
 {
     let begun = begun(row, tokens);
@@ -135,7 +135,7 @@ fn by_label<'t, 's>(row: &Row, tokens: &'t [Token<'s>], site: Site) -> Option<Re
 /// What a row reads in a statement; none where the operands haven't its shape.
 #[tactic(auto, unfolding(crate::specs::Rows::row_read))]
 pub fn row_read<'t, 's>(
-    row: &Row,
+    row: &TextRow,
     mnemonic: &[u8],
     tokens: &'t [Token<'s>],
     site: Site,

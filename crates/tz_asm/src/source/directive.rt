@@ -12,7 +12,6 @@ use crate::source::statement::{Expression, Statement};
 use tz_syntax::Token;
 use tz_table::Size;
 
-/// A directive.
 #[derive(Clone, Copy)]
 pub enum Directive {
     /// `.org`.

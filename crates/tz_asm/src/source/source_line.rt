@@ -14,7 +14,6 @@ use tz_syntax::{Token, register_of};
 pub struct SourceLine<'t, 's> {
     /// The label that the line defines.
     pub label: Option<&'s [u8]>,
-    /// The statement.
     pub statement: Statement<'t, 's>,
 }
 

@@ -31,7 +31,6 @@ pub enum Expression<'s> {
     Label(&'s [u8], Signed),
 }
 
-/// A statement.
 #[derive(Clone, Copy)]
 pub enum Statement<'t, 's> {
     /// No statement.

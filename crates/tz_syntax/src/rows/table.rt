@@ -1,10 +1,10 @@
 //! The text of each form and width: the lines that `crate::rows` explains.
 
-use crate::row::{Mark, Piece, Row};
+use crate::row::{Mark, Piece, TextRow};
 use tz_table::Width;
 
 /// All rows, by the number of the form, those of 16 bits first.
-pub static ROWS: [Row; 305] = [
+pub static ROWS: [TextRow; 305] = [
     // DataImm And: flags
     row!(0 Wide [(1 0)] "and.w"; reg 5, reg 6, imm 7),
     row!(0 Wide [(1 1)] "ands.w"; reg 5, reg 6, imm 7),

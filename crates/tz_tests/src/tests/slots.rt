@@ -1,10 +1,10 @@
 //! Codes that LLVM's assembler gives, from slots that are written here by hand, and the first values that
 //! have no code.
 
-use tz_encode::{Coding, Half, Limit, Part, Parts, Slot, answer};
+use tz_encode::{CodeSlot, Coding, Half, Limit, Part, Parts, answer};
 
 /// A field that is 0.
-const NOTHING: Slot = Slot {
+const NOTHING: CodeSlot = CodeSlot {
     coding: Coding::Is(0),
     limit: Limit::Any,
     parts: Parts::Zero,
@@ -12,7 +12,7 @@ const NOTHING: Slot = Slot {
 
 macro_rules! slot {
     ($coding:expr, $limit:expr, $parts:expr $(,)?) => {
-        Slot {
+        CodeSlot {
             coding: $coding,
             limit: $limit,
             parts: $parts,
@@ -32,7 +32,7 @@ macro_rules! part {
 }
 
 /// ADDS rd, rn, #imm3
-const ADD: [Slot; 8] = [
+const ADD: [CodeSlot; 8] = [
     slot!(Coding::Is(2), Limit::Any, Parts::Zero),
     NOTHING,
     NOTHING,
@@ -56,7 +56,7 @@ const ADD: [Slot; 8] = [
 ];
 
 /// BL
-const LINK: [Slot; 8] = [
+const LINK: [CodeSlot; 8] = [
     NOTHING,
     NOTHING,
     NOTHING,
@@ -78,7 +78,7 @@ const LINK: [Slot; 8] = [
 ];
 
 /// ADD.W rd, rn, rm, shift #amount
-const SUM: [Slot; 8] = [
+const SUM: [CodeSlot; 8] = [
     NOTHING,
     slot!(Coding::Kind, Limit::Any, Parts::Zero),
     NOTHING,
@@ -110,7 +110,7 @@ const SUM: [Slot; 8] = [
 ];
 
 /// BFI rd, rn, #low, #width
-const INSERT: [Slot; 8] = [
+const INSERT: [CodeSlot; 8] = [
     NOTHING,
     NOTHING,
     NOTHING,
@@ -140,7 +140,7 @@ const INSERT: [Slot; 8] = [
 /// Slots, the number of the instruction, the halfwords without fields, the values, and the code or the number of the
 /// first value that has none.
 struct Case {
-    slots: &'static [Slot; 8],
+    slots: &'static [CodeSlot; 8],
     tag: u16,
     first: u16,
     second: u16,

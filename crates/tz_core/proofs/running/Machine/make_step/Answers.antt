@@ -13,6 +13,6 @@ pub returns-then-self : goal.returns-then-self
 unfolding ended
 returns-then-self c = grind (arith, common_steps)
 
-pub returns-then-takes : goal.returns-then-takes
+pub returns-then-takes_first_uncounted : goal.returns-then-takes_first_uncounted
 unfolding ended
-returns-then-takes c = grind (arith, common_steps)
+returns-then-takes_first_uncounted c = grind (arith, common_steps)

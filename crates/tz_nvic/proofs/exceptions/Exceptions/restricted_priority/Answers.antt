@@ -1,6 +1,6 @@
 use Rattle.std.proofs.Common.{arith, rules, tests}
 use Rattle.std.proofs.lemmas.Grind.{common_steps, elements}
-use Rattle.tz_nvic.proofs.exceptions.Exceptions.counted.Goals as goal
+use Rattle.tz_nvic.proofs.exceptions.Exceptions.restricted_priority.Goals as goal
 
 -- What the tactics try, by name: a body that is refused is then told without a search for what to offer.
 pub returns-in-Secure-clause-is : goal.returns-in-Secure-clause-is

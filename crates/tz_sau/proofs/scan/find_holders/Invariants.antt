@@ -1,8 +1,8 @@
 use Rattle.std.proofs.Common.{◌≡◌, drop}
 use Rattle.tz_state.specs.Regions.{holding}
 use Rattle.tz_sau.specs.Holders.{holders_of}
-use Rattle.tz_sau.proofs.Looks.{holders_after}
-use Rattle.tz_sau.proofs.scan.look.Given as goal
+use Rattle.tz_sau.proofs.Holding.{holders_after}
+use Rattle.tz_sau.proofs.scan.find_holders.Given as goal
 
 abbrev pub invariant-loop-index : goal.invariant-loop-index
 invariant-loop-index l =

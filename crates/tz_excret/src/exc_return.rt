@@ -2,9 +2,9 @@
 
 ghost use Rattle.std.specs.Prelude.{◌≡◌, true, ◌||◌};
 ghost use Rattle.tz_state.specs.Slots.{exists, at, index_of, side_at, is_banked};
-ghost use Rattle.tz_frames.specs.Leave.{is_exc_return, is_set, returning_by, slot_returning, is_well_formed, is_forged, is_side, is_returnable, noted};
+ghost use Rattle.tz_frames.specs.Leave.{is_exc_return, is_set, returning_by, slot_returning, is_well_formed, is_forged, is_side, is_returnable, exc_return_fault};
 
-use crate::sides::{is_secure, side_by};
+use crate::sides::{is_secure, side_of_bit};
 use tz_frames::Returning;
 use tz_frames::return_bits::{
     EXC_RETURN_DCRS, EXC_RETURN_ES, EXC_RETURN_FTYPE, EXC_RETURN_MODE, EXC_RETURN_PREFIX,
@@ -15,7 +15,7 @@ use tz_nvic::Exceptions;
 use tz_regs::Core;
 
 /// Whether a branch of Handler mode to this address is a return from an exception (DDI0553, EXC_RETURN): bits 31 to
-/// 24 are ones. The other bits aren't looked at.
+/// 24 are ones. The other bits don't count.
 pub fn is_exc_return(target: u32) -> bool
     ensures { result ≡ is_exc_return target }
 {
@@ -41,7 +41,7 @@ pub(crate) fn slot_returning(core: &Core, returning: &Returning) -> Slot
 {
     Slot {
         number: core.registers.ipsr,
-        side: side_by(returning.es),
+        side: side_of_bit(returning.es),
     }
 }
 
@@ -88,9 +88,9 @@ fn is_returnable(exceptions: &Exceptions, slot: Slot) -> bool
     exceptions.exists(slot) && exceptions.active(slot) && is_of_side(exceptions, slot)
 }
 
-/// The fault that is noted of an EXC_RETURN value, where there is one.
-pub(crate) fn noted(core: &Core, exceptions: &Exceptions, value: u32) -> Option<Fault>
-    ensures { result ≡ noted core.now exceptions.now value }
+/// The fault of an EXC_RETURN value, where it has one.
+pub(crate) fn exc_return_fault(core: &Core, exceptions: &Exceptions, value: u32) -> Option<Fault>
+    ensures { result ≡ exc_return_fault core.now exceptions.now value }
 {
     let side = core.run.side;
     if !is_well_formed(value) {

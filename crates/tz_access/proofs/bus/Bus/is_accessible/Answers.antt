@@ -1,5 +1,5 @@
 use Rattle.tz_access.proofs.Blocks.{takes_by_blocks}
-use Rattle.tz_access.proofs.bus.Bus.takes.Goals as goal
+use Rattle.tz_access.proofs.bus.Bus.is_accessible.Goals as goal
 
 pub returns-in-Read-clause-blocks : goal.returns-in-Read-clause-blocks
 returns-in-Read-clause-blocks c = takes_by_blocks c.args.self.now.board.regions c.args.kind c.know_regions.ensures

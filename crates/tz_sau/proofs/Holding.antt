@@ -1,4 +1,4 @@
--- Looks that have found a region so far.
+-- The regions that have been found to hold an address so far.
 use Rattle.std.proofs.Common.{ℕ, List, ◌∷◌, Option, Some, None}
 use Rattle.tz_state.specs.declared.units.Bounds.{Bounds}
 use Rattle.tz_sau.specs.declared.scan.Holders.{Holders}

@@ -2,7 +2,7 @@ use Rattle.std.proofs.Common.{◌∙◌, ◌<◌, ap, arith, length}
 use Rattle.tz_mem.specs.Blocks.{BlockValue, number_in}
 use Rattle.tz_mem.proofs.Places.{index_of_run, end_of_run}
 use Rattle.tz_mem.proofs.Runs.{run_number}
-use Rattle.tz_mem.proofs.numbers.number_at.Goals as goal
+use Rattle.tz_mem.proofs.numbers.value_at.Goals as goal
 use Rattle.std.proofs.Common.{rules, tests}
 use Rattle.std.proofs.lemmas.Grind.{common_steps, elements}
 

@@ -1,14 +1,14 @@
-//! A look through the regions of an MPU.
+//! The regions of an MPU that hold an address.
 
 ghost use Rattle.std.specs.Prelude.{◌≡◌, ◌≤◌, length};
 ghost use Rattle.tz_state.specs.Regions.{spans, holds, holding};
-ghost use Rattle.tz_mpu.specs.Found.{found_of};
+ghost use Rattle.tz_mpu.specs.Holders.{holders_of};
 
 use tz_state::Bounds;
 
 /// The enabled regions that hold an address.
 #[derive(Clone, Copy)]
-pub enum Found {
+pub enum Holders {
     Nothing,
     /// The number of the only one, and its registers.
     One(u8, Bounds),
@@ -22,18 +22,18 @@ fn holds(bounds: &Bounds, addr: u32) -> bool
     bounds.rlar % 2 == 1 && bounds.rbar / 32 * 32 <= addr && addr <= bounds.rlar / 32 * 32 + 31
 }
 
-/// Which enabled regions hold an address: one look at each, up to the second that does.
+/// Which enabled regions hold an address: each is asked once, up to the second that does.
 #[tactic(auto, unfolding(tz_state::specs::Regions::holding))]
-pub fn look(regions: &[Bounds], addr: u32) -> Found
+pub fn find_holders(regions: &[Bounds], addr: u32) -> Holders
     requires { length regions.now ≤ 16 }
-    ensures { result ≡ found_of (holding 0 regions.now addr) }
+    ensures { result ≡ holders_of (holding 0 regions.now addr) }
 {
-    let mut found = Found::Nothing;
+    let mut found = Holders::Nothing;
     for (index, bounds) in regions.iter().enumerate() {
         if holds(bounds, addr) {
             match found {
-                Found::Nothing => found = Found::One(index as u8, *bounds),
-                _ => return Found::Several,
+                Holders::Nothing => found = Holders::One(index as u8, *bounds),
+                _ => return Holders::Several,
             }
         }
     }
