@@ -235,7 +235,7 @@ impl Bus {
         }
     }
 
-    /// The instruction at PC for code of a side. `secure_privileged` says that Secure code would be
+    /// The instruction at PC for code of a side, as tests ask for it. `secure_privileged` says that Secure code would be
     /// privileged, which a gateway asks; `negative` that the execution priority is below 0. It changes
     /// nothing.
     ///

@@ -60,7 +60,7 @@ impl Bus {
     }
 
     /// Writes the register of the SAU, or of the MPU of a side, at an address; one that isn't there takes
-    /// no write.
+    /// no write. Tests are its users.
     pub fn set_register(&mut self, addr: u32, side: Side, value: u32)
         ensures { self.new ≡ unit_written self.old side addr value }
     {

@@ -91,7 +91,7 @@ impl Pair {
         })
     }
 
-    /// The machine of the first Secure image.
+    /// The machine of the first Secure image. The program asks for neither machine.
     pub fn first(&self) -> &Machine
         ensures { result.now ≡ self.now.first }
     {

@@ -1,4 +1,5 @@
-//! The table of slots: what is pending, active and enabled, priorities and targets.
+//! The table of slots: what is pending, active and enabled, priorities and targets. The program goes by places; tests are
+//! the users of `unpend`, `set_priority`, `set_enabled`, `set_target`, `pending` and `priority`, which go by slots.
 
 ghost use Rattle.std.specs.Prelude.{◌≡◌, ◌≤◌, ◌<◌, ◌+◌, true, IfOk, IsTrue};
 ghost use Rattle.tz_state.specs.Slots.{at, exists, is_external, is_place, side_at, slot_at, index_of, is_enabled, with_slot, reset_exceptions};

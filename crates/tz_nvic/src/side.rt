@@ -1,4 +1,4 @@
-//! What each side chooses: PRIGROUP, PRIS, BFHFNMINS and the timers.
+//! What each side chooses: PRIGROUP, PRIS, BFHFNMINS and the timers. Tests are the users of `set_timer`.
 
 ghost use Rattle.std.specs.Prelude.{◌≡◌, ◌≤◌};
 ghost use Rattle.tz_state.specs.Slots.{prigroup_of, timer_of};

@@ -186,7 +186,7 @@ impl Core {
     }
 
     /// Writes the stack pointer in use. `StackLimit` exactly where the value is below its limit; then
-    /// nothing changes.
+    /// nothing changes. Tests are its users.
     pub fn set_sp_checked(&mut self, value: u32) -> Result<(), StackLimit>
         ensures { MatchResult result
             (λ _. (pointer_limit_of self.old.registers.ipsr (stacks_of self.old.run.side self.old) ≤ value) × (self.new ≡ with_stacks self.old.run.side self.old (with_pointer self.old.registers.ipsr (stacks_of self.old.run.side self.old) value)))

@@ -1,4 +1,5 @@
-//! Readers of the parts, each as the word or flag of the manual's register.
+//! Readers of the parts, each as the word or flag of the manual's register. The program reads most parts as they stand;
+//! tests are the users of the other calls.
 
 ghost use Rattle.std.specs.Prelude.{◌≡◌};
 ghost use Rattle.tz_regs.specs.Banks.{stacks_of, masks_of, status_of};

@@ -1,4 +1,5 @@
-//! Writers of the parts. Each keeps the bits that the manual's register has, and changes nothing else.
+//! Writers of the parts. Each keeps the bits that the manual's register has, and changes nothing else. The program writes
+//! the parts themselves; tests are the users of these calls.
 
 ghost use Rattle.std.specs.Prelude.{◌≡◌, ◌/◌, ◌*◌, ◌%◌, ◌==◌};
 ghost use Rattle.tz_model.specs.Words.{even_of};

@@ -40,7 +40,8 @@ pub fn push_instruction<const N: usize>(
     }
 }
 
-/// The text of an instruction of a width that stands at `pc`.
+/// The text of an instruction of a width that stands at `pc`. The program appends it to a line; tests are the users of
+/// this call.
 pub fn instruction_text(insn: &Insn, width: Width, pc: u32) -> ArrayString<96>
     ensures { result.bytes ≡ text_of insn.now width pc }
 {

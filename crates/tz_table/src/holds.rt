@@ -47,7 +47,7 @@ fn number_of(rows: &[Row], row: &Row) -> usize
 
 /// Whether a code that has the fixed bits of the row keeps the row's limits: register numbers, fields
 /// that belong to another row, and values that the manual calls UNPREDICTABLE. A row that isn't one of
-/// the table has none.
+/// the table has none. The program decodes by branches; tests are the users of this call.
 pub fn limits_hold(row: &Row, first: u16, second: u16) -> bool
     ensures { result ≡ limits_of rows row.now first second }
 {
