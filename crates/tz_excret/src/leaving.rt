@@ -126,7 +126,7 @@ fn leave_noting<P: Frames>(
     work: &mut Work<'_, P>,
     returning: &Returning,
     side: Side,
-    exc_return_fault: Option<Fault>,
+    noted: Option<Fault>,
 ) -> Left
     requires { 10 ≤ P.room work.old.port.now }
     ensures does { leaves_noting P.answer work.old.profile side noted returning.now work.old.core.now work.old.exceptions.now (P.held work.old.port.now) ≡ left_by P.held work.new result }
@@ -134,7 +134,7 @@ fn leave_noting<P: Frames>(
     ensures room { P.room work.old.port.now ≤ P.room work.new.port.now + 10 }
     ensures lent { P.lent work.new.port.now ≡ P.lent work.old.port.now }
 {
-    match exc_return_fault {
+    match noted {
         Some(fault) => {
             let locks = raise_fault_of(work.core, work.exceptions, side, fault);
             chain_raised(work, returning, false, locks)
@@ -168,7 +168,7 @@ pub fn leave<P: Frames>(
 {
     let side = core.run.side;
     let returning = returning_by(side, value);
-    let exc_return_fault = exc_return_fault(core, exceptions, value);
+    let noted = exc_return_fault(core, exceptions, value);
     let slot = slot_returning(core, &returning);
     unhandle(core, exceptions, &returning);
     free(exceptions, slot);
@@ -178,5 +178,5 @@ pub fn leave<P: Frames>(
         port,
         profile,
     };
-    leave_noting(&mut work, &returning, side, exc_return_fault)
+    leave_noting(&mut work, &returning, side, noted)
 }
