@@ -4,6 +4,7 @@ pub mod Regions
 pub mod Attribution
 pub mod Protection
 pub mod ExceptionNumbers
+pub mod SysTickBits
 pub mod Slots
 pub mod SlotChanges
 pub mod Timers

@@ -23,6 +23,7 @@ mod probe;
 mod register;
 mod request;
 mod slot;
+pub mod systick_bits;
 mod taken;
 mod units;
 
