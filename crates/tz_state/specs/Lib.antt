@@ -1,5 +1,6 @@
 pub mod Memory
 pub mod Zeros
+pub mod UnitBits
 pub mod Regions
 pub mod Attribution
 pub mod Protection

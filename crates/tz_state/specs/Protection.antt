@@ -1,5 +1,5 @@
 -- Memory protection (DDI0553, `MPUCheck`): what an MPU permits.
-use Rattle.std.specs.Prelude.{ℕ, ◌/◌, ◌%◌, ◌==◌, Bool, true, false, not, ◌&&◌, ◌||◌, nat_le, if◌then◌else◌, List, [], ◌∷◌, Option, Some, None}
+use Rattle.std.specs.Prelude.{ℕ, ◌/◌, ◌%◌, ◌^◌, ◌==◌, Bool, true, false, not, ◌&&◌, ◌||◌, nat_le, if◌then◌else◌, List, [], ◌∷◌, Option, Some, None}
 use Rattle.std.specs.Option.{is_some}
 use Rattle.tz_model.specs.declared.board.Profile.{Profile}
 use Rattle.tz_model.specs.declared.board.Profile.TheVariants.{V80, V81}
@@ -7,6 +7,7 @@ use Rattle.tz_model.specs.Board.{within}
 use Rattle.tz_state.specs.declared.units.Bounds.{Bounds}
 use Rattle.tz_state.specs.declared.request.Kind.{Kind}
 use Rattle.tz_state.specs.declared.request.Kind.TheVariants.{Read, Write, Fetch}
+use Rattle.tz_state.specs.UnitBits.{mpu_ctrl_hfnmiena, mpu_ctrl_privdefena}
 use Rattle.tz_state.specs.Regions.{holding, the_only}
 
 -- an MPU: CTRL, RNR, both MAIRs, which have no effect, and its regions
@@ -22,10 +23,10 @@ abbrev pub is_mpu_enabled : MpuState → Bool
 is_mpu_enabled m = m.ctrl % 2 == 1
 
 abbrev pub is_on_in_faults : MpuState → Bool
-is_on_in_faults m = m.ctrl / 2 % 2 == 1
+is_on_in_faults m = m.ctrl / 2 ^ mpu_ctrl_hfnmiena % 2 == 1
 
 abbrev pub has_privileged_default : MpuState → Bool
-has_privileged_default m = m.ctrl / 4 % 2 == 1
+has_privileged_default m = m.ctrl / 2 ^ mpu_ctrl_privdefena % 2 == 1
 
 -- at a negative execution priority an MPU is off unless HFNMIENA is set
 abbrev pub is_mpu_on : MpuState → Bool → Bool

@@ -25,6 +25,7 @@ mod request;
 mod slot;
 pub mod systick_bits;
 mod taken;
+pub mod unit_bits;
 mod units;
 
 pub use asker::Asker;
