@@ -8,7 +8,7 @@ use Rattle.tz_model.specs.declared.board.RegionSide.TheVariants.{Secure, Nsc, No
 use Rattle.tz_model.specs.Board.{within, in_region, is_nonsecure, is_callable}
 use Rattle.tz_state.specs.declared.units.Bounds.{Bounds}
 use Rattle.tz_state.specs.declared.units.Attribute.{Attribute}
-use Rattle.tz_state.specs.UnitBits.{sau_ctrl_allns}
+use Rattle.tz_state.specs.UnitBits.{sau_ctrl_allns, sau_rlar_nsc}
 use Rattle.tz_state.specs.Regions.{holding, the_only}
 
 -- the SAU: CTRL, RNR and its regions
@@ -46,7 +46,7 @@ is_all_nonsecure u = u.ctrl / 2 ^ sau_ctrl_allns % 2 == 1
 
 -- RLAR.NSC
 abbrev pub is_nsc : Bounds → Bool
-is_nsc r = r.rlar / 2 % 2 == 1
+is_nsc r = r.rlar / 2 ^ sau_rlar_nsc % 2 == 1
 
 -- the side by the regions that hold an address: where none or several do, Secure
 abbrev pub side_by_regions : List (ℕ × Bounds) → RegionSide
