@@ -8,6 +8,7 @@ ghost use Rattle.tz_alu.specs.Part.{part, left};
 use crate::products::{divide, multiply, multiply_long};
 use crate::results::{put, tell_product};
 use tz_model::{Fault, Flags, LongOp, MultiplyOp, Outcome};
+use tz_regs::register_bits::CCR_DIV_0_TRP;
 use tz_regs::{Registers, Stacks};
 
 /// The low word of a product of registers.
@@ -62,7 +63,7 @@ pub(crate) fn multiply_long_registers(
 fn traps_division(ccr: u32) -> bool
     ensures { result ≡ traps ccr }
 {
-    ccr / 16 % 2 == 1
+    ccr / CCR_DIV_0_TRP % 2 == 1
 }
 
 /// A quotient of registers. `DivZero` exactly where the divisor is 0 and CCR.DIV_0_TRP is set.

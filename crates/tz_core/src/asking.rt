@@ -7,13 +7,14 @@ ghost use Rattle.tz_sem.specs.Step.{fetcher_in};
 use crate::running::Machine;
 use tz_model::Side;
 use tz_prio::is_negative;
+use tz_regs::register_bits::CCR_UNALIGN_TRP;
 use tz_state::{Asker, Fetcher};
 
 /// CCR.UNALIGN_TRP.
 fn traps_unaligned(ccr: u32) -> bool
     ensures { result ≡ traps_unaligned ccr }
 {
-    ccr / 8 % 2 == 1
+    ccr / CCR_UNALIGN_TRP % 2 == 1
 }
 
 impl Machine {

@@ -8,6 +8,7 @@ ghost use Rattle.tz_frames.specs.Leave.{has_callee, returns_to_process, returns_
 use crate::sides::side_of_bit;
 use tz_frames::return_bits::{RETPSR_IT_HIGH, RETPSR_IT_LOW, RETPSR_SPREALIGN, RETPSR_T};
 use tz_frames::{Basic, Callee, Frames, Returning, Unstacked};
+use tz_regs::register_bits::{APSR_C, APSR_N, APSR_Q, APSR_V, APSR_Z};
 use tz_regs::{Apsr, Core, Registers};
 use tz_stack::{StackFault, pop_additional, pop_basic, set_side_sp};
 
@@ -74,11 +75,11 @@ fn flags_of(retpsr: u32) -> Apsr
     ensures { result ≡ apsr_from retpsr }
 {
     Apsr {
-        n: retpsr / 0x8000_0000 % 2 == 1,
-        z: retpsr / 0x4000_0000 % 2 == 1,
-        c: retpsr / 0x2000_0000 % 2 == 1,
-        v: retpsr / 0x1000_0000 % 2 == 1,
-        q: retpsr / 0x0800_0000 % 2 == 1,
+        n: retpsr / APSR_N % 2 == 1,
+        z: retpsr / APSR_Z % 2 == 1,
+        c: retpsr / APSR_C % 2 == 1,
+        v: retpsr / APSR_V % 2 == 1,
+        q: retpsr / APSR_Q % 2 == 1,
     }
 }
 

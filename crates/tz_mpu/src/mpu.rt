@@ -14,6 +14,7 @@ use arrayvec::ArrayVec;
 use std::marker::Model;
 use thiserror::Error;
 use tz_model::Profile;
+use tz_state::unit_bits::{MPU_CTRL_HFNMIENA, MPU_CTRL_PRIVDEFENA};
 use tz_state::{Bounds, Kind, MpuRegister};
 
 /// The MPU refuses an access.
@@ -86,14 +87,14 @@ impl Mpu {
     fn is_on(&self, negative: bool) -> bool
         ensures { result ≡ is_mpu_on self.now.mpu negative }
     {
-        self.ctrl % 2 == 1 && (self.ctrl / 2 % 2 == 1 || !negative)
+        self.ctrl % 2 == 1 && (self.ctrl / MPU_CTRL_HFNMIENA % 2 == 1 || !negative)
     }
 
     /// The default map, where the MPU leaves it to privileged code (CTRL.PRIVDEFENA).
     fn lets_default(&self, addr: u32, kind: Kind, privileged: bool) -> bool
         ensures { result ≡ (privileged && has_privileged_default self.now.mpu && default_permits kind addr) }
     {
-        privileged && self.ctrl / 4 % 2 == 1 && default_permits(kind, addr)
+        privileged && self.ctrl / MPU_CTRL_PRIVDEFENA % 2 == 1 && default_permits(kind, addr)
     }
 
     /// What the regions of an MPU that is on permit.

@@ -4,6 +4,7 @@ ghost use Rattle.std.specs.Prelude.{◌≡◌};
 ghost use Rattle.tz_state.specs.Protection.{is_executable, default_permits, may_read, may_write, has_pxn, may_run, region_permits};
 
 use tz_model::Profile;
+use tz_state::unit_bits::{MPU_RBAR_AP_0, MPU_RBAR_AP_1, MPU_RLAR_PXN};
 use tz_state::{Bounds, Kind};
 
 /// Whether the default map lets code run at an address.
@@ -28,14 +29,14 @@ pub fn default_permits(kind: Kind, addr: u32) -> bool
 fn may_read(bounds: &Bounds, privileged: bool) -> bool
     ensures { result ≡ may_read bounds.now privileged }
 {
-    privileged || bounds.rbar / 2 % 2 == 1
+    privileged || bounds.rbar / MPU_RBAR_AP_0 % 2 == 1
 }
 
 /// RBAR.AP, bit 1: reads alone.
 fn may_write(bounds: &Bounds, privileged: bool) -> bool
     ensures { result ≡ may_write bounds.now privileged }
 {
-    may_read(bounds, privileged) && bounds.rbar / 4 % 2 == 0
+    may_read(bounds, privileged) && bounds.rbar / MPU_RBAR_AP_1 % 2 == 0
 }
 
 /// RLAR.PXN, which the profile `V80` doesn't have.
@@ -44,7 +45,7 @@ fn has_pxn(profile: Profile, bounds: &Bounds) -> bool
 {
     match profile {
         Profile::V80 => false,
-        Profile::V81 => bounds.rlar / 16 % 2 == 1,
+        Profile::V81 => bounds.rlar / MPU_RLAR_PXN % 2 == 1,
     }
 }
 

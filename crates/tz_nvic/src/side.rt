@@ -7,6 +7,7 @@ ghost use Rattle.tz_state.specs.SlotChanges.{is_fault_side_held, with_prigroup, 
 use crate::exceptions::Exceptions;
 use tz_model::Side;
 use tz_state::Timer;
+use tz_state::systick_bits::SYST_CSR_BITS;
 
 impl Exceptions {
     /// AIRCR.PRIGROUP of a side, at most 7.
@@ -104,7 +105,7 @@ impl Exceptions {
         ensures { self.new ≡ with_timer self.old side (timer_bits timer) }
     {
         let kept = Timer {
-            csr: timer.csr & 0x0001_0007,
+            csr: timer.csr & SYST_CSR_BITS,
             rvr: timer.rvr & 0x00ff_ffff,
             cvr: timer.cvr & 0x00ff_ffff,
         };

@@ -8,6 +8,7 @@ ghost use Rattle.tz_state.specs.Slots.{timer_of};
 use crate::exceptions::Exceptions;
 use tz_model::Side;
 use tz_state::Timer;
+use tz_state::systick_bits::{SYST_CSR_COUNTFLAG, SYST_CSR_TICKINT};
 
 /// SYST_CSR.ENABLE: whether a timer counts.
 fn counts(timer: &Timer) -> bool
@@ -20,7 +21,7 @@ fn counts(timer: &Timer) -> bool
 fn interrupts(timer: &Timer) -> bool
     ensures { result ≡ interrupts timer.now }
 {
-    timer.csr / 2 % 2 == 1
+    timer.csr / SYST_CSR_TICKINT % 2 == 1
 }
 
 /// Whether the next count takes it from 1 to 0.
@@ -35,7 +36,7 @@ fn counted_down(timer: &Timer) -> Timer
     ensures { result ≡ counted_down timer.now }
 {
     let csr = if runs_out(timer) {
-        timer.csr | 0x0001_0000
+        timer.csr | SYST_CSR_COUNTFLAG
     } else {
         timer.csr
     };

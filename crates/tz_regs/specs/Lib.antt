@@ -4,3 +4,4 @@ pub mod ItState
 pub mod Special
 pub mod Reset
 pub mod FaultBits
+pub mod RegisterBits

@@ -12,6 +12,7 @@ use Rattle.tz_regs.specs.declared.special.Special.{Special}
 use Rattle.tz_regs.specs.declared.special.Special.TheVariants.{Msp, Psp, Msplim, Psplim, Primask, Basepri, BasepriMax, Faultmask, Control, Sp}
 use Rattle.tz_regs.specs.Banks.{stacks_of, masks_of, with_masks, secure_after, nonsecure_after}
 use Rattle.tz_regs.specs.Registers.{is_privileged, pointer_limit_of, pointer_of, with_pointer, word_aligned}
+use Rattle.tz_regs.specs.RegisterBits.{control_spsel, apsr_n, apsr_z, apsr_c, apsr_v, apsr_q}
 
 -- what running code can name: its registers, the stacks of its own and of the Non-secure side, the masks, and
 -- the event flag
@@ -65,11 +66,11 @@ number_of flag = if flag then 1 else 0
 
 -- CONTROL: nPRIV in bit 0, SPSEL in bit 1
 abbrev pub control_of : Stacks → ℕ
-control_of s = number_of s.npriv + 2 * number_of s.spsel
+control_of s = number_of s.npriv + 2 ^ control_spsel * number_of s.spsel
 
 -- APSR in a word: N, Z, C, V, Q from bit 31 down
 abbrev pub apsr_word : Apsr → ℕ
-apsr_word a = 2 ^ 31 * number_of a.n + 2 ^ 30 * number_of a.z + 2 ^ 29 * number_of a.c + 2 ^ 28 * number_of a.v + 2 ^ 27 * number_of a.q
+apsr_word a = 2 ^ apsr_n * number_of a.n + 2 ^ apsr_z * number_of a.z + 2 ^ apsr_c * number_of a.c + 2 ^ apsr_v * number_of a.v + 2 ^ apsr_q * number_of a.q
 
 -- ---- reads
 
@@ -125,7 +126,7 @@ written_stacks ipsr s Msp value = record s { msp = word_aligned value }
 written_stacks ipsr s Psp value = record s { psp = word_aligned value }
 written_stacks ipsr s Msplim value = record s { msplim = value / 8 * 8 }
 written_stacks ipsr s Psplim value = record s { psplim = value / 8 * 8 }
-written_stacks ipsr s Control value = record s { npriv = value % 2 == 1; spsel = value / 2 % 2 == 1 }
+written_stacks ipsr s Control value = record s { npriv = value % 2 == 1; spsel = value / 2 ^ control_spsel % 2 == 1 }
 written_stacks ipsr s Sp value = with_pointer ipsr s value
 written_stacks ipsr s special value = s
 
@@ -167,11 +168,11 @@ written_ns n sysm value priority = written_side n.side where
 abbrev pub apsr_from : ℕ → Apsr
 apsr_from value =
     record {
-      n = value / 2 ^ 31 % 2 == 1;
-      z = value / 2 ^ 30 % 2 == 1;
-      c = value / 2 ^ 29 % 2 == 1;
-      v = value / 2 ^ 28 % 2 == 1;
-      q = value / 2 ^ 27 % 2 == 1;
+      n = value / 2 ^ apsr_n % 2 == 1;
+      z = value / 2 ^ apsr_z % 2 == 1;
+      c = value / 2 ^ apsr_c % 2 == 1;
+      v = value / 2 ^ apsr_v % 2 == 1;
+      q = value / 2 ^ apsr_q % 2 == 1;
     }
 
 -- (own) unprivileged code writes the flags alone

@@ -10,6 +10,7 @@ pub mod fault_bits;
 mod it;
 mod parts;
 mod readers;
+pub mod register_bits;
 mod reset;
 mod special;
 mod status;

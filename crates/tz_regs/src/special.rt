@@ -5,6 +5,7 @@ ghost use Rattle.tz_regs.specs.Banks.{masks_of};
 ghost use Rattle.tz_regs.specs.Special.{named_of, with_named, special_named, number_of, control_of, apsr_word, read_bank, read_named, read_psr, read_ns, special_of, faultmask_after, basepri_after, written_stacks, written_masks, stacks_written, masks_written, written_own, written_ns, apsr_from, with_special, is_below_limit, changed_masks, changed_state};
 
 use crate::parts::{Apsr, Core, Registers, SideMasks, Stacks};
+use crate::register_bits::{APSR_C, APSR_N, APSR_Q, APSR_V, APSR_Z, CONTROL_SPSEL};
 use thiserror::Error;
 use tz_model::Side;
 
@@ -59,7 +60,7 @@ impl Stacks {
     pub fn control(&self) -> u32
         ensures { result ≡ control_of self.now }
     {
-        number_of(self.npriv) + 2 * number_of(self.spsel)
+        number_of(self.npriv) + CONTROL_SPSEL * number_of(self.spsel)
     }
 
     /// Writes what a register of this bank holds of stacks and CONTROL.
@@ -73,7 +74,7 @@ impl Stacks {
             Special::Psplim => self.psplim = value / 8 * 8,
             Special::Control => {
                 self.npriv = value % 2 == 1;
-                self.spsel = value / 2 % 2 == 1;
+                self.spsel = value / CONTROL_SPSEL % 2 == 1;
             }
             Special::Sp => self.set_pointer(ipsr, value),
             _ => {}
@@ -180,11 +181,11 @@ impl Apsr {
     pub fn word(&self) -> u32
         ensures { result ≡ apsr_word self.now }
     {
-        0x8000_0000 * number_of(self.n)
-            + 0x4000_0000 * number_of(self.z)
-            + 0x2000_0000 * number_of(self.c)
-            + 0x1000_0000 * number_of(self.v)
-            + 0x0800_0000 * number_of(self.q)
+        APSR_N * number_of(self.n)
+            + APSR_Z * number_of(self.z)
+            + APSR_C * number_of(self.c)
+            + APSR_V * number_of(self.v)
+            + APSR_Q * number_of(self.q)
     }
 
     /// A word as flags.
@@ -192,11 +193,11 @@ impl Apsr {
         ensures { result ≡ apsr_from value }
     {
         Apsr {
-            n: value / 0x8000_0000 % 2 == 1,
-            z: value / 0x4000_0000 % 2 == 1,
-            c: value / 0x2000_0000 % 2 == 1,
-            v: value / 0x1000_0000 % 2 == 1,
-            q: value / 0x0800_0000 % 2 == 1,
+            n: value / APSR_N % 2 == 1,
+            z: value / APSR_Z % 2 == 1,
+            c: value / APSR_C % 2 == 1,
+            v: value / APSR_V % 2 == 1,
+            q: value / APSR_Q % 2 == 1,
         }
     }
 }

@@ -4,9 +4,11 @@
 ghost use Rattle.std.specs.Prelude.{◌≡◌, ◌/◌, ◌*◌, bit_and};
 ghost use Rattle.tz_regs.specs.Banks.{status_of, with_status};
 ghost use Rattle.tz_regs.specs.FaultBits.{mmfsr_bits, bfsr_bits, ufsr_bits, hfsr_bits, sfsr_bits};
+ghost use Rattle.tz_regs.specs.RegisterBits.{ccr_bits};
 
 use crate::fault_bits::{BFSR_BITS, HFSR_BITS, MMFSR_BITS, SFSR_BITS, UFSR_BITS};
 use crate::parts::Core;
+use crate::register_bits::CCR_BITS;
 use tz_model::Side;
 
 impl Core {
@@ -22,11 +24,11 @@ impl Core {
 
     /// Writes CCR of a side: UNALIGN_TRP and DIV_0_TRP.
     pub fn set_ccr(&mut self, side: Side, value: u32)
-        ensures { self.new ≡ with_status side self.old (record (status_of side self.old) { ccr = bit_and value 0x18 }) }
+        ensures { self.new ≡ with_status side self.old (record (status_of side self.old) { ccr = bit_and value ccr_bits }) }
     {
         match side {
-            Side::Secure => self.status.s.ccr = value & 0x18,
-            Side::NonSecure => self.status.ns.ccr = value & 0x18,
+            Side::Secure => self.status.s.ccr = value & CCR_BITS,
+            Side::NonSecure => self.status.ns.ccr = value & CCR_BITS,
         }
     }
 

@@ -1,12 +1,14 @@
 //! Writers of the parts. Each keeps the bits that the manual's register has, and changes nothing else. The program writes
 //! the parts themselves; tests are the users of these calls.
 
-ghost use Rattle.std.specs.Prelude.{◌≡◌, ◌/◌, ◌*◌, ◌%◌, ◌==◌};
+ghost use Rattle.std.specs.Prelude.{◌≡◌, ◌/◌, ◌*◌, ◌%◌, ◌^◌, ◌==◌};
 ghost use Rattle.tz_model.specs.Words.{even_of};
 ghost use Rattle.tz_regs.specs.Banks.{stacks_of, with_stacks, masks_of, with_masks};
 ghost use Rattle.tz_regs.specs.Registers.{word_aligned};
+ghost use Rattle.tz_regs.specs.RegisterBits.{control_spsel};
 
 use crate::parts::Core;
+use crate::register_bits::CONTROL_SPSEL;
 use tz_model::{Side, Sleep};
 
 impl Core {
@@ -180,16 +182,16 @@ impl Core {
 
     /// Writes CONTROL of a side, nPRIV and SPSEL.
     pub fn set_control(&mut self, side: Side, value: u32)
-        ensures { self.new ≡ with_stacks side self.old (record (stacks_of side self.old) { npriv = value % 2 == 1; spsel = value / 2 % 2 == 1 }) }
+        ensures { self.new ≡ with_stacks side self.old (record (stacks_of side self.old) { npriv = value % 2 == 1; spsel = value / 2 ^ control_spsel % 2 == 1 }) }
     {
         match side {
             Side::Secure => {
                 self.stacks_s.npriv = value % 2 == 1;
-                self.stacks_s.spsel = value / 2 % 2 == 1;
+                self.stacks_s.spsel = value / CONTROL_SPSEL % 2 == 1;
             }
             Side::NonSecure => {
                 self.stacks_ns.npriv = value % 2 == 1;
-                self.stacks_ns.spsel = value / 2 % 2 == 1;
+                self.stacks_ns.spsel = value / CONTROL_SPSEL % 2 == 1;
             }
         }
     }

@@ -10,6 +10,7 @@ use crate::scan::{Holders, find_holders};
 use crate::unit::Sau;
 use tz_model::{RegionSide, Side};
 use tz_state::Attribute;
+use tz_state::unit_bits::{SAU_CTRL_ALLNS, SAU_RLAR_NSC};
 
 /// What the SAU says of an address.
 #[derive(Clone, Copy)]
@@ -94,7 +95,7 @@ impl Sau {
     {
         if self.ctrl % 2 == 0 {
             return SauWord {
-                side: if self.ctrl / 2 % 2 == 1 {
+                side: if self.ctrl / SAU_CTRL_ALLNS % 2 == 1 {
                     RegionSide::NonSecure
                 } else {
                     RegionSide::Secure
@@ -104,7 +105,7 @@ impl Sau {
         }
         match find_holders(&self.bounds, addr) {
             Holders::One(number, region) => SauWord {
-                side: if region.rlar / 2 % 2 == 1 {
+                side: if region.rlar / SAU_RLAR_NSC % 2 == 1 {
                     RegionSide::Nsc
                 } else {
                     RegionSide::NonSecure

@@ -8,6 +8,7 @@ use crate::unit::Sau;
 use arrayvec::ArrayVec;
 use tz_model::{Board, Region, RegionKind, RegionSide, SauRegion};
 use tz_state::Bounds;
+use tz_state::unit_bits::{SAU_RLAR_ENABLE, SAU_RLAR_NSC};
 
 /// RBAR and RLAR of a region that the board starts with.
 fn bounds_of(region: &SauRegion) -> Bounds
@@ -15,7 +16,7 @@ fn bounds_of(region: &SauRegion) -> Bounds
 {
     Bounds {
         rbar: region.base,
-        rlar: region.limit / 32 * 32 + if region.nsc { 2 } else { 0 } + 1,
+        rlar: region.limit / 32 * 32 + if region.nsc { SAU_RLAR_NSC } else { 0 } + SAU_RLAR_ENABLE,
     }
 }
 

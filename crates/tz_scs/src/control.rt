@@ -15,6 +15,7 @@ use tz_model::{Side, Slot};
 use tz_nvic::Exceptions;
 use tz_ready::Steps;
 use tz_regs::SideStatus;
+use tz_regs::register_bits::{CCR_BITS, CCR_RES1};
 use tz_state::SlotState;
 use tz_state::exception::{
     BUS_FAULT, HARD_FAULT, MEM_MANAGE, NMI, PEND_SV, SECURE_FAULT, SV_CALL, SYS_TICK, USAGE_FAULT,
@@ -184,11 +185,11 @@ pub(crate) fn vtor_written(own: SideStatus, value: u32) -> SideStatus
     }
 }
 
-/// What CCR shows; bit 9 is 1.
+/// What CCR shows.
 pub(crate) fn ccr_value(own: &SideStatus) -> u32
     ensures { result ≡ ccr_value own.now }
 {
-    own.ccr | 0x200
+    own.ccr | CCR_RES1
 }
 
 /// The registers of a side with CCR written: UNALIGN_TRP and DIV_0_TRP.
@@ -196,7 +197,7 @@ pub(crate) fn ccr_written(own: SideStatus, value: u32) -> SideStatus
     ensures { result ≡ ccr_written own value }
 {
     SideStatus {
-        ccr: value & 0x18,
+        ccr: value & CCR_BITS,
         ..own
     }
 }

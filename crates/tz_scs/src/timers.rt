@@ -3,6 +3,7 @@
 ghost use Rattle.std.specs.Prelude.{◌≡◌};
 ghost use Rattle.tz_state.specs.TimerRegisters.{unflagged, timer_value, timer_read, timer_written};
 
+use tz_state::systick_bits::SYST_CSR_COUNTFLAG;
 use tz_state::{Timer, TimerRegister};
 
 /// What a register shows.
@@ -21,7 +22,7 @@ pub(crate) fn timer_value(timer: Timer, register: TimerRegister) -> u32
 fn unflagged(csr: u32) -> u32
     ensures { result ≡ unflagged csr }
 {
-    csr % 0x1_0000
+    csr % SYST_CSR_COUNTFLAG
 }
 
 /// The timer after a read: that of SYST_CSR clears COUNTFLAG.
@@ -43,7 +44,7 @@ pub(crate) fn timer_written(timer: Timer, register: TimerRegister, value: u32) -
 {
     match register {
         TimerRegister::Csr => Timer {
-            csr: value % 8 | timer.csr & 0x1_0000,
+            csr: value % 8 | timer.csr & SYST_CSR_COUNTFLAG,
             ..timer
         },
         TimerRegister::Rvr => Timer {

@@ -22,6 +22,7 @@ use Rattle.tz_regs.specs.declared.parts.Apsr.{Apsr}
 use Rattle.tz_regs.specs.declared.parts.Registers.{Registers}
 use Rattle.tz_regs.specs.Registers.{is_negative, with_n_and_z, pointer_limit_of}
 use Rattle.tz_regs.specs.ItState.{in_it_block}
+use Rattle.tz_regs.specs.RegisterBits.{ccr_div_0_trp}
 use Rattle.tz_sem.specs.declared.computed.Computed.{Computed}
 use Rattle.tz_sem.specs.Operations.{computed, multiplied, multiplied_long, divided, saturated, field_result, extended, reversed}
 use Rattle.tz_sem.specs.Local.{Local, Finished, reg, with_registers, put, gives}
@@ -159,7 +160,7 @@ finish_multiply_long op lo hi rn rm l = long_result lo hi (multiplied_long op (r
 
 -- CCR.DIV_0_TRP
 abbrev pub traps_division : ℕ → Bool
-traps_division ccr = ccr / 16 % 2 == 1
+traps_division ccr = ccr / 2 ^ ccr_div_0_trp % 2 == 1
 
 abbrev pub finish_divide : Bool → ℕ → ℕ → ℕ → Local → Finished
 finish_divide signed rd rn rm l =

@@ -1,5 +1,5 @@
 -- Security attribution (DDI0553, `SecurityCheck`): how the SAU and the board attribute an address.
-use Rattle.std.specs.Prelude.{ℕ, ◌+◌, ◌/◌, ◌%◌, ◌==◌, Bool, true, false, ◌||◌, nat_le, if◌then◌else◌, List, [], ◌∷◌, Option, Some, None}
+use Rattle.std.specs.Prelude.{ℕ, ◌+◌, ◌/◌, ◌%◌, ◌^◌, ◌==◌, Bool, true, false, ◌||◌, nat_le, if◌then◌else◌, List, [], ◌∷◌, Option, Some, None}
 use Rattle.tz_table.specs.declared.units.Side.{Side}
 use Rattle.tz_table.specs.declared.units.Side.TheVariants as sides
 use Rattle.tz_model.specs.declared.board.Region.{Region}
@@ -8,6 +8,7 @@ use Rattle.tz_model.specs.declared.board.RegionSide.TheVariants.{Secure, Nsc, No
 use Rattle.tz_model.specs.Board.{within, in_region, is_nonsecure, is_callable}
 use Rattle.tz_state.specs.declared.units.Bounds.{Bounds}
 use Rattle.tz_state.specs.declared.units.Attribute.{Attribute}
+use Rattle.tz_state.specs.UnitBits.{sau_ctrl_allns, sau_rlar_nsc}
 use Rattle.tz_state.specs.Regions.{holding, the_only}
 
 -- the SAU: CTRL, RNR and its regions
@@ -41,11 +42,11 @@ abbrev pub is_sau_on : SauState → Bool
 is_sau_on u = u.ctrl % 2 == 1
 
 abbrev pub is_all_nonsecure : SauState → Bool
-is_all_nonsecure u = u.ctrl / 2 % 2 == 1
+is_all_nonsecure u = u.ctrl / 2 ^ sau_ctrl_allns % 2 == 1
 
 -- RLAR.NSC
 abbrev pub is_nsc : Bounds → Bool
-is_nsc r = r.rlar / 2 % 2 == 1
+is_nsc r = r.rlar / 2 ^ sau_rlar_nsc % 2 == 1
 
 -- the side by the regions that hold an address: where none or several do, Secure
 abbrev pub side_by_regions : List (ℕ × Bounds) → RegionSide

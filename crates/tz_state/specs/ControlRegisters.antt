@@ -7,6 +7,7 @@ use Rattle.tz_table.specs.declared.units.Side.TheVariants.{Secure, NonSecure}
 use Rattle.tz_model.specs.declared.report.Slot.{Slot}
 use Rattle.tz_model.specs.Words.{is_nonsecure_side}
 use Rattle.tz_regs.specs.declared.parts.SideStatus.{SideStatus}
+use Rattle.tz_regs.specs.RegisterBits.{ccr_res1, ccr_bits}
 use Rattle.tz_state.specs.declared.slot.SlotState.{SlotState}
 use Rattle.tz_state.specs.ExceptionNumbers.{nmi, hard_fault, mem_manage, bus_fault, usage_fault, secure_fault, sv_call, pend_sv, sys_tick}
 use Rattle.tz_state.specs.ControlBits.{icsr_rettobase, icsr_vectpending, icsr_isrpending, icsr_pendstclr, icsr_pendstset, icsr_pendsvclr, icsr_pendsvset, icsr_pendnmiclr, icsr_pendnmiset, aircr_prigroup, aircr_bfhfnmins, aircr_pris, aircr_vectkey, vectkey, vectkeystat, shcsr_memfaultact, shcsr_busfaultact, shcsr_hardfaultact, shcsr_usgfaultact, shcsr_securefaultact, shcsr_nmiact, shcsr_svcallact, shcsr_pendsvact, shcsr_systickact, shcsr_usgfaultpended, shcsr_memfaultpended, shcsr_busfaultpended, shcsr_svcallpended, shcsr_memfaultena, shcsr_busfaultena, shcsr_usgfaultena, shcsr_securefaultena, shcsr_securefaultpended, shcsr_hardfaultpended}
@@ -121,12 +122,11 @@ aircr_written NonSecure e value = record e { prigroup_ns = if has_key value then
 abbrev pub vtor_written : SideStatus → ℕ → SideStatus
 vtor_written c value = record c { vtor = value / 2 ^ 7 * 2 ^ 7 }
 
--- bit 9 reads as 1
 abbrev pub ccr_value : SideStatus → ℕ
-ccr_value c = bit_or c.ccr 0x200
+ccr_value c = bit_or c.ccr (2 ^ ccr_res1)
 
 abbrev pub ccr_written : SideStatus → ℕ → SideStatus
-ccr_written c value = record c { ccr = bit_and value 0x18 }
+ccr_written c value = record c { ccr = bit_and value ccr_bits }
 
 -- ---- SHPR1 to SHPR3: a byte for each number, from 4, 8 and 12 on
 

@@ -1,9 +1,11 @@
 pub mod Memory
 pub mod Zeros
+pub mod UnitBits
 pub mod Regions
 pub mod Attribution
 pub mod Protection
 pub mod ExceptionNumbers
+pub mod SysTickBits
 pub mod Slots
 pub mod SlotChanges
 pub mod Timers

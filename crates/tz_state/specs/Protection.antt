@@ -1,5 +1,5 @@
 -- Memory protection (DDI0553, `MPUCheck`): what an MPU permits.
-use Rattle.std.specs.Prelude.{ℕ, ◌/◌, ◌%◌, ◌==◌, Bool, true, false, not, ◌&&◌, ◌||◌, nat_le, if◌then◌else◌, List, [], ◌∷◌, Option, Some, None}
+use Rattle.std.specs.Prelude.{ℕ, ◌/◌, ◌%◌, ◌^◌, ◌==◌, Bool, true, false, not, ◌&&◌, ◌||◌, nat_le, if◌then◌else◌, List, [], ◌∷◌, Option, Some, None}
 use Rattle.std.specs.Option.{is_some}
 use Rattle.tz_model.specs.declared.board.Profile.{Profile}
 use Rattle.tz_model.specs.declared.board.Profile.TheVariants.{V80, V81}
@@ -7,6 +7,7 @@ use Rattle.tz_model.specs.Board.{within}
 use Rattle.tz_state.specs.declared.units.Bounds.{Bounds}
 use Rattle.tz_state.specs.declared.request.Kind.{Kind}
 use Rattle.tz_state.specs.declared.request.Kind.TheVariants.{Read, Write, Fetch}
+use Rattle.tz_state.specs.UnitBits.{mpu_ctrl_hfnmiena, mpu_ctrl_privdefena, mpu_rbar_ap_0, mpu_rbar_ap_1, mpu_rlar_pxn}
 use Rattle.tz_state.specs.Regions.{holding, the_only}
 
 -- an MPU: CTRL, RNR, both MAIRs, which have no effect, and its regions
@@ -22,10 +23,10 @@ abbrev pub is_mpu_enabled : MpuState → Bool
 is_mpu_enabled m = m.ctrl % 2 == 1
 
 abbrev pub is_on_in_faults : MpuState → Bool
-is_on_in_faults m = m.ctrl / 2 % 2 == 1
+is_on_in_faults m = m.ctrl / 2 ^ mpu_ctrl_hfnmiena % 2 == 1
 
 abbrev pub has_privileged_default : MpuState → Bool
-has_privileged_default m = m.ctrl / 4 % 2 == 1
+has_privileged_default m = m.ctrl / 2 ^ mpu_ctrl_privdefena % 2 == 1
 
 -- at a negative execution priority an MPU is off unless HFNMIENA is set
 abbrev pub is_mpu_on : MpuState → Bool → Bool
@@ -43,15 +44,15 @@ default_permits Fetch a = is_executable a
 
 -- RBAR.AP: bit 0, unprivileged code too; bit 1, reads alone
 abbrev pub may_read : Bounds → Bool → Bool
-may_read r privileged = privileged || r.rbar / 2 % 2 == 1
+may_read r privileged = privileged || r.rbar / 2 ^ mpu_rbar_ap_0 % 2 == 1
 
 abbrev pub may_write : Bounds → Bool → Bool
-may_write r privileged = may_read r privileged && r.rbar / 4 % 2 == 0
+may_write r privileged = may_read r privileged && r.rbar / 2 ^ mpu_rbar_ap_1 % 2 == 0
 
 -- RLAR.PXN, which the profile `V80` doesn't have
 abbrev pub has_pxn : Profile → Bounds → Bool
 has_pxn V80 r = false
-has_pxn V81 r = r.rlar / 16 % 2 == 1
+has_pxn V81 r = r.rlar / 2 ^ mpu_rlar_pxn % 2 == 1
 
 -- RBAR.XN: no code runs here; PXN: no privileged code
 abbrev pub may_run : Profile → Bounds → Bool → Bool

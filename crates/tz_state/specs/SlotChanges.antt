@@ -5,6 +5,7 @@ use Rattle.tz_table.specs.declared.units.Side.TheVariants.{Secure, NonSecure}
 use Rattle.tz_model.specs.declared.report.Slot.{Slot}
 use Rattle.tz_state.specs.declared.slot.SlotState.{SlotState}
 use Rattle.tz_state.specs.declared.slot.Timer.{Timer}
+use Rattle.tz_state.specs.SysTickBits.{syst_csr_bits}
 use Rattle.tz_state.specs.Slots.{ExceptionsValue, at, with_slot, index_of, is_always_enabled, has_fixed_priority}
 
 abbrev pub pended : ExceptionsValue → Slot → ExceptionsValue
@@ -51,7 +52,7 @@ with_fault_side e on = record e { bfhfnmins = if is_fault_side_held e then e.bfh
 
 -- the bits that SYST_CSR, SYST_RVR and SYST_CVR have
 abbrev pub timer_bits : Timer → Timer
-timer_bits t = record { csr = bit_and t.csr 0x10007; rvr = bit_and t.rvr 0xFFFFFF; cvr = bit_and t.cvr 0xFFFFFF }
+timer_bits t = record { csr = bit_and t.csr syst_csr_bits; rvr = bit_and t.rvr 0xFFFFFF; cvr = bit_and t.cvr 0xFFFFFF }
 
 abbrev pub with_timer : ExceptionsValue → Side → Timer → ExceptionsValue
 with_timer e Secure t = record e { timer_s = t }

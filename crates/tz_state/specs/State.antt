@@ -1,6 +1,6 @@
 -- The state of the machine in its parts: the core, the exceptions, memory with the units that guard it, and the
 -- board.
-use Rattle.std.specs.Prelude.{ℕ, ℤ, pos, int_lt, Bool, ◌/◌, ◌%◌, ◌==◌, Option, true, false, ◌&&◌, Some, None}
+use Rattle.std.specs.Prelude.{ℕ, ℤ, pos, int_lt, Bool, ◌/◌, ◌%◌, ◌^◌, ◌==◌, Option, true, false, ◌&&◌, Some, None}
 use Rattle.tz_table.specs.declared.units.Side.{Side}
 use Rattle.tz_table.specs.declared.units.Side.TheVariants.{Secure, NonSecure}
 use Rattle.tz_table.specs.declared.units.Size.{Size}
@@ -11,6 +11,7 @@ use Rattle.tz_regs.specs.declared.parts.Registers.{Registers}
 use Rattle.tz_regs.specs.declared.parts.Running.{Running}
 use Rattle.tz_regs.specs.Banks.{of_side, stacks_of, status_of}
 use Rattle.tz_regs.specs.Registers.{side_in, is_privileged}
+use Rattle.tz_regs.specs.RegisterBits.{ccr_unalign_trp}
 use Rattle.tz_state.specs.declared.asker.Asker.{Asker}
 use Rattle.tz_state.specs.declared.request.Exclusive.{Exclusive}
 use Rattle.tz_state.specs.Memory.{Memory}
@@ -64,7 +65,7 @@ is_negative_at priority = int_lt priority (pos 0)
 
 -- CCR.UNALIGN_TRP
 abbrev pub traps_unaligned : ℕ → Bool
-traps_unaligned ccr = ccr / 8 % 2 == 1
+traps_unaligned ccr = ccr / 2 ^ ccr_unalign_trp % 2 == 1
 
 -- the running code as it asks for accesses
 abbrev pub asker_in : State → Asker

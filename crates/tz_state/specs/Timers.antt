@@ -1,6 +1,7 @@
 -- One count of both timers (DDI0553, SYST_CSR, SYST_RVR, SYST_CVR).
-use Rattle.std.specs.Prelude.{ℕ, ◌-◌, ◌/◌, ◌%◌, ◌==◌, Bool, ◌&&◌, ◌||◌, if◌then◌else◌, bit_or}
+use Rattle.std.specs.Prelude.{ℕ, ◌-◌, ◌/◌, ◌%◌, ◌^◌, ◌==◌, Bool, ◌&&◌, ◌||◌, if◌then◌else◌, bit_or}
 use Rattle.tz_state.specs.declared.slot.Timer.{Timer}
+use Rattle.tz_state.specs.SysTickBits.{syst_csr_tickint, syst_csr_countflag}
 use Rattle.tz_state.specs.Slots.{ExceptionsValue, at, with_slot}
 
 -- SYST_CSR.ENABLE
@@ -9,7 +10,7 @@ counts t = t.csr % 2 == 1
 
 -- SYST_CSR.TICKINT
 abbrev pub interrupts : Timer → Bool
-interrupts t = t.csr / 2 % 2 == 1
+interrupts t = t.csr / 2 ^ syst_csr_tickint % 2 == 1
 
 -- the next count takes it from 1 to 0
 abbrev pub runs_out : Timer → Bool
@@ -19,7 +20,7 @@ runs_out t = counts t && t.cvr == 1
 abbrev pub counted_down : Timer → Timer
 counted_down t =
     record t {
-      csr = if runs_out t then bit_or t.csr 0x10000 else t.csr;
+      csr = if runs_out t then bit_or t.csr (2 ^ syst_csr_countflag) else t.csr;
       cvr = if counts t then (if t.cvr == 0 then t.rvr else t.cvr - 1) else t.cvr;
     }
 

@@ -1,5 +1,5 @@
 -- The registers of the SAU and of the MPUs (DDI0553, chapter D1.2) by their addresses, and their values at boot.
-use Rattle.std.specs.Prelude.{ℕ, ◌+◌, ◌-◌, ◌*◌, ◌/◌, ◌%◌, ◌==◌, if◌then◌else◌, List, [], ◌∷◌, ◌++◌, length, map, replicate, slice_get, slice_set, Option, Some, None}
+use Rattle.std.specs.Prelude.{ℕ, ◌+◌, ◌-◌, ◌*◌, ◌/◌, ◌%◌, ◌^◌, ◌==◌, if◌then◌else◌, List, [], ◌∷◌, ◌++◌, length, map, replicate, slice_get, slice_set, Option, Some, None}
 use Rattle.tz_model.specs.declared.board.Profile.{Profile}
 use Rattle.tz_model.specs.declared.board.Profile.TheVariants.{V80, V81}
 use Rattle.tz_model.specs.declared.board.SauRegion.{SauRegion}
@@ -9,6 +9,7 @@ use Rattle.tz_state.specs.declared.units.SauRegister.{SauRegister}
 use Rattle.tz_state.specs.declared.units.SauRegister.TheVariants as sau
 use Rattle.tz_state.specs.declared.units.MpuRegister.{MpuRegister}
 use Rattle.tz_state.specs.declared.units.MpuRegister.TheVariants as mpu
+use Rattle.tz_state.specs.UnitBits.{sau_rlar_enable, sau_rlar_nsc}
 use Rattle.tz_state.specs.Regions.{no_bounds}
 use Rattle.tz_state.specs.Attribution.{SauState}
 use Rattle.tz_state.specs.Protection.{MpuState}
@@ -129,7 +130,7 @@ mpu_written profile m (Some register) value = with_mpu_value profile m register 
 
 -- a region of the SAU that the board starts with
 abbrev pub bounds_of : SauRegion → Bounds
-bounds_of r = record { rbar = r.base; rlar = r.limit / 32 * 32 + (if r.nsc then 2 else 0) + 1 }
+bounds_of r = record { rbar = r.base; rlar = r.limit / 32 * 32 + (if r.nsc then 2 ^ sau_rlar_nsc else 0) + 2 ^ sau_rlar_enable }
 
 -- an SAU with so many regions is on where the board starts it with one at least
 abbrev pub started : List SauRegion → ℕ

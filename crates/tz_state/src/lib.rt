@@ -23,7 +23,9 @@ mod probe;
 mod register;
 mod request;
 mod slot;
+pub mod systick_bits;
 mod taken;
+pub mod unit_bits;
 mod units;
 
 pub use asker::Asker;
