@@ -24,7 +24,9 @@ pub mod return_bits;
 
 pub use entering::{Choice, Entered, Entering};
 pub use fault::{FaultAddress, FaultEffect, FaultException};
-pub use frame::{Basic, Callee, StackFault};
+pub use frame::{
+    ADDITIONAL_FRAME_SIZE, BASIC_FRAME_SIZE, BOTH_FRAMES_SIZE, Basic, Callee, StackFault,
+};
 pub use frames::Frames;
 pub use leaving::{Left, Returning, Unstacked};
 
