@@ -4,6 +4,7 @@
 //! The definitions stand in `specs/`; the code here only holds values.
 #![tactic(auto)]
 
+pub mod address_map;
 mod board;
 mod fetch;
 mod image;
