@@ -16,7 +16,7 @@ pub use board::{Board, Profile, Region, RegionKind, RegionSide, SauRegion};
 pub use fetch::{FetchAnswer, Fetched};
 pub use image::{Image, Segment};
 pub use outside::{Shelf, ShelfError, Sink, SinkError};
-pub use port::{Port, cut_to};
+pub use port::{ALIGNED_BY_CCR, ALWAYS_ALIGNED, AS_RUNNING, Port, cut_to};
 pub use report::{
     Change, CrossKind, Fault, Outcome, Report, ScriptEvent, Sleep, Slot, StepKind, Store, View, Way,
 };
