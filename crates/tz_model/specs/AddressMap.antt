@@ -35,7 +35,14 @@ scs_first = 0xE000E000
 abbrev pub scs_last : ℕ
 scs_last = 0xE000EFFF
 
--- its alias, the Non-secure view
+-- the registers of the SAU in it, SAU_CTRL to SAU_RLAR
+abbrev pub sau_first : ℕ
+sau_first = 0xE000EDD0
+
+abbrev pub sau_last : ℕ
+sau_last = 0xE000EDE0
+
+-- the alias of the system control space, the Non-secure view
 abbrev pub scs_ns_first : ℕ
 scs_ns_first = 0xE002E000
 

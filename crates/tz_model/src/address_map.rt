@@ -21,7 +21,11 @@ pub const FPB_LAST: u32 = 0xE000_2FFF;
 pub const SCS_FIRST: u32 = 0xE000_E000;
 
 pub const SCS_LAST: u32 = 0xE000_EFFF;
-/// Its alias, the Non-secure view.
+/// The registers of the SAU in it, SAU_CTRL to SAU_RLAR.
+pub const SAU_FIRST: u32 = 0xE000_EDD0;
+
+pub const SAU_LAST: u32 = 0xE000_EDE0;
+/// The alias of the system control space, the Non-secure view.
 pub const SCS_NS_FIRST: u32 = 0xE002_E000;
 
 pub const SCS_NS_LAST: u32 = 0xE002_EFFF;
