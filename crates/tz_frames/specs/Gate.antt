@@ -43,9 +43,13 @@ fnc_return = 0xFEFFFFFF
 abbrev pub is_fnc_return : ℕ → Bool
 is_fnc_return target = target == even_of fnc_return || target == fnc_return
 
--- 8 bytes below the Secure stack pointer
+-- the bytes of what a call leaves on the Secure stack
+abbrev pub call_frame_size : ℕ
+call_frame_size = 8
+
+-- such a frame below the Secure stack pointer
 abbrev pub call_base : Core → ℕ
-call_base c = wrap (pointer_of c.registers.ipsr c.stacks_s + (2 ^ 32 - 8))
+call_base c = wrap (pointer_of c.registers.ipsr c.stacks_s + (2 ^ 32 - call_frame_size))
 
 -- where Secure code goes on, with bit 0 set, and the number of the exception that it handles
 abbrev pub call_stores : Core → ℕ → List Access
@@ -95,7 +99,7 @@ came_back c back number =
     record c {
       run = record c.run { side = Secure };
       registers = record c.registers { pc = even_of back; t = back % 2 == 1; ipsr = number; it = 0 };
-      stacks_s = with_pointer c.registers.ipsr c.stacks_s (wrap (return_base c + 8));
+      stacks_s = with_pointer c.registers.ipsr c.stacks_s (wrap (return_base c + call_frame_size));
     }
 
 -- the number is in bits 8:0 of the second word

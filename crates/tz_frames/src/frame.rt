@@ -8,6 +8,8 @@ pub const BASIC_FRAME_SIZE: u32 = 32;
 pub const ADDITIONAL_FRAME_SIZE: u32 = 40;
 /// Those of a basic frame with an additional one below it.
 pub const BOTH_FRAMES_SIZE: u32 = 72;
+/// The bytes of what a call leaves on the Secure stack.
+pub const CALL_FRAME_SIZE: u32 = 8;
 
 /// Why a frame isn't written or read.
 #[derive(Clone, Copy)]

@@ -25,7 +25,8 @@ pub mod return_bits;
 pub use entering::{Choice, Entered, Entering};
 pub use fault::{FaultAddress, FaultEffect, FaultException};
 pub use frame::{
-    ADDITIONAL_FRAME_SIZE, BASIC_FRAME_SIZE, BOTH_FRAMES_SIZE, Basic, Callee, StackFault,
+    ADDITIONAL_FRAME_SIZE, BASIC_FRAME_SIZE, BOTH_FRAMES_SIZE, Basic, CALL_FRAME_SIZE, Callee,
+    StackFault,
 };
 pub use frames::Frames;
 pub use leaving::{Left, Returning, Unstacked};
