@@ -11,6 +11,7 @@ use crate::bus::Bus;
 use crate::place::Place;
 use crate::span::{is_one_block, last_of};
 use crate::units::is_private;
+use tz_model::address_map::PRIVATE_FIRST;
 use tz_model::{Fault, Side, Size};
 use tz_state::{Asker, Kind, Request};
 
@@ -29,7 +30,7 @@ pub fn is_aligned(size: Size, addr: u32) -> bool
 fn is_crooked(size: Size, addr: u32, must_align: bool) -> bool
     ensures { result ≡ is_crooked size addr must_align }
 {
-    (must_align || addr >= 0xe000_0000) && !is_aligned(size, addr)
+    (must_align || addr >= PRIVATE_FIRST) && !is_aligned(size, addr)
 }
 
 /// An access of the code that asks.

@@ -1,7 +1,8 @@
 //! Frames over the bus: the words of entries and returns, which go through its checks.
 
-ghost use Rattle.std.specs.Prelude.{◌≡◌, ◌+◌, ◌*◌, true, false, MatchResult, Some, None};
+ghost use Rattle.std.specs.Prelude.{◌≡◌, ◌+◌, ◌*◌, true, MatchResult, Some, None};
 ghost use Rattle.tz_table.specs.declared.units.Size.TheVariants.{Word};
+ghost use Rattle.tz_model.specs.Ports.{always_aligned, as_running};
 ghost use Rattle.tz_model.specs.Words.{wrap};
 ghost use Rattle.tz_regs.specs.Banks.{of_side};
 ghost use Rattle.tz_state.specs.Memory.{every, word_at, with_word};
@@ -13,7 +14,7 @@ ghost use Rattle.tz_frames.specs.Machine.{vector_verdict, in_map_alone};
 use crate::bus::Bus;
 use crate::place::Place;
 use tz_frames::Frames;
-use tz_model::{Fault, Side, Size};
+use tz_model::{ALWAYS_ALIGNED, AS_RUNNING, Fault, Side, Size};
 use tz_state::Asker;
 
 /// Frames over the bus: made for one entry or return.
@@ -78,10 +79,10 @@ fn of_side(side: Side, s: u32, ns: u32) -> u32
 /// A word of a frame, which no private space has.
 fn load_word(bus: &Bus, asker: &Asker, addr: u32) -> Result<u32, Fault>
     ensures { MatchResult result
-        (λ word. (in_map_alone addr (verdict bus.now (request_by asker.now Read Word addr true false)) ≡ None) × (word ≡ word_at bus.now.memory addr))
-        (λ fault. in_map_alone addr (verdict bus.now (request_by asker.now Read Word addr true false)) ≡ Some fault) }
+        (λ word. (in_map_alone addr (verdict bus.now (request_by asker.now Read Word addr always_aligned as_running)) ≡ None) × (word ≡ word_at bus.now.memory addr))
+        (λ fault. in_map_alone addr (verdict bus.now (request_by asker.now Read Word addr always_aligned as_running)) ≡ Some fault) }
 {
-    match bus.load(asker, Size::Word, addr, true, false) {
+    match bus.load(asker, Size::Word, addr, ALWAYS_ALIGNED, AS_RUNNING) {
         Ok(Some(word)) => Ok(word),
         Ok(None) => Err(Fault::Precise(addr)),
         Err(fault) => Err(fault),
@@ -91,10 +92,10 @@ fn load_word(bus: &Bus, asker: &Asker, addr: u32) -> Result<u32, Fault>
 /// Writes a word of a frame, which no private space has.
 fn store_word(bus: &mut Bus, asker: &Asker, addr: u32, value: u32) -> Result<(), Fault>
     ensures { MatchResult result
-        (λ _. (in_map_alone addr (verdict bus.old (request_by asker.now Write Word addr true false)) ≡ None) × (bus.new ≡ with_memory bus.old (with_word bus.old.memory addr value)))
-        (λ fault. (in_map_alone addr (verdict bus.old (request_by asker.now Write Word addr true false)) ≡ Some fault) × (bus.new ≡ bus.old)) }
+        (λ _. (in_map_alone addr (verdict bus.old (request_by asker.now Write Word addr always_aligned as_running)) ≡ None) × (bus.new ≡ with_memory bus.old (with_word bus.old.memory addr value)))
+        (λ fault. (in_map_alone addr (verdict bus.old (request_by asker.now Write Word addr always_aligned as_running)) ≡ Some fault) × (bus.new ≡ bus.old)) }
 {
-    match bus.store(asker, Size::Word, addr, value, true, false) {
+    match bus.store(asker, Size::Word, addr, value, ALWAYS_ALIGNED, AS_RUNNING) {
         Ok(Place::Memory) => Ok(()),
         Ok(Place::System) => Err(Fault::Precise(addr)),
         Err(fault) => Err(fault),

@@ -7,13 +7,14 @@ ghost use Rattle.tz_access.specs.Registers.{is_of_sau, unit_read, unit_written};
 
 use crate::bus::Bus;
 use tz_model::Side;
+use tz_model::address_map::{SAU_FIRST, SAU_LAST};
 use tz_state::{MpuRegister, SauRegister};
 
 /// Whether an address is one of the SAU's registers.
 fn is_of_sau(addr: u32) -> bool
     ensures { result ≡ is_of_sau addr }
 {
-    addr >= 0xe000_edd0 && addr <= 0xe000_ede0
+    addr >= SAU_FIRST && addr <= SAU_LAST
 }
 
 impl Bus {

@@ -10,6 +10,7 @@ ghost use Rattle.tz_state.specs.State.{map_in, mpu_of};
 ghost use Rattle.tz_model.specs.Board.{in_region, are_regions};
 
 use crate::bus::Bus;
+use tz_model::address_map::{PRIVATE_FIRST, PRIVATE_LAST};
 use tz_model::{Region, RegionKind, RegionSide, Side};
 use tz_state::{Kind, Request};
 
@@ -17,7 +18,7 @@ use tz_state::{Kind, Request};
 pub fn is_private(addr: u32) -> bool
     ensures { result ≡ is_private addr }
 {
-    addr >= 0xe000_0000 && addr <= 0xe00f_ffff
+    addr >= PRIVATE_FIRST && addr <= PRIVATE_LAST
 }
 
 /// Whether a region holds an address.
@@ -110,7 +111,7 @@ impl Bus {
         ensures value { result ≡ lets_run self.now side privileged negative addr }
         ensures blocks { IsByBlocks (lets_run self.now side privileged negative) }
     {
-        addr < 0xe000_0000 && self.permits(side, addr, Kind::Fetch, privileged, negative)
+        addr < PRIVATE_FIRST && self.permits(side, addr, Kind::Fetch, privileged, negative)
     }
 
     /// Whether the map takes an access of a kind at a byte.

@@ -6,7 +6,7 @@ ghost use Rattle.tz_sem.specs.Local.{reg, local_of, finished_in};
 ghost use Rattle.tz_sem.specs.Branch.{target_at, taken_if, finish_zero, finish_exchange, entry_of, finish_table};
 ghost use Rattle.tz_sem.specs.Exec.{over};
 
-use tz_model::{Fault, Outcome, Port, Side, Size};
+use tz_model::{ALIGNED_BY_CCR, AS_RUNNING, Fault, Outcome, Port, Side, Size};
 use tz_regs::Core;
 
 /// A register of the running code.
@@ -71,11 +71,16 @@ fn load_entry<P: Port>(core: &Core, port: &mut P, half: bool, rn: u8, rm: u8) ->
         port.load(
             table.wrapping_add(index.wrapping_mul(2)),
             Size::Half,
-            false,
-            false,
+            ALIGNED_BY_CCR,
+            AS_RUNNING,
         )
     } else {
-        port.load(table.wrapping_add(index), Size::Byte, false, false)
+        port.load(
+            table.wrapping_add(index),
+            Size::Byte,
+            ALIGNED_BY_CCR,
+            AS_RUNNING,
+        )
     }
 }
 

@@ -7,7 +7,10 @@ ghost use Rattle.tz_frames.specs.Leave.{has_callee, returns_to_process, returns_
 
 use crate::sides::side_of_bit;
 use tz_frames::return_bits::{RETPSR_IT_HIGH, RETPSR_IT_LOW, RETPSR_SPREALIGN, RETPSR_T};
-use tz_frames::{Basic, Callee, Frames, Returning, Unstacked};
+use tz_frames::{
+    ADDITIONAL_FRAME_SIZE, BASIC_FRAME_SIZE, BOTH_FRAMES_SIZE, Basic, Callee, Frames, Returning,
+    Unstacked,
+};
 use tz_regs::register_bits::{APSR_C, APSR_N, APSR_Q, APSR_V, APSR_Z};
 use tz_regs::{Apsr, Core, Registers};
 use tz_stack::{StackFault, pop_additional, pop_basic, set_side_sp};
@@ -64,7 +67,7 @@ pub(crate) fn unstack<P: Frames>(
     let mut callee = None;
     if has_callee(returning) {
         callee = Some(pop_additional(port, sp, privileged)?);
-        sp = sp.wrapping_add(40);
+        sp = sp.wrapping_add(ADDITIONAL_FRAME_SIZE);
     }
     let basic = pop_basic(port, sp, side, privileged)?;
     Ok(Unstacked { callee, basic })
@@ -119,8 +122,8 @@ fn frames_size(callee: &Option<Callee>) -> u32
     ensures few { result ≤ 72 }
 {
     match callee {
-        None => 32,
-        Some(_) => 72,
+        None => BASIC_FRAME_SIZE,
+        Some(_) => BOTH_FRAMES_SIZE,
     }
 }
 

@@ -1,11 +1,11 @@
 -- Calls and returns between the sides (DDI0553, `SG`, `BXNS`, `BLXNS`, `FunctionReturn`).
-use Rattle.std.specs.Prelude.{ℕ, ◌+◌, ◌-◌, ◌%◌, ◌^◌, ◌==◌, nat_lt, Bool, true, false, ◌&&◌, ◌||◌, not, if◌then◌else◌, List, [], ◌∷◌, Result, Ok, Err}
+use Rattle.std.specs.Prelude.{ℕ, ◌+◌, ◌-◌, ◌%◌, ◌^◌, ◌==◌, nat_lt, Bool, true, ◌&&◌, ◌||◌, not, if◌then◌else◌, List, [], ◌∷◌, Result, Ok, Err}
 use Rattle.tz_table.specs.declared.units.Side.{Side}
 use Rattle.tz_table.specs.declared.units.Side.TheVariants.{Secure, NonSecure}
 use Rattle.tz_table.specs.declared.units.Size.TheVariants.{Word}
 use Rattle.tz_model.specs.declared.report.Fault.{Fault}
 use Rattle.tz_model.specs.declared.report.Fault.TheVariants.{StackLimit, InvPc}
-use Rattle.tz_model.specs.Ports.{Access, Store, Answering, answers}
+use Rattle.tz_model.specs.Ports.{Access, Store, Answering, answers, always_aligned, as_running}
 use Rattle.tz_model.specs.Words.{wrap, even_of}
 use Rattle.tz_regs.specs.declared.parts.Core.{Core}
 use Rattle.tz_regs.specs.Registers.{is_handler, pointer_of, pointer_limit_of, with_pointer}
@@ -43,14 +43,18 @@ fnc_return = 0xFEFFFFFF
 abbrev pub is_fnc_return : ℕ → Bool
 is_fnc_return target = target == even_of fnc_return || target == fnc_return
 
--- 8 bytes below the Secure stack pointer
+-- the bytes of what a call leaves on the Secure stack
+abbrev pub call_frame_size : ℕ
+call_frame_size = 8
+
+-- such a frame below the Secure stack pointer
 abbrev pub call_base : Core → ℕ
-call_base c = wrap (pointer_of c.registers.ipsr c.stacks_s + (2 ^ 32 - 8))
+call_base c = wrap (pointer_of c.registers.ipsr c.stacks_s + (2 ^ 32 - call_frame_size))
 
 -- where Secure code goes on, with bit 0 set, and the number of the exception that it handles
 abbrev pub call_stores : Core → ℕ → List Access
 call_stores c next =
-    Store Word (call_base c) (even_of next + 1) true false ∷ Store Word (wrap (call_base c + 4)) c.registers.ipsr true false ∷ []
+    Store Word (call_base c) (even_of next + 1) always_aligned as_running ∷ Store Word (wrap (call_base c + 4)) c.registers.ipsr always_aligned as_running ∷ []
 
 -- the number is hidden from the code that is called: 1 in Handler mode
 abbrev pub number_shown : ℕ → ℕ
@@ -95,7 +99,7 @@ came_back c back number =
     record c {
       run = record c.run { side = Secure };
       registers = record c.registers { pc = even_of back; t = back % 2 == 1; ipsr = number; it = 0 };
-      stacks_s = with_pointer c.registers.ipsr c.stacks_s (wrap (return_base c + 8));
+      stacks_s = with_pointer c.registers.ipsr c.stacks_s (wrap (return_base c + call_frame_size));
     }
 
 -- the number is in bits 8:0 of the second word

@@ -32,7 +32,7 @@ use Rattle.tz_frames.specs.declared.leaving.Left.{Left}
 use Rattle.tz_frames.specs.declared.leaving.Left.TheVariants as lefts
 use Rattle.tz_frames.specs.Status.{Raised, slot, faulted, frame_faulted}
 use Rattle.tz_frames.specs.Registers.{number_in, resumed_registers}
-use Rattle.tz_frames.specs.Stack.{with_side_sp, popped_additional, popped_basic}
+use Rattle.tz_frames.specs.Stack.{basic_frame_size, additional_frame_size, both_frames_size, with_side_sp, popped_additional, popped_basic}
 use Rattle.tz_frames.specs.Enter.{Work, Done, is_secure, with_lock, chooses}
 
 -- ---- the value
@@ -193,12 +193,12 @@ unfoldable pub unstacked : {H : Type 0} → FrameAnswering H → Core → Return
 unstacked answering c r h =
     if has_callee r
     then with_callee (popped_additional answering h (return_sp c r) (returns_privileged c r))
-    (popped_basic answering h (wrap (return_sp c r + 40)) (side_of_bit r.secure) (returns_privileged c r))
+    (popped_basic answering h (wrap (return_sp c r + additional_frame_size)) (side_of_bit r.secure) (returns_privileged c r))
     else with_basic None (popped_basic answering h (return_sp c r) (side_of_bit r.secure) (returns_privileged c r))
 
 abbrev pub frames_size : Option Callee → ℕ
-frames_size None = 32
-frames_size (Some callee) = 72
+frames_size None = basic_frame_size
+frames_size (Some callee) = both_frames_size
 
 -- above the frames, and 4 more where SPREALIGN says so
 abbrev pub sp_above : ℕ → Unstacked → ℕ

@@ -1,11 +1,12 @@
 -- How the machine answers accesses of frames and vectors (DDI0553, `PushStack`, `PopStack`, `Vector`).
-use Rattle.std.specs.Prelude.{ℕ, ◌+◌, ◌*◌, Bool, true, false, not, if◌then◌else◌, Option, Some, None, Result, Ok, Err}
+use Rattle.std.specs.Prelude.{ℕ, ◌+◌, ◌*◌, Bool, true, not, if◌then◌else◌, Option, Some, None, Result, Ok, Err}
 use Rattle.tz_table.specs.declared.units.Side.{Side}
 use Rattle.tz_table.specs.declared.units.Side.TheVariants.{Secure}
 use Rattle.tz_table.specs.declared.units.Size.TheVariants.{Word}
 use Rattle.tz_model.specs.declared.report.Fault.{Fault}
 use Rattle.tz_model.specs.declared.report.Fault.TheVariants.{Violation, Precise}
 use Rattle.tz_model.specs.Words.{wrap}
+use Rattle.tz_model.specs.Ports.{always_aligned, as_running}
 use Rattle.tz_regs.specs.Banks.{of_side}
 use Rattle.tz_state.specs.declared.asker.Asker.{Asker}
 use Rattle.tz_state.specs.declared.request.Kind.{Kind}
@@ -37,7 +38,7 @@ in_map_alone addr (Some fault) = Some fault
 
 -- all checks of a data access
 abbrev pub frame_verdict : Framed → Kind → ℕ → Side → Bool → Option Fault
-frame_verdict f kind addr side privileged = in_map_alone addr (verdict f.bus (request_by (framer f side privileged) kind Word addr true false))
+frame_verdict f kind addr side privileged = in_map_alone addr (verdict f.bus (request_by (framer f side privileged) kind Word addr always_aligned as_running))
 
 abbrev pub vector_at : Framed → ℕ → Side → ℕ
 vector_at f number side = wrap (of_side side f.vtor_s f.vtor_ns + 4 * number)

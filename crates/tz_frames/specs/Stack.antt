@@ -16,6 +16,18 @@ use Rattle.tz_frames.specs.declared.frame.Basic.{Basic}
 use Rattle.tz_frames.specs.declared.frame.Callee.{Callee}
 use Rattle.tz_frames.specs.Registers.{retpsr_of}
 
+-- ---- sizes in bytes
+
+abbrev pub basic_frame_size : ℕ
+basic_frame_size = 32
+
+abbrev pub additional_frame_size : ℕ
+additional_frame_size = 40
+
+-- a basic frame with an additional one below it
+abbrev pub both_frames_size : ℕ
+both_frames_size = 72
+
 -- ---- stack pointers
 
 -- PSPLIM or MSPLIM
@@ -84,9 +96,9 @@ pushed answering c h side process privileged base words =
     then record { core = with_side_sp side process (splim_of process (stacks_of side c)) c; held = h; fault = Some (Limit side) }
     else pushed_with (with_side_sp side process base c) (written answering side privileged h base words)
 
--- 32 bytes below, with bit 2 clear
+-- a basic frame below, with bit 2 clear
 abbrev pub basic_base : ℕ → ℕ
-basic_base sp = wrap (sp + (2 ^ 32 - 32)) / 8 * 8 + wrap (sp + (2 ^ 32 - 32)) % 4
+basic_base sp = wrap (sp + (2 ^ 32 - basic_frame_size)) / 8 * 8 + wrap (sp + (2 ^ 32 - basic_frame_size)) % 4
 
 abbrev pub basic_words : Registers → ℕ → ℕ → List ℕ
 basic_words r back sp =
@@ -113,10 +125,10 @@ callee_words general =
     signature ∷ 0 ∷ slice_index general 4 ∷ slice_index general 5 ∷ slice_index general 6 ∷ slice_index general 7 ∷ slice_index general 8
     ∷ slice_index general 9 ∷ slice_index general 10 ∷ slice_index general 11 ∷ []
 
--- the additional frame, 40 bytes below a Secure stack pointer
+-- the additional frame, below a Secure stack pointer
 unfoldable pub pushed_additional : {H : Type 0} → FrameAnswering H → Core → H → Bool → Bool → Pushed H
 pushed_additional answering c h process privileged =
-    pushed answering c h Secure process privileged (wrap (sp_of process c.stacks_s + (2 ^ 32 - 40))) (callee_words c.registers.general)
+    pushed answering c h Secure process privileged (wrap (sp_of process c.stacks_s + (2 ^ 32 - additional_frame_size))) (callee_words c.registers.general)
 
 -- ---- frames that are read
 

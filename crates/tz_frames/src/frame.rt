@@ -2,6 +2,15 @@
 
 use tz_model::{Fault, Side};
 
+/// The bytes of a basic frame.
+pub const BASIC_FRAME_SIZE: u32 = 32;
+/// The bytes of an additional frame.
+pub const ADDITIONAL_FRAME_SIZE: u32 = 40;
+/// Those of a basic frame with an additional one below it.
+pub const BOTH_FRAMES_SIZE: u32 = 72;
+/// The bytes of what a call leaves on the Secure stack.
+pub const CALL_FRAME_SIZE: u32 = 8;
+
 /// Why a frame isn't written or read.
 #[derive(Clone, Copy)]
 pub enum StackFault {

@@ -24,7 +24,10 @@ pub mod return_bits;
 
 pub use entering::{Choice, Entered, Entering};
 pub use fault::{FaultAddress, FaultEffect, FaultException};
-pub use frame::{Basic, Callee, StackFault};
+pub use frame::{
+    ADDITIONAL_FRAME_SIZE, BASIC_FRAME_SIZE, BOTH_FRAMES_SIZE, Basic, CALL_FRAME_SIZE, Callee,
+    StackFault,
+};
 pub use frames::Frames;
 pub use leaving::{Left, Returning, Unstacked};
 

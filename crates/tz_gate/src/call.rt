@@ -3,17 +3,20 @@
 ghost use Rattle.std.specs.Prelude.{◌≡◌, ◌≤◌, ◌+◌};
 ghost use Rattle.tz_frames.specs.Gate.{call_base, called_ns, calls_ns};
 
-use tz_model::{Fault, Port, Side, Size};
+use tz_frames::CALL_FRAME_SIZE;
+use tz_model::{ALWAYS_ALIGNED, AS_RUNNING, Fault, Port, Side, Size};
 use tz_regs::Core;
 
 /// The value by which Non-secure code returns.
 pub(crate) const FNC_RETURN: u32 = 0xFEFF_FFFF;
 
-/// 8 bytes below the Secure stack pointer.
+/// A frame of a call below the Secure stack pointer.
 fn call_base(core: &Core) -> u32
     ensures { result ≡ call_base core.now }
 {
-    core.stacks_s.pointer(core.registers.ipsr).wrapping_sub(8)
+    core.stacks_s
+        .pointer(core.registers.ipsr)
+        .wrapping_sub(CALL_FRAME_SIZE)
 }
 
 /// Goes on as Non-secure code at a target, with the stack pointer below both words. In Handler mode IPSR shows 1.
@@ -49,8 +52,20 @@ pub fn call_ns<P: Port>(core: &mut Core, port: &mut P, target: u32, next: u32) -
         return Err(Fault::StackLimit(Side::Secure));
     }
     let number = u32::from(core.registers.ipsr);
-    match port.store(base, Size::Word, next / 2 * 2 + 1, true, false) {
-        Ok(()) => match port.store(base.wrapping_add(4), Size::Word, number, true, false) {
+    match port.store(
+        base,
+        Size::Word,
+        next / 2 * 2 + 1,
+        ALWAYS_ALIGNED,
+        AS_RUNNING,
+    ) {
+        Ok(()) => match port.store(
+            base.wrapping_add(4),
+            Size::Word,
+            number,
+            ALWAYS_ALIGNED,
+            AS_RUNNING,
+        ) {
             Ok(()) => {
                 enter_ns(core, target);
                 Ok(())

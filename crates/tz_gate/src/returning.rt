@@ -4,7 +4,7 @@ ghost use Rattle.std.specs.Prelude.{◌≡◌, ◌<◌, ◌^◌, MatchResult, On
 ghost use Rattle.tz_frames.specs.Gate.{is_fnc_return, return_base, numbers_agree, came_back, function_returned};
 
 use crate::call::FNC_RETURN;
-use tz_frames::Frames;
+use tz_frames::{CALL_FRAME_SIZE, Frames};
 use tz_model::{Fault, Side};
 use tz_regs::Core;
 
@@ -40,7 +40,7 @@ fn numbers_agree(ipsr: u16, number: u16) -> bool
 fn come_back(core: &mut Core, back: u32, number: u16)
     ensures { core.new ≡ came_back core.old back number }
 {
-    let base = return_base(core).wrapping_add(8);
+    let base = return_base(core).wrapping_add(CALL_FRAME_SIZE);
     core.stacks_s.set_pointer(core.registers.ipsr, base);
     core.run.side = Side::Secure;
     core.registers.pc = back / 2 * 2;

@@ -12,7 +12,7 @@ use crate::addresses::{below_limit, reg};
 use crate::lists::{is_listed, listed};
 use crate::results::put;
 use arrayvec::ArrayVec;
-use tz_model::{Fault, Outcome, Port, Size};
+use tz_model::{ALWAYS_ALIGNED, AS_RUNNING, Fault, Outcome, Port, Size};
 use tz_regs::Core;
 
 /// A base past so many words, above it or below.
@@ -73,7 +73,7 @@ fn load_words<P: Port>(port: &mut P, addr: u32, count: u32) -> Result<ArrayVec<u
     let mut words = ArrayVec::new();
     let mut next = addr;
     for _ in 0..count {
-        match port.load(next, Size::Word, true, false) {
+        match port.load(next, Size::Word, ALWAYS_ALIGNED, AS_RUNNING) {
             Ok(word) => words.push(word),
             Err(fault) => return Err(fault),
         }
@@ -93,7 +93,13 @@ fn store_words<P: Port>(core: &Core, port: &mut P, addr: u32, registers: &[u8]) 
 {
     let mut next = addr;
     for index in registers {
-        match port.store(next, Size::Word, reg(core, *index), true, false) {
+        match port.store(
+            next,
+            Size::Word,
+            reg(core, *index),
+            ALWAYS_ALIGNED,
+            AS_RUNNING,
+        ) {
             Ok(()) => next = next.wrapping_add(4),
             Err(fault) => return Err(fault),
         }

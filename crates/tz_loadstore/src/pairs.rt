@@ -6,7 +6,7 @@ ghost use Rattle.tz_sem.specs.Exec.{load_store_over};
 
 use crate::addresses::{place, refusal, reg};
 use crate::results::{finish_pair, write_back};
-use tz_model::{Address, Fault, Outcome, Port, Size};
+use tz_model::{ALWAYS_ALIGNED, AS_RUNNING, Address, Fault, Outcome, Port, Size};
 use tz_regs::Core;
 
 /// A load of two registers.
@@ -26,8 +26,8 @@ pub(crate) fn load_pair<P: Port>(
         return Err(fault);
     }
     let addr = place(core, address);
-    match port.load(addr, Size::Word, true, false) {
-        Ok(first) => match port.load(addr.wrapping_add(4), Size::Word, true, false) {
+    match port.load(addr, Size::Word, ALWAYS_ALIGNED, AS_RUNNING) {
+        Ok(first) => match port.load(addr.wrapping_add(4), Size::Word, ALWAYS_ALIGNED, AS_RUNNING) {
             Ok(second) => {
                 finish_pair(core, address, rt, first, rt2, second);
                 Ok(Outcome::Next)
@@ -56,13 +56,13 @@ pub(crate) fn store_pair<P: Port>(
         return Err(fault);
     }
     let addr = place(core, address);
-    match port.store(addr, Size::Word, reg(core, rt), true, false) {
+    match port.store(addr, Size::Word, reg(core, rt), ALWAYS_ALIGNED, AS_RUNNING) {
         Ok(()) => match port.store(
             addr.wrapping_add(4),
             Size::Word,
             reg(core, rt2),
-            true,
-            false,
+            ALWAYS_ALIGNED,
+            AS_RUNNING,
         ) {
             Ok(()) => {
                 write_back(core, address);

@@ -1,14 +1,14 @@
 //! Loads and stores of one register.
 
-ghost use Rattle.std.specs.Prelude.{◌≡◌, ◌≢◌, ◌≤◌, ◌+◌, [], ◌∷◌, slice_index, true, false};
+ghost use Rattle.std.specs.Prelude.{◌≡◌, ◌≢◌, ◌≤◌, ◌+◌, [], ◌∷◌, slice_index};
 ghost use Rattle.tz_table.specs.declared.instruction.Insn.TheVariants.{Load, Store, StoreRelease};
-ghost use Rattle.tz_model.specs.Ports.{Load as Read, Store as Write};
+ghost use Rattle.tz_model.specs.Ports.{Load as Read, Store as Write, always_aligned, as_running};
 ghost use Rattle.tz_sem.specs.Exec.{load_store_over, over};
 ghost use Rattle.tz_sem.specs.Local.{reg, gives, local_of};
 
 use crate::addresses::{place, refusal, reg};
 use crate::results::{extend, finish_load, put, write_back};
-use tz_model::{Address, Fault, Outcome, Port, Size};
+use tz_model::{ALIGNED_BY_CCR, ALWAYS_ALIGNED, AS_RUNNING, Address, Fault, Outcome, Port, Size};
 use tz_regs::Core;
 
 /// A load, which has to be aligned where it goes to PC.
@@ -52,7 +52,13 @@ pub(crate) fn store<P: Port>(
     if let Some(fault) = refusal(core, address) {
         return Err(fault);
     }
-    match port.store(place(core, address), size, reg(core, rt), false, user) {
+    match port.store(
+        place(core, address),
+        size,
+        reg(core, rt),
+        ALIGNED_BY_CCR,
+        user,
+    ) {
         Ok(()) => {
             write_back(core, address);
             Ok(Outcome::Next)
@@ -70,11 +76,11 @@ pub(crate) fn load_aligned<P: Port>(
     rt: u8,
     addr: u32,
 ) -> Result<Outcome, Fault>
-    ensures executes { over P.answer core.old (P.held port.old) (Read size addr true false ∷ []) (λ words. gives (local_of core.old) rt (slice_index words 0)) ≡ record { core = core.new; held = P.held port.new; outcome = result } }
+    ensures executes { over P.answer core.old (P.held port.old) (Read size addr always_aligned as_running ∷ []) (λ words. gives (local_of core.old) rt (slice_index words 0)) ≡ record { core = core.new; held = P.held port.new; outcome = result } }
     ensures room { P.room port.new ≡ P.room port.old }
     ensures lent { P.lent port.new ≡ P.lent port.old }
 {
-    match port.load(addr, size, true, false) {
+    match port.load(addr, size, ALWAYS_ALIGNED, AS_RUNNING) {
         Ok(value) => {
             put(core, rt, value);
             Ok(Outcome::Next)
@@ -97,7 +103,13 @@ pub(crate) fn store_release<P: Port>(
     ensures room { P.room port.old ≤ P.room port.new + 1 }
     ensures lent { P.lent port.new ≡ P.lent port.old }
 {
-    match port.store(reg(core, rn), size, reg(core, rt), true, false) {
+    match port.store(
+        reg(core, rn),
+        size,
+        reg(core, rt),
+        ALWAYS_ALIGNED,
+        AS_RUNNING,
+    ) {
         Ok(()) => Ok(Outcome::Next),
         Err(fault) => Err(fault),
     }
@@ -114,11 +126,11 @@ pub(crate) fn store_exclusive<P: Port>(
     addr: u32,
 ) -> Result<Outcome, Fault>
     requires { P.room port.old ≢ 0 }
-    ensures executes { over P.answer core.old (P.held port.old) (Write size addr (reg (local_of core.old) rt) true false ∷ []) (λ words. gives (local_of core.old) rd 0) ≡ record { core = core.new; held = P.held port.new; outcome = result } }
+    ensures executes { over P.answer core.old (P.held port.old) (Write size addr (reg (local_of core.old) rt) always_aligned as_running ∷ []) (λ words. gives (local_of core.old) rd 0) ≡ record { core = core.new; held = P.held port.new; outcome = result } }
     ensures room { P.room port.old ≤ P.room port.new + 1 }
     ensures lent { P.lent port.new ≡ P.lent port.old }
 {
-    match port.store(addr, size, reg(core, rt), true, false) {
+    match port.store(addr, size, reg(core, rt), ALWAYS_ALIGNED, AS_RUNNING) {
         Ok(()) => {
             put(core, rd, 0);
             Ok(Outcome::Next)

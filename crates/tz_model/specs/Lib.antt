@@ -1,4 +1,5 @@
 pub mod Words
+pub mod AddressMap
 pub mod Board
 pub mod Image
 pub mod Outside

@@ -1,5 +1,5 @@
 -- Accesses of instructions, and what a port answers to them in turn.
-use Rattle.std.specs.Prelude.{ℕ, ◌%◌, ◌^◌, Bool, List, [], ◌∷◌, Result, Ok, Err}
+use Rattle.std.specs.Prelude.{ℕ, ◌%◌, ◌^◌, Bool, true, false, List, [], ◌∷◌, Result, Ok, Err}
 use Rattle.tz_table.specs.declared.units.Size.{Size}
 use Rattle.tz_table.specs.declared.units.Size.TheVariants.{Byte, Half, Word}
 use Rattle.tz_model.specs.declared.report.Fault.{Fault}
@@ -9,6 +9,18 @@ use Rattle.tz_model.specs.declared.report.Fault.{Fault}
 pub data Access : Type 0 where
   Load : (size : Size) (addr : ℕ) (must_align user : Bool) → Access
   Store : (size : Size) (addr value : ℕ) (must_align user : Bool) → Access
+
+-- it has to be aligned whatever CCR says
+abbrev pub always_aligned : Bool
+always_aligned = true
+
+-- it has to be aligned where CCR says so
+abbrev pub aligned_by_ccr : Bool
+aligned_by_ccr = false
+
+-- it counts as privileged where the running code is
+abbrev pub as_running : Bool
+as_running = false
 
 -- the low bits of a number, so many as a size has
 abbrev pub cut_to : Size → ℕ → ℕ

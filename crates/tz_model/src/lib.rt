@@ -4,6 +4,7 @@
 //! The definitions stand in `specs/`; the code here only holds values.
 #![tactic(auto)]
 
+pub mod address_map;
 mod board;
 mod fetch;
 mod image;
@@ -15,7 +16,7 @@ pub use board::{Board, Profile, Region, RegionKind, RegionSide, SauRegion};
 pub use fetch::{FetchAnswer, Fetched};
 pub use image::{Image, Segment};
 pub use outside::{Shelf, ShelfError, Sink, SinkError};
-pub use port::{Port, cut_to};
+pub use port::{ALIGNED_BY_CCR, ALWAYS_ALIGNED, AS_RUNNING, Port, cut_to};
 pub use report::{
     Change, CrossKind, Fault, Outcome, Report, ScriptEvent, Sleep, Slot, StepKind, Store, View, Way,
 };

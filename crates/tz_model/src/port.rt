@@ -6,6 +6,13 @@ ghost use Rattle.tz_model.specs.Ports.{Answering, Load, Store, cut_to, stored_an
 use crate::report::Fault;
 use tz_table::Size;
 
+/// An access has to be aligned whatever CCR says.
+pub const ALWAYS_ALIGNED: bool = true;
+/// It has to be aligned where CCR says so.
+pub const ALIGNED_BY_CCR: bool = false;
+/// It counts as privileged where the running code is.
+pub const AS_RUNNING: bool = false;
+
 /// The low bits of a number, so many as a size has.
 pub fn cut_to(size: Size, value: u32) -> u32
     ensures { result ≡ cut_to size value }

@@ -4,6 +4,7 @@ ghost use Rattle.std.specs.Prelude.{◌≡◌};
 ghost use Rattle.tz_state.specs.Protection.{is_executable, default_permits, may_read, may_write, has_pxn, may_run, region_permits};
 
 use tz_model::Profile;
+use tz_model::address_map::{DEVICE_FIRST, PERIPHERAL_FIRST, PERIPHERAL_LAST};
 use tz_state::unit_bits::{MPU_RBAR_AP_0, MPU_RBAR_AP_1, MPU_RLAR_PXN};
 use tz_state::{Bounds, Kind};
 
@@ -11,7 +12,7 @@ use tz_state::{Bounds, Kind};
 fn is_executable(addr: u32) -> bool
     ensures { result ≡ is_executable addr }
 {
-    !((addr >= 0x4000_0000 && addr <= 0x5fff_ffff) || addr >= 0xa000_0000)
+    !((addr >= PERIPHERAL_FIRST && addr <= PERIPHERAL_LAST) || addr >= DEVICE_FIRST)
 }
 
 /// Whether the default map permits an access: all but fetches from where devices are.

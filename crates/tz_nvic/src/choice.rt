@@ -7,6 +7,7 @@ ghost use Rattle.tz_state.specs.ControlRegisters.{is_interrupt_pending};
 ghost use Rattle.tz_state.specs.Priority.{is_ready, rank_of, chosen_place};
 
 use crate::exceptions::Exceptions;
+use crate::place::FIRST_INTERRUPT_PLACE;
 use std::sync::ledger::Ledger;
 use tz_ready::Steps;
 
@@ -68,7 +69,7 @@ impl Exceptions {
     {
         let mut found = false;
         for n in 0..self.interrupts as usize {
-            found = found || self.slots[32 + n].pending;
+            found = found || self.slots[FIRST_INTERRUPT_PLACE + n].pending;
         }
         found
     }

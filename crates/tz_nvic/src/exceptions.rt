@@ -2,11 +2,15 @@
 //! the users of `unpend`, `set_priority`, `set_enabled`, `set_target`, `pending` and `priority`, which go by slots.
 
 ghost use Rattle.std.specs.Prelude.{◌≡◌, ◌≤◌, ◌<◌, ◌+◌, true, IfOk, IsTrue};
-ghost use Rattle.tz_state.specs.Slots.{at, exists, is_external, is_place, side_at, slot_at, index_of, is_enabled, with_slot, reset_exceptions};
+ghost use Rattle.tz_state.specs.ExceptionNumbers.{first_interrupt};
+ghost use Rattle.tz_state.specs.Slots.{at, first_interrupt_place, exists, is_external, is_place, side_at, slot_at, index_of, is_enabled, with_slot, reset_exceptions};
 ghost use Rattle.tz_state.specs.SlotChanges.{pended, unpended, activated, deactivated, prioritized, switched, targeted};
 
 use crate::known::Known;
-use crate::place::{PLACES, exception_number, index_of, is_always_enabled, is_banked, is_system};
+use crate::place::{
+    FIRST_INTERRUPT_PLACE, PLACES, exception_number, index_of, is_always_enabled, is_banked,
+    is_system,
+};
 use std::alloc::{AllocError, Global};
 use std::marker::Model;
 use tz_model::{Side, Slot};
@@ -109,10 +113,10 @@ impl Exceptions {
 
     /// The end of the places where slots stand.
     pub(crate) fn end(&self) -> usize
-        ensures is { result ≡ self.now.interrupts + 32 }
+        ensures is { result ≡ self.now.interrupts + first_interrupt_place }
         ensures few { result ≤ 272 }
     {
-        self.interrupts as usize + 32
+        self.interrupts as usize + FIRST_INTERRUPT_PLACE
     }
 
     /// Whether a slot stands at a place.
@@ -120,7 +124,7 @@ impl Exceptions {
         requires { index < 272 }
         ensures { result ≡ is_place self.now index }
     {
-        if index < 32 {
+        if index < FIRST_INTERRUPT_PLACE {
             let number = index as u16 / 2;
             if index % 2 == 1 {
                 is_banked(number)
@@ -128,7 +132,7 @@ impl Exceptions {
                 is_system(number)
             }
         } else {
-            index < usize::from(self.interrupts) + 32
+            index < usize::from(self.interrupts) + FIRST_INTERRUPT_PLACE
         }
     }
 
@@ -232,7 +236,7 @@ impl Exceptions {
         ensures { self.new ≡ targeted self.old number side }
     {
         let _interrupts = self.interrupts;
-        let index = usize::from(number) + 16;
+        let index = usize::from(number) + usize::from(FIRST_INTERRUPT);
         let mut state = self.at(index);
         state.target = side;
         self.put_at(index, state);
@@ -273,9 +277,9 @@ impl Exceptions {
     /// The side of an external interrupt of the core.
     pub fn target(&self, number: u16) -> Side
         requires { is_external self.now number ≡ true }
-        ensures { result ≡ (at self.now (number + 16)).target }
+        ensures { result ≡ (at self.now (number + first_interrupt)).target }
     {
-        self.slots[usize::from(number) + 16].target
+        self.slots[usize::from(number) + usize::from(FIRST_INTERRUPT)].target
     }
 
     /// What is kept of the slot at a place.
@@ -299,7 +303,7 @@ impl Exceptions {
         requires { index < 272 }
         ensures { result ≡ side_at self.now index }
     {
-        if index < 32 {
+        if index < FIRST_INTERRUPT_PLACE {
             let number = index as u16 / 2;
             if index % 2 == 1 || ((number == NMI || number == BUS_FAULT) && self.bfhfnmins) {
                 Side::NonSecure

@@ -11,6 +11,20 @@ use tz_state::exception::{
 
 /// How many places there are.
 pub const PLACES: usize = 272;
+/// The first of an external interrupt; below it each number of the system has two.
+pub const FIRST_INTERRUPT_PLACE: usize = 32;
+
+pub(crate) const NMI_PLACE: usize = 4;
+
+pub(crate) const HARD_FAULT_PLACE_S: usize = 6;
+
+pub(crate) const HARD_FAULT_PLACE_NS: usize = 7;
+
+pub(crate) const BUS_FAULT_PLACE: usize = 10;
+
+pub(crate) const SYS_TICK_PLACE_S: usize = 30;
+
+pub(crate) const SYS_TICK_PLACE_NS: usize = 31;
 
 /// Whether a number has a slot on each side.
 pub(crate) fn is_banked(number: u16) -> bool
@@ -62,7 +76,7 @@ pub(crate) fn index_of(slot: Slot) -> usize
     if slot.number < FIRST_INTERRUPT {
         2 * usize::from(slot.number) + bank_of(slot.number, slot.side)
     } else {
-        usize::from(slot.number) + 16
+        usize::from(slot.number) + usize::from(FIRST_INTERRUPT)
     }
 }
 
@@ -71,9 +85,9 @@ pub(crate) fn exception_number(index: usize) -> u16
     requires { index < 272 }
     ensures { result ≡ exception_number index }
 {
-    if index < 32 {
+    if index < FIRST_INTERRUPT_PLACE {
         index as u16 / 2
     } else {
-        index as u16 - 16
+        index as u16 - FIRST_INTERRUPT
     }
 }

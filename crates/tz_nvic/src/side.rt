@@ -5,6 +5,7 @@ ghost use Rattle.tz_state.specs.Slots.{prigroup_of, timer_of};
 ghost use Rattle.tz_state.specs.SlotChanges.{is_fault_side_held, with_prigroup, with_fault_side, with_timer, timer_bits};
 
 use crate::exceptions::Exceptions;
+use crate::place::{BUS_FAULT_PLACE, HARD_FAULT_PLACE_NS, HARD_FAULT_PLACE_S, NMI_PLACE};
 use tz_model::Side;
 use tz_state::Timer;
 use tz_state::systick_bits::SYST_CSR_BITS;
@@ -59,10 +60,10 @@ impl Exceptions {
     fn is_fault_side_held(&self) -> bool
         ensures { result ≡ is_fault_side_held self.now }
     {
-        let nmi = self.slots[4];
-        let bus = self.slots[10];
-        let hard_s = self.slots[6];
-        let hard_ns = self.slots[7];
+        let nmi = self.slots[NMI_PLACE];
+        let bus = self.slots[BUS_FAULT_PLACE];
+        let hard_s = self.slots[HARD_FAULT_PLACE_S];
+        let hard_ns = self.slots[HARD_FAULT_PLACE_NS];
         (nmi.pending | nmi.active)
             || (bus.pending | bus.active)
             || (hard_s.pending | hard_s.active)

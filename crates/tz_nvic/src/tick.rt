@@ -6,6 +6,7 @@ ghost use Rattle.tz_state.specs.SlotChanges.{with_timer};
 ghost use Rattle.tz_state.specs.Slots.{timer_of};
 
 use crate::exceptions::Exceptions;
+use crate::place::{SYS_TICK_PLACE_NS, SYS_TICK_PLACE_S};
 use tz_model::Side;
 use tz_state::Timer;
 use tz_state::systick_bits::{SYST_CSR_COUNTFLAG, SYST_CSR_TICKINT};
@@ -85,7 +86,7 @@ impl Exceptions {
     pub fn tick(&mut self)
         ensures { self.new ≡ ticked self.old }
     {
-        self.tick_side(Side::Secure, 30);
-        self.tick_side(Side::NonSecure, 31);
+        self.tick_side(Side::Secure, SYS_TICK_PLACE_S);
+        self.tick_side(Side::NonSecure, SYS_TICK_PLACE_NS);
     }
 }

@@ -8,6 +8,10 @@ ghost use Rattle.tz_state.specs.Regions.{the_only};
 use crate::idau::{IdauWord, idau_word};
 use crate::scan::{Holders, find_holders};
 use crate::unit::Sau;
+use tz_model::address_map::{
+    ETM_LAST, FPB_LAST, ITM_FIRST, PRIVATE_FIRST, ROM_TABLE_FIRST, ROM_TABLE_LAST, SCS_FIRST,
+    SCS_LAST, SCS_NS_FIRST, SCS_NS_LAST, SECURE_CODE_FIRST, TPIU_FIRST,
+};
 use tz_model::{RegionSide, Side};
 use tz_state::Attribute;
 use tz_state::unit_bits::{SAU_CTRL_ALLNS, SAU_RLAR_NSC};
@@ -55,12 +59,12 @@ fn own_side(side: Side) -> RegionSide
 fn is_exempt(addr: u32) -> bool
     ensures { result ≡ is_exempt addr }
 {
-    addr >= 0xe000_0000
-        && (within(0xe000_0000, 0xe000_2fff, addr)
-            || within(0xe000_e000, 0xe000_efff, addr)
-            || within(0xe002_e000, 0xe002_efff, addr)
-            || within(0xe004_0000, 0xe004_1fff, addr)
-            || within(0xe00f_f000, 0xe00f_ffff, addr))
+    addr >= PRIVATE_FIRST
+        && (within(ITM_FIRST, FPB_LAST, addr)
+            || within(SCS_FIRST, SCS_LAST, addr)
+            || within(SCS_NS_FIRST, SCS_NS_LAST, addr)
+            || within(TPIU_FIRST, ETM_LAST, addr)
+            || within(ROM_TABLE_FIRST, ROM_TABLE_LAST, addr))
 }
 
 /// Callable memory is Secure memory.
@@ -78,7 +82,7 @@ fn has_fixed_attribution(fetch: bool, addr: u32) -> bool
     ensures { result ≡ has_fixed_attribution fetch addr }
 {
     if fetch {
-        addr >= 0xe000_0000
+        addr >= PRIVATE_FIRST
     } else {
         is_exempt(addr)
     }
@@ -151,9 +155,9 @@ impl Sau {
     pub fn fetch_attribution(&self, side: Side, addr: u32) -> RegionSide
         ensures { result ≡ fetch_attribution self.now side addr }
     {
-        if addr >= 0xf000_0000 {
+        if addr >= SECURE_CODE_FIRST {
             RegionSide::Secure
-        } else if addr >= 0xe000_0000 {
+        } else if addr >= PRIVATE_FIRST {
             own_side(side)
         } else {
             self.mapped_side(addr)
@@ -170,7 +174,7 @@ impl Sau {
         let idau = self.idau_word(addr);
         let attributed = if !fixed {
             more_secure(sau.side, idau.side)
-        } else if fetch && addr >= 0xf000_0000 {
+        } else if fetch && addr >= SECURE_CODE_FIRST {
             RegionSide::Secure
         } else {
             own_side(side)

@@ -2,13 +2,13 @@
 //! that are its own.
 
 ghost use Rattle.std.specs.Prelude.{◌≡◌, ◌<◌, ◌+◌, IsTrue};
-ghost use Rattle.tz_state.specs.Slots.{at};
+ghost use Rattle.tz_state.specs.Slots.{at, first_interrupt_place};
 ghost use Rattle.tz_state.specs.Pieces.{bits_below};
 ghost use Rattle.tz_state.specs.NvicRegisters.{sees_interrupt, with_seen, shows_bank, bank_bit, bank_put, seen_bit, bank_value, slots_put, bank_written, seen_priority, with_priority, priorities_value, priorities_written, stir_written};
 
 use crate::pieces::{flag, is_bit};
 use tz_model::Side;
-use tz_nvic::Exceptions;
+use tz_nvic::{Exceptions, FIRST_INTERRUPT_PLACE};
 use tz_state::{Bank, SlotState};
 
 /// Whether the board has an interrupt, and the view of a side shows it.
@@ -19,7 +19,10 @@ fn sees_interrupt(exceptions: &Exceptions, side: Side, number: u32) -> bool
     if number < u32::from(exceptions.interrupts()) {
         match side {
             Side::Secure => true,
-            Side::NonSecure => exceptions.at(32 + number as usize).target == Side::NonSecure,
+            Side::NonSecure => exceptions
+                .at(FIRST_INTERRUPT_PLACE + number as usize)
+                .target
+                == Side::NonSecure,
         }
     } else {
         false
@@ -29,9 +32,9 @@ fn sees_interrupt(exceptions: &Exceptions, side: Side, number: u32) -> bool
 /// What is kept of an interrupt, which is below 240.
 fn state_of(exceptions: &Exceptions, number: u32) -> SlotState
     requires { number < 240 }
-    ensures { result ≡ at exceptions.now (32 + number) }
+    ensures { result ≡ at exceptions.now (first_interrupt_place + number) }
 {
-    exceptions.at(32 + number as usize)
+    exceptions.at(FIRST_INTERRUPT_PLACE + number as usize)
 }
 
 /// Whether the view of a side has an array: ITNS is Secure alone.
@@ -107,11 +110,11 @@ pub(crate) fn bank_value(exceptions: &Exceptions, side: Side, bank: Bank, word: 
 
 /// Writes the bit of an interrupt, where the view shows it.
 fn put_bit(exceptions: &mut Exceptions, side: Side, bank: Bank, number: u32, bit: bool)
-    ensures { exceptions.new ≡ with_seen side exceptions.old number (bank_put bank bit (at exceptions.old (32 + number))) }
+    ensures { exceptions.new ≡ with_seen side exceptions.old number (bank_put bank bit (at exceptions.old (first_interrupt_place + number))) }
 {
     if sees_interrupt(exceptions, side, number) {
         let state = bank_put(bank, bit, state_of(exceptions, number));
-        exceptions.put_at(32 + number as usize, state);
+        exceptions.put_at(FIRST_INTERRUPT_PLACE + number as usize, state);
     }
 }
 
@@ -154,7 +157,7 @@ fn write_priority(exceptions: &mut Exceptions, side: Side, number: u32, byte: u8
             priority: byte,
             ..state_of(exceptions, number)
         };
-        exceptions.put_at(32 + number as usize, state);
+        exceptions.put_at(FIRST_INTERRUPT_PLACE + number as usize, state);
     }
 }
 
@@ -194,6 +197,6 @@ pub(crate) fn write_stir(exceptions: &mut Exceptions, side: Side, value: u32)
             pending: true,
             ..state_of(exceptions, number)
         };
-        exceptions.put_at(32 + number as usize, state);
+        exceptions.put_at(FIRST_INTERRUPT_PLACE + number as usize, state);
     }
 }

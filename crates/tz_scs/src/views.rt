@@ -6,6 +6,7 @@ ghost use Rattle.tz_state.specs.Views.{found_by, alias_found, found_at};
 
 use crate::table::register_at;
 use tz_model::Side;
+use tz_model::address_map::{SCS_FIRST, SCS_LAST, SCS_NS_FIRST, SCS_NS_LAST};
 use tz_state::{Register, ViewedRegister};
 
 /// Whether a view shows NMI, BusFault and what goes with them, while AIRCR.BFHFNMINS is as told.
@@ -43,8 +44,8 @@ fn alias_found(side: Side, addr: u32) -> Option<ViewedRegister>
 {
     match side {
         Side::Secure => {
-            if addr >= 0xE002_E000 && addr <= 0xE002_EFFF {
-                found_by(Side::NonSecure, register_at((addr - 0xE002_E000) / 4 * 4))
+            if addr >= SCS_NS_FIRST && addr <= SCS_NS_LAST {
+                found_by(Side::NonSecure, register_at((addr - SCS_NS_FIRST) / 4 * 4))
             } else {
                 None
             }
@@ -58,8 +59,8 @@ fn alias_found(side: Side, addr: u32) -> Option<ViewedRegister>
 pub(crate) fn found_at(side: Side, addr: u32) -> Option<ViewedRegister>
     ensures { result ≡ found_at side addr }
 {
-    if addr >= 0xE000_E000 && addr <= 0xE000_EFFF {
-        found_by(side, register_at((addr - 0xE000_E000) / 4 * 4))
+    if addr >= SCS_FIRST && addr <= SCS_LAST {
+        found_by(side, register_at((addr - SCS_FIRST) / 4 * 4))
     } else {
         alias_found(side, addr)
     }

@@ -7,7 +7,7 @@ use Rattle.tz_table.specs.declared.instruction.Insn.{Insn}
 use Rattle.tz_table.specs.declared.instruction.Insn.TheVariants.{Branch, BranchIf, BranchLink, BranchZero, TableBranch, BranchExchange, CallExchange, IfThen}
 use Rattle.tz_model.specs.declared.report.Fault.TheVariants.{Undef}
 use Rattle.tz_model.specs.declared.report.Outcome.TheVariants.{Next, Jump, Exchange}
-use Rattle.tz_model.specs.Ports.{Access, Load}
+use Rattle.tz_model.specs.Ports.{Access, Load, aligned_by_ccr, as_running}
 use Rattle.tz_model.specs.Words.{wrap, word_of, even_of}
 use Rattle.tz_regs.specs.ItState.{condition_holds, it_of}
 use Rattle.tz_sem.specs.Local.{Local, Finished, reg, with_registers}
@@ -63,8 +63,8 @@ finish_call rm true l = call_ns l.side l (reg l rm)
 
 -- TBB and TBH: a byte or a halfword of a table counts halfwords from the instruction's address plus 4
 abbrev pub entry_of : Bool → ℕ → ℕ → Local → Access
-entry_of false rn rm l = Load Byte (wrap (reg l rn + reg l rm)) false false
-entry_of true rn rm l = Load Half (wrap (reg l rn + 2 * reg l rm)) false false
+entry_of false rn rm l = Load Byte (wrap (reg l rn + reg l rm)) aligned_by_ccr as_running
+entry_of true rn rm l = Load Half (wrap (reg l rn + 2 * reg l rm)) aligned_by_ccr as_running
 
 abbrev pub finish_table : ℕ → Local → Finished
 finish_table entry l = Ok (l, Jump (wrap (wrap (l.registers.pc + 4) + 2 * entry)))

@@ -12,7 +12,7 @@ use Rattle.tz_bits.specs.Words.{sign_extended}
 use Rattle.tz_model.specs.declared.report.Fault.{Fault}
 use Rattle.tz_model.specs.declared.report.Fault.TheVariants.{Undef, StackLimit}
 use Rattle.tz_model.specs.declared.report.Outcome.TheVariants.{Next, Exchange}
-use Rattle.tz_model.specs.Ports.{Access, Load, Store}
+use Rattle.tz_model.specs.Ports.{Access, Load, Store, always_aligned, aligned_by_ccr, as_running}
 use Rattle.tz_model.specs.Words.{wrap, word_of}
 use Rattle.tz_regs.specs.Registers.{pointer_limit_of}
 use Rattle.tz_sem.specs.Local.{Local, Finished, reg, put, gives}
@@ -96,11 +96,11 @@ lowest true base count = past_words true base count
 -- words in ascending order, which have to be aligned
 abbrev pub word_loads : ℕ → ℕ → List Access
 word_loads addr zero = []
-word_loads addr (suc count) = Load Word addr true false ∷ word_loads (wrap (addr + 4)) count
+word_loads addr (suc count) = Load Word addr always_aligned as_running ∷ word_loads (wrap (addr + 4)) count
 
 abbrev pub word_stores : Local → ℕ → List ℕ → List Access
 word_stores l addr [] = []
-word_stores l addr (k ∷ more) = Store Word addr (reg l k) true false ∷ word_stores l (wrap (addr + 4)) more
+word_stores l addr (k ∷ more) = Store Word addr (reg l k) always_aligned as_running ∷ word_stores l (wrap (addr + 4)) more
 
 -- the base gets its new value where the instruction says so
 abbrev pub based_past : Bool → ℕ → ℕ → Local → Local
@@ -130,10 +130,10 @@ finish_load_many rn list down back l words =
 
 -- a pair is two words, which have to be aligned
 abbrev pub pair_loads : ℕ → List Access
-pair_loads addr = Load Word addr true false ∷ Load Word (wrap (addr + 4)) true false ∷ []
+pair_loads addr = Load Word addr always_aligned as_running ∷ Load Word (wrap (addr + 4)) always_aligned as_running ∷ []
 
 abbrev pub pair_stores : ℕ → ℕ → ℕ → List Access
-pair_stores addr first second = Store Word addr first true false ∷ Store Word (wrap (addr + 4)) second true false ∷ []
+pair_stores addr first second = Store Word addr first always_aligned as_running ∷ Store Word (wrap (addr + 4)) second always_aligned as_running ∷ []
 
 -- why an instruction of this family faults before it makes an access
 abbrev pub refusal : Insn → Local → Option Fault
@@ -148,16 +148,16 @@ refusal insn l = None
 -- the accesses of an instruction of this family; a load of PC has to be aligned
 abbrev pub plan_load_store : Insn → Local → List Access
 plan_load_store (insns.Load size signed rt address user) l = Load size (place_of address l) (rt == 15) user ∷ []
-plan_load_store (insns.Store size rt address user) l = Store size (place_of address l) (reg l rt) false user ∷ []
+plan_load_store (insns.Store size rt address user) l = Store size (place_of address l) (reg l rt) aligned_by_ccr user ∷ []
 plan_load_store (insns.LoadPair rt rt2 address) l = pair_loads (place_of address l)
 plan_load_store (insns.StorePair rt rt2 address) l = pair_stores (place_of address l) (reg l rt) (reg l rt2)
 plan_load_store (insns.LoadMany rn list down back) l = word_loads (lowest down (reg l rn) (words_loaded list)) (words_loaded list)
 plan_load_store (insns.StoreMany rn list down back) l = word_stores l (lowest down (reg l rn) (words_stored list)) (listed list)
-plan_load_store (insns.LoadExclusive size acquire rt rn offset) l = Load size (offset_at l rn offset) true false ∷ []
+plan_load_store (insns.LoadExclusive size acquire rt rn offset) l = Load size (offset_at l rn offset) always_aligned as_running ∷ []
 plan_load_store (insns.StoreExclusive size release rd rt rn offset) l =
-    Store size (offset_at l rn offset) (reg l rt) true false ∷ []
-plan_load_store (insns.LoadAcquire size rt rn) l = Load size (reg l rn) true false ∷ []
-plan_load_store (insns.StoreRelease size rt rn) l = Store size (reg l rn) (reg l rt) true false ∷ []
+    Store size (offset_at l rn offset) (reg l rt) always_aligned as_running ∷ []
+plan_load_store (insns.LoadAcquire size rt rn) l = Load size (reg l rn) always_aligned as_running ∷ []
+plan_load_store (insns.StoreRelease size rt rn) l = Store size (reg l rn) (reg l rt) always_aligned as_running ∷ []
 plan_load_store insn l = []
 
 -- what an instruction of this family leaves, given the words that its accesses read

@@ -8,7 +8,7 @@ ghost use Rattle.tz_frames.specs.Stack.{splim_of, with_side_sp, basic_base, push
 
 use crate::words::store_words;
 use tz_frames::return_bits::{RETPSR_IT_HIGH, RETPSR_IT_LOW, RETPSR_SPREALIGN, RETPSR_T};
-use tz_frames::{Frames, StackFault};
+use tz_frames::{ADDITIONAL_FRAME_SIZE, BASIC_FRAME_SIZE, Frames, StackFault};
 use tz_model::Side;
 use tz_regs::{Core, Registers};
 
@@ -39,11 +39,11 @@ pub fn set_side_sp(core: &mut Core, side: Side, process: bool, value: u32)
     }
 }
 
-/// 32 bytes below a stack pointer, with bit 2 clear.
+/// A basic frame below a stack pointer, with bit 2 clear.
 fn basic_base(sp: u32) -> u32
     ensures { result ≡ basic_base sp }
 {
-    let low = sp.wrapping_sub(32);
+    let low = sp.wrapping_sub(BASIC_FRAME_SIZE);
     low / 8 * 8 + low % 4
 }
 
@@ -119,7 +119,9 @@ pub fn push_additional<P: Frames>(
     ensures room { P.room port.old ≤ P.room port.new + 10 }
     ensures lent { P.lent port.new ≡ P.lent port.old }
 {
-    let base = core.sp(Side::Secure, process).wrapping_sub(40);
+    let base = core
+        .sp(Side::Secure, process)
+        .wrapping_sub(ADDITIONAL_FRAME_SIZE);
     let limit = splim_of(core, Side::Secure, process);
     if base < limit {
         set_side_sp(core, Side::Secure, process, limit);

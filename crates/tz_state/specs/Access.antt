@@ -10,6 +10,7 @@ use Rattle.tz_model.specs.declared.board.RegionKind.TheVariants.{Rom, Ram}
 use Rattle.tz_model.specs.declared.report.Fault.{Fault}
 use Rattle.tz_model.specs.declared.report.Fault.TheVariants.{Unaligned, DataAccess, Violation, Precise}
 use Rattle.tz_model.specs.declared.report.Store as stored
+use Rattle.tz_model.specs.AddressMap.{private_first, private_last}
 use Rattle.tz_model.specs.Board.{within, in_region}
 use Rattle.tz_model.specs.Ports.{Answering, Load, Store, cut_to}
 use Rattle.tz_state.specs.declared.asker.Asker.{Asker}
@@ -33,7 +34,7 @@ is_aligned Word a = a % 4 == 0
 -- an access that has to be aligned and isn't: where it is asked for so, and in the private peripheral space
 -- and above
 abbrev pub is_crooked : Size → ℕ → Bool → Bool
-is_crooked size a must_align = (must_align || nat_le 0xE0000000 a) && not (is_aligned size a)
+is_crooked size a must_align = (must_align || nat_le private_first a) && not (is_aligned size a)
 
 -- ---- attribution
 
@@ -46,7 +47,7 @@ may_touch m NonSecure size a = every (is_open m) a size
 
 -- the system registers, and what is private beside them
 abbrev pub is_private : ℕ → Bool
-is_private a = within 0xE0000000 0xE00FFFFF a
+is_private a = within private_first private_last a
 
 -- the MPU of the state lets the access have a byte; private space isn't asked of it
 abbrev pub lets : Bus → Request → ℕ → Bool

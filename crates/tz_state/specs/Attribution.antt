@@ -5,6 +5,7 @@ use Rattle.tz_table.specs.declared.units.Side.TheVariants as sides
 use Rattle.tz_model.specs.declared.board.Region.{Region}
 use Rattle.tz_model.specs.declared.board.RegionSide.{RegionSide}
 use Rattle.tz_model.specs.declared.board.RegionSide.TheVariants.{Secure, Nsc, NonSecure}
+use Rattle.tz_model.specs.AddressMap.{private_first, itm_first, fpb_last, scs_first, scs_last, scs_ns_first, scs_ns_last, tpiu_first, etm_last, rom_table_first, rom_table_last, secure_code_first}
 use Rattle.tz_model.specs.Board.{within, in_region, is_nonsecure, is_callable}
 use Rattle.tz_state.specs.declared.units.Bounds.{Bounds}
 use Rattle.tz_state.specs.declared.units.Attribute.{Attribute}
@@ -85,8 +86,8 @@ mapped_side m a = more_secure (sau_side m.sau a) (idau_side m.regions a)
 -- data at these addresses of the private peripheral space has the state of who asks for it
 abbrev pub is_exempt : ℕ → Bool
 is_exempt a =
-    within 0xE0000000 0xE0002FFF a || (within 0xE000E000 0xE000EFFF a || (within 0xE002E000 0xE002EFFF a
-    || (within 0xE0040000 0xE0041FFF a || within 0xE00FF000 0xE00FFFFF a)))
+    within itm_first fpb_last a || (within scs_first scs_last a || (within scs_ns_first scs_ns_last a
+    || (within tpiu_first etm_last a || within rom_table_first rom_table_last a)))
 
 -- the attribution of an address as data
 unfoldable pub data_attribution : MapState → Side → ℕ → RegionSide
@@ -95,7 +96,7 @@ data_attribution m side a = if is_exempt a then own_side side else mapped_side m
 -- the attribution of an address as code
 unfoldable pub fetch_attribution : MapState → Side → ℕ → RegionSide
 fetch_attribution m side a =
-    if nat_le 0xF0000000 a then Secure else if nat_le 0xE0000000 a then own_side side else mapped_side m a
+    if nat_le secure_code_first a then Secure else if nat_le private_first a then own_side side else mapped_side m a
 
 -- the attribution of an address, as code or as data
 abbrev pub attributed : MapState → Bool → Side → ℕ → RegionSide
@@ -104,7 +105,7 @@ attributed m false side a = data_attribution m side a
 
 -- an address whose attribution neither the SAU nor the board decides
 abbrev pub has_fixed_attribution : Bool → ℕ → Bool
-has_fixed_attribution true a = nat_le 0xE0000000 a
+has_fixed_attribution true a = nat_le private_first a
 has_fixed_attribution false a = is_exempt a
 
 -- callable memory is Secure memory

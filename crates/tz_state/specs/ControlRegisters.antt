@@ -11,7 +11,7 @@ use Rattle.tz_regs.specs.RegisterBits.{ccr_res1, ccr_bits}
 use Rattle.tz_state.specs.declared.slot.SlotState.{SlotState}
 use Rattle.tz_state.specs.ExceptionNumbers.{nmi, hard_fault, mem_manage, bus_fault, usage_fault, secure_fault, sv_call, pend_sv, sys_tick}
 use Rattle.tz_state.specs.ControlBits.{icsr_rettobase, icsr_vectpending, icsr_isrpending, icsr_pendstclr, icsr_pendstset, icsr_pendsvclr, icsr_pendsvset, icsr_pendnmiclr, icsr_pendnmiset, aircr_prigroup, aircr_bfhfnmins, aircr_pris, aircr_vectkey, vectkey, vectkeystat, shcsr_memfaultact, shcsr_busfaultact, shcsr_hardfaultact, shcsr_usgfaultact, shcsr_securefaultact, shcsr_nmiact, shcsr_svcallact, shcsr_pendsvact, shcsr_systickact, shcsr_usgfaultpended, shcsr_memfaultpended, shcsr_busfaultpended, shcsr_svcallpended, shcsr_memfaultena, shcsr_busfaultena, shcsr_usgfaultena, shcsr_securefaultena, shcsr_securefaultpended, shcsr_hardfaultpended}
-use Rattle.tz_state.specs.Slots.{ExceptionsValue, at, places, exception_number, index_of}
+use Rattle.tz_state.specs.Slots.{ExceptionsValue, at, places, first_interrupt_place, exception_number, index_of}
 use Rattle.tz_state.specs.SlotChanges.{is_fault_side_held}
 use Rattle.tz_state.specs.Priority.{chosen}
 use Rattle.tz_state.specs.Execution.{is_active}
@@ -65,7 +65,7 @@ pending_number NonSecure (Some slot) = if is_nonsecure_side slot.side then slot.
 
 -- ISRPENDING: an interrupt of either side is pending, enabled or not
 abbrev pub is_interrupt_pending : ExceptionsValue → Bool
-is_interrupt_pending e = any_below (λ n. (at e (32 + n)).pending) e.interrupts
+is_interrupt_pending e = any_below (λ n. (at e (first_interrupt_place + n)).pending) e.interrupts
 
 -- a slot is active at a place beside the one that is handled: of another number, or the second that is active
 abbrev pub is_other_active : ExceptionsValue → ℕ → ℕ → Bool

@@ -8,6 +8,7 @@ use Rattle.tz_model.specs.declared.report.Fault.TheVariants.{Transition, EntryPo
 use Rattle.tz_model.specs.declared.fetch.Fetched.{Fetched}
 use Rattle.tz_model.specs.declared.fetch.FetchAnswer.{FetchAnswer}
 use Rattle.tz_model.specs.Words.{wrap}
+use Rattle.tz_model.specs.AddressMap.{private_first}
 use Rattle.tz_model.specs.Board.{is_nonsecure, is_callable}
 use Rattle.tz_state.specs.declared.fetcher.Fetcher.{Fetcher}
 use Rattle.tz_state.specs.declared.request.Kind.TheVariants as kinds
@@ -37,7 +38,7 @@ is_own_fetch m side a = every (is_own_byte m side) a Half
 -- above
 abbrev pub lets_run : Bus → Side → Bool → Bool → ℕ → Bool
 lets_run b side privileged negative a =
-    nat_lt a 0xE0000000 && permits b.board.profile (mpu_of side b) a kinds.Fetch privileged negative
+    nat_lt a private_first && permits b.board.profile (mpu_of side b) a kinds.Fetch privileged negative
 
 unfoldable pub is_runnable : Bus → Side → Bool → Bool → ℕ → Bool
 is_runnable b side privileged negative a = every (lets_run b side privileged negative) a Half

@@ -1,5 +1,5 @@
--- ISER, ICER, ISPR, ICPR, IABR, ITNS, IPR and STIR (DDI0553, chapter D1.2). Interrupt n has the slot at place
--- 32 + n.
+-- ISER, ICER, ISPR, ICPR, IABR, ITNS, IPR and STIR (DDI0553, chapter D1.2). Interrupt n has the slot at place n from
+-- the first of an interrupt on.
 use Rattle.std.specs.Prelude.{ℕ, zero, suc, ◌+◌, ◌*◌, ◌%◌, ◌^◌, nat_lt, Bool, true, false, ◌&&◌, ◌||◌, not, if◌then◌else◌, List, [], ◌∷◌, slice_index, slice_set}
 use Rattle.std.specs.Int.{w32, from_le_bytes, to_le_bytes}
 use Rattle.tz_table.specs.declared.units.Side.{Side}
@@ -8,17 +8,17 @@ use Rattle.tz_model.specs.Words.{is_nonsecure_side}
 use Rattle.tz_state.specs.declared.slot.SlotState.{SlotState}
 use Rattle.tz_state.specs.declared.register.Bank.{Bank}
 use Rattle.tz_state.specs.declared.register.Bank.TheVariants.{Enable, Disable, Pend, Unpend, Active, Target}
-use Rattle.tz_state.specs.Slots.{ExceptionsValue, at}
+use Rattle.tz_state.specs.Slots.{ExceptionsValue, at, first_interrupt_place}
 use Rattle.tz_state.specs.Pieces.{is_bit, bits_below}
 
 -- the board has interrupt n, and the view of a side shows it: Non-secure code sees its own
 abbrev pub sees_interrupt : Side → ExceptionsValue → ℕ → Bool
 sees_interrupt Secure e n = nat_lt n e.interrupts
-sees_interrupt NonSecure e n = nat_lt n e.interrupts && is_nonsecure_side (at e (32 + n)).target
+sees_interrupt NonSecure e n = nat_lt n e.interrupts && is_nonsecure_side (at e (first_interrupt_place + n)).target
 
 -- the slots with that of an interrupt replaced, where the view of a side shows it
 abbrev pub slots_seen : Side → ExceptionsValue → ℕ → SlotState → List SlotState
-slots_seen side e n slot = if sees_interrupt side e n then slice_set e.slots (32 + n) slot else e.slots
+slots_seen side e n slot = if sees_interrupt side e n then slice_set e.slots (first_interrupt_place + n) slot else e.slots
 
 abbrev pub with_seen : Side → ExceptionsValue → ℕ → SlotState → ExceptionsValue
 with_seen side e n slot = record e { slots = slots_seen side e n slot }
@@ -54,7 +54,7 @@ bank_put Active bit slot = slot
 bank_put Target bit slot = record slot { target = if bit then NonSecure else Secure }
 
 abbrev pub seen_bit : Side → ExceptionsValue → Bank → ℕ → Bool
-seen_bit side e bank n = sees_interrupt side e n && bank_bit bank (at e (32 + n))
+seen_bit side e bank n = sees_interrupt side e n && bank_bit bank (at e (first_interrupt_place + n))
 
 -- a word of 32 interrupts
 abbrev pub bank_value : Side → ExceptionsValue → Bank → ℕ → ℕ
@@ -65,7 +65,7 @@ unfoldable pub slots_put : Side → Bank → ℕ → ℕ → ExceptionsValue →
 slots_put side bank value n e zero = e.slots
 slots_put side bank value n e (suc k) =
     let done = record e { slots = slots_put side bank value n e k } in
-    slots_seen side done (n + k) (bank_put bank (is_bit value k) (at done (32 + (n + k))))
+    slots_seen side done (n + k) (bank_put bank (is_bit value k) (at done (first_interrupt_place + (n + k))))
 
 abbrev pub bank_written : Side → ExceptionsValue → Bank → ℕ → ℕ → ExceptionsValue
 bank_written side e bank word value =
@@ -74,10 +74,10 @@ bank_written side e bank word value =
 -- ---- a byte for each interrupt
 
 abbrev pub seen_priority : Side → ExceptionsValue → ℕ → ℕ
-seen_priority side e n = if sees_interrupt side e n then (at e (32 + n)).priority else 0
+seen_priority side e n = if sees_interrupt side e n then (at e (first_interrupt_place + n)).priority else 0
 
 abbrev pub with_priority : Side → ExceptionsValue → ℕ → ℕ → ExceptionsValue
-with_priority side e n byte = with_seen side e n (record (at e (32 + n)) { priority = byte })
+with_priority side e n byte = with_seen side e n (record (at e (first_interrupt_place + n)) { priority = byte })
 
 -- a word of 4 interrupts
 abbrev pub priorities_value : Side → ExceptionsValue → ℕ → ℕ
@@ -99,4 +99,4 @@ priorities_written side e word value =
 
 -- STIR pends the interrupt of bits 8:0, where the view of a side shows it
 abbrev pub stir_written : Side → ExceptionsValue → ℕ → ExceptionsValue
-stir_written side e value = with_seen side e (value % 2 ^ 9) (record (at e (32 + value % 2 ^ 9)) { pending = true })
+stir_written side e value = with_seen side e (value % 2 ^ 9) (record (at e (first_interrupt_place + value % 2 ^ 9)) { pending = true })

@@ -3,6 +3,7 @@ use Rattle.std.specs.Prelude.{ℕ, ◌/◌, ◌%◌, ◌^◌, ◌==◌, Bool, tr
 use Rattle.std.specs.Option.{is_some}
 use Rattle.tz_model.specs.declared.board.Profile.{Profile}
 use Rattle.tz_model.specs.declared.board.Profile.TheVariants.{V80, V81}
+use Rattle.tz_model.specs.AddressMap.{peripheral_first, peripheral_last, device_first}
 use Rattle.tz_model.specs.Board.{within}
 use Rattle.tz_state.specs.declared.units.Bounds.{Bounds}
 use Rattle.tz_state.specs.declared.request.Kind.{Kind}
@@ -34,7 +35,7 @@ is_mpu_on m negative = is_mpu_enabled m && (is_on_in_faults m || not negative)
 
 -- the default map lets code run everywhere but here
 abbrev pub is_executable : ℕ → Bool
-is_executable a = not (within 0x40000000 0x5FFFFFFF a || nat_le 0xA0000000 a)
+is_executable a = not (within peripheral_first peripheral_last a || nat_le device_first a)
 
 -- what the default map permits
 abbrev pub default_permits : Kind → ℕ → Bool

@@ -6,7 +6,8 @@ use Rattle.tz_model.specs.declared.report.Slot.{Slot}
 use Rattle.tz_state.specs.declared.slot.SlotState.{SlotState}
 use Rattle.tz_state.specs.declared.slot.Timer.{Timer}
 use Rattle.tz_state.specs.SysTickBits.{syst_csr_bits}
-use Rattle.tz_state.specs.Slots.{ExceptionsValue, at, with_slot, index_of, is_always_enabled, has_fixed_priority}
+use Rattle.tz_state.specs.ExceptionNumbers.{first_interrupt}
+use Rattle.tz_state.specs.Slots.{ExceptionsValue, at, nmi_place, hard_fault_place_s, hard_fault_place_ns, bus_fault_place, with_slot, index_of, is_always_enabled, has_fixed_priority}
 
 abbrev pub pended : ExceptionsValue → Slot → ExceptionsValue
 pended e slot = with_slot e (index_of slot) (record (at e (index_of slot)) { pending = true })
@@ -33,7 +34,7 @@ switched e slot on =
 
 -- an external interrupt gets a side
 abbrev pub targeted : ExceptionsValue → ℕ → Side → ExceptionsValue
-targeted e n side = with_slot e (n + 16) (record (at e (n + 16)) { target = side })
+targeted e n side = with_slot e (n + first_interrupt) (record (at e (n + first_interrupt)) { target = side })
 
 abbrev pub with_prigroup : ExceptionsValue → Side → ℕ → ExceptionsValue
 with_prigroup e Secure n = record e { prigroup_s = n }
@@ -44,7 +45,8 @@ is_busy slot = slot.pending || slot.active
 
 -- a slot of the exceptions that BFHFNMINS moves, BusFault, NMI and HardFault, is busy on any side
 abbrev pub is_fault_side_held : ExceptionsValue → Bool
-is_fault_side_held e = is_busy (at e 4) || (is_busy (at e 10) || (is_busy (at e 6) || is_busy (at e 7)))
+is_fault_side_held e =
+    is_busy (at e nmi_place) || (is_busy (at e bus_fault_place) || (is_busy (at e hard_fault_place_s) || is_busy (at e hard_fault_place_ns)))
 
 -- (own) BFHFNMINS stays while one of those slots is busy
 abbrev pub with_fault_side : ExceptionsValue → Bool → ExceptionsValue

@@ -26,6 +26,28 @@ idle = record { pending = false; active = false; enabled = false; priority = 0; 
 abbrev pub places : ℕ
 places = 272
 
+-- the first of an external interrupt; below it each number of the system has two
+abbrev pub first_interrupt_place : ℕ
+first_interrupt_place = 32
+
+abbrev pub nmi_place : ℕ
+nmi_place = 4
+
+abbrev pub hard_fault_place_s : ℕ
+hard_fault_place_s = 6
+
+abbrev pub hard_fault_place_ns : ℕ
+hard_fault_place_ns = 7
+
+abbrev pub bus_fault_place : ℕ
+bus_fault_place = 10
+
+abbrev pub sys_tick_place_s : ℕ
+sys_tick_place_s = 30
+
+abbrev pub sys_tick_place_ns : ℕ
+sys_tick_place_ns = 31
+
 abbrev pub at : ExceptionsValue → ℕ → SlotState
 at e i = slice_index_or e.slots i idle
 
@@ -56,17 +78,18 @@ abbrev pub bank_of : ℕ → Side → ℕ
 bank_of n Secure = 0
 bank_of n NonSecure = if is_banked n then 1 else 0
 
--- the place of a slot; places ascend with the number, Secure before Non-secure
+-- the place of a slot; places ascend with the number, Secure before Non-secure. The system's numbers have two each,
+-- which moves the interrupts up by as many
 abbrev pub index_of : Slot → ℕ
-index_of slot = if nat_lt slot.number first_interrupt then 2 * slot.number + bank_of slot.number slot.side else slot.number + 16
+index_of slot = if nat_lt slot.number first_interrupt then 2 * slot.number + bank_of slot.number slot.side else slot.number + first_interrupt
 
 -- the number whose slot stands at a place
 abbrev pub exception_number : ℕ → ℕ
-exception_number i = if nat_lt i 32 then i / 2 else i - 16
+exception_number i = if nat_lt i first_interrupt_place then i / 2 else i - first_interrupt
 
 -- a slot stands at this place
 abbrev pub is_place : ExceptionsValue → ℕ → Bool
-is_place e i = if nat_lt i 32 then (if i % 2 == 1 then is_banked (i / 2) else is_system (i / 2)) else nat_lt i (e.interrupts + 32)
+is_place e i = if nat_lt i first_interrupt_place then (if i % 2 == 1 then is_banked (i / 2) else is_system (i / 2)) else nat_lt i (e.interrupts + first_interrupt_place)
 
 -- the side of a number below 16 that isn't banked: NMI and BusFault follow BFHFNMINS, SecureFault is Secure
 abbrev pub system_side : ExceptionsValue → ℕ → Side
@@ -74,7 +97,7 @@ system_side e n = if (n == nmi || n == bus_fault) && e.bfhfnmins then NonSecure 
 
 -- the side of the slot at a place
 abbrev pub side_at : ExceptionsValue → ℕ → Side
-side_at e i = if nat_lt i 32 then (if i % 2 == 1 then NonSecure else system_side e (i / 2)) else (at e i).target
+side_at e i = if nat_lt i first_interrupt_place then (if i % 2 == 1 then NonSecure else system_side e (i / 2)) else (at e i).target
 
 -- the slot at a place
 abbrev pub slot_at : ExceptionsValue → ℕ → Slot

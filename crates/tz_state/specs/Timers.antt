@@ -2,7 +2,7 @@
 use Rattle.std.specs.Prelude.{ℕ, ◌-◌, ◌/◌, ◌%◌, ◌^◌, ◌==◌, Bool, ◌&&◌, ◌||◌, if◌then◌else◌, bit_or}
 use Rattle.tz_state.specs.declared.slot.Timer.{Timer}
 use Rattle.tz_state.specs.SysTickBits.{syst_csr_tickint, syst_csr_countflag}
-use Rattle.tz_state.specs.Slots.{ExceptionsValue, at, with_slot}
+use Rattle.tz_state.specs.Slots.{ExceptionsValue, at, sys_tick_place_s, sys_tick_place_ns, with_slot}
 
 -- SYST_CSR.ENABLE
 abbrev pub counts : Timer → Bool
@@ -29,10 +29,10 @@ abbrev pub pended_by : Timer → ℕ → ExceptionsValue → ExceptionsValue
 pended_by t i e = with_slot e i (record (at e i) { pending = (at e i).pending || (runs_out t && interrupts t) })
 
 abbrev pub ticked_s : ExceptionsValue → ExceptionsValue
-ticked_s e = record (pended_by e.timer_s 30 e) { timer_s = counted_down e.timer_s }
+ticked_s e = record (pended_by e.timer_s sys_tick_place_s e) { timer_s = counted_down e.timer_s }
 
 abbrev pub ticked_ns : ExceptionsValue → ExceptionsValue
-ticked_ns e = record (pended_by e.timer_ns 31 e) { timer_ns = counted_down e.timer_ns }
+ticked_ns e = record (pended_by e.timer_ns sys_tick_place_ns e) { timer_ns = counted_down e.timer_ns }
 
 -- each side's timer counts once
 abbrev pub ticked : ExceptionsValue → ExceptionsValue

@@ -5,6 +5,7 @@ use Rattle.tz_table.specs.declared.units.Side.{Side}
 use Rattle.tz_table.specs.declared.units.Side.TheVariants.{Secure, NonSecure}
 use Rattle.tz_table.specs.declared.units.Size.{Size}
 use Rattle.tz_table.specs.declared.units.Size.TheVariants.{Byte, Half, Word}
+use Rattle.tz_model.specs.AddressMap.{scs_first, scs_last, scs_ns_first, scs_ns_last}
 use Rattle.tz_model.specs.Board.{within}
 use Rattle.tz_state.specs.declared.register.ViewedRegister.{ViewedRegister}
 use Rattle.tz_state.specs.declared.register.Narrow.{Narrow}
@@ -30,12 +31,12 @@ in_window base a = register_at ((a - base) / 4 * 4)
 
 -- the alias gives Secure code the Non-secure view, and nothing to Non-secure code
 abbrev pub alias_found : Side → ℕ → Option ViewedRegister
-alias_found Secure a = if within 0xE002E000 0xE002EFFF a then found_by NonSecure (in_window 0xE002E000 a) else None
+alias_found Secure a = if within scs_ns_first scs_ns_last a then found_by NonSecure (in_window scs_ns_first a) else None
 alias_found NonSecure a = None
 
 -- what an access by code of a side finds at an address: in the system control space its own view
 abbrev pub found_at : Side → ℕ → Option ViewedRegister
-found_at side a = if within 0xE000E000 0xE000EFFF a then found_by side (in_window 0xE000E000 a) else alias_found side a
+found_at side a = if within scs_first scs_last a then found_by side (in_window scs_first a) else alias_found side a
 
 -- ---- sizes
 

@@ -9,5 +9,5 @@ returns-then-within-4 c = first_of (assumption, search (tests, rules), grind (ar
 pub returns-else-within-4 : goal.returns-else-within-4
 returns-else-within-4 c = first_of (assumption, search (tests, rules), grind (arith, common_steps), grind (arith, elements))
 
-pub returns-else-addr-ge3758096384 : goal.returns-else-addr-ge3758096384
-returns-else-addr-ge3758096384 c = first_of (assumption, search (tests, rules), grind (arith, common_steps), grind (arith, elements))
+pub returns-else-addr-ge-PRIVATE_FIRST : goal.returns-else-addr-ge-PRIVATE_FIRST
+returns-else-addr-ge-PRIVATE_FIRST c = first_of (assumption, search (tests, rules), grind (arith, common_steps), grind (arith, elements))
