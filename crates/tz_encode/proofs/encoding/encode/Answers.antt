@@ -9,12 +9,12 @@ use Rattle.std.proofs.lemmas.Grind.{common_steps, elements}
 pub returns-in-Ok-clause-encoded : goal.returns-in-Ok-clause-encoded
 returns-in-Ok-clause-encoded c =
     let found = c.in-Ok.ensures c.args.insn.now c.values.ensures in
-    subst (λ z. EncodedIn rows c.args.width c.args.insn.now (Ok z)) (sym c.code.ensures) (encoded_code c.args.width c.args.insn.now c.in-Ok.halves found)
+    subst (λ z. EncodedIn rows c.args.width c.args.insn.now (Ok z)) (sym c.code_of_halves.ensures) (encoded_code c.args.width c.args.insn.now c.in-Ok.halves found)
 
 pub returns-in-Ok-clause-again : goal.returns-in-Ok-clause-again
 returns-in-Ok-clause-again c =
     let found = c.in-Ok.ensures c.args.insn.now c.values.ensures in
-    ap meaning_of c.code.ensures ∙ again c.args.width c.args.insn.now c.in-Ok.halves found
+    ap meaning_of c.code_of_halves.ensures ∙ again c.args.width c.args.insn.now c.in-Ok.halves found
 
 -- What the tactics try, by name: a body that is refused is then told without a search for what to offer.
 pub returns-in-Err-clause-encoded : goal.returns-in-Err-clause-encoded
