@@ -7,7 +7,7 @@ ghost use Rattle.tz_cli.specs.Commands.{Asm, longest};
 ghost use Rattle.tz_cli.specs.Told.{image_bytes};
 ghost use Rattle.tz_cli.specs.Answer.{Answer};
 
-use crate::files::{load_assembled, names_of_asm};
+use crate::files::load_assembled;
 use crate::lines::{refuse, refuse_fault};
 use crate::words::{AsmWords, Form};
 use std::alloc::{AllocError, Global};
@@ -92,7 +92,7 @@ pub fn asm_files<H: Shelf, O: Sink, E: Sink>(
 {
     let image = match load_assembled(alloc, shelf, words) {
         Ok(image) => image,
-        Err(fault) => return refuse_fault(alloc, &names_of_asm(words), fault, err),
+        Err(fault) => return refuse_fault(alloc, fault, err),
     };
     let Ok(file) = file_of(alloc, words.form, &image) else {
         return refuse(err, b"no memory\n", 7);

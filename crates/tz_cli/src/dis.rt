@@ -5,7 +5,7 @@ ghost use Rattle.tz_cli.specs.Dis.{dis_in, dis_names};
 ghost use Rattle.tz_cli.specs.Commands.{Dis, longest};
 ghost use Rattle.tz_cli.specs.Answer.{Answer};
 
-use crate::files::{load_listed, names_of_dis};
+use crate::files::load_listed;
 use crate::lines::refuse_fault;
 use crate::words::DisWords;
 use std::alloc::Global;
@@ -38,7 +38,7 @@ pub fn dis_files<H: Shelf, O: Sink, E: Sink>(
 {
     let image = match load_listed(alloc, shelf, words) {
         Ok(image) => image,
-        Err(fault) => return refuse_fault(alloc, &names_of_dis(words), fault, err),
+        Err(fault) => return refuse_fault(alloc, fault, err),
     };
     match disassemble(image, out) {
         Ok(()) => 0,

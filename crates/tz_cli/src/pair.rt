@@ -10,7 +10,7 @@ ghost use Rattle.tz_cli.specs.Answer.{Answer, IsTold};
 ghost use Rattle.tz_cli.specs.Faults.{pair_start_in};
 
 use crate::comparison::pair_run;
-use crate::files::{PairFiles, load_pair, names_of_pair};
+use crate::files::{PairFiles, load_pair};
 use crate::lines::{refuse, refuse_fault};
 use crate::run::STEP_LIMIT;
 use crate::words::PairWords;
@@ -77,7 +77,7 @@ pub fn pair_files<H: Shelf, O: Sink, E: Sink>(
     }
     let files = match load_pair(alloc, shelf, words) {
         Ok(files) => files,
-        Err(fault) => return refuse_fault(alloc, &names_of_pair(words), fault, err),
+        Err(fault) => return refuse_fault(alloc, fault, err),
     };
     match pair_started(alloc, &files, words, out) {
         Ok(status) => status,

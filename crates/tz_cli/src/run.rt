@@ -8,7 +8,7 @@ ghost use Rattle.tz_cli.specs.Told.{trace_of};
 ghost use Rattle.tz_cli.specs.Answer.{Answer, IsTold};
 ghost use Rattle.tz_cli.specs.Faults.{start_in};
 
-use crate::files::{Files, load, names_of_run};
+use crate::files::{Files, load};
 use crate::lines::{refuse, refuse_fault};
 use crate::words::RunWords;
 use std::alloc::{AllocError, Global};
@@ -69,7 +69,7 @@ pub fn run_files<H: Shelf, O: Sink, E: Sink>(
     }
     let files = match load(alloc, shelf, words) {
         Ok(files) => files,
-        Err(fault) => return refuse_fault(alloc, &names_of_run(words), fault, err),
+        Err(fault) => return refuse_fault(alloc, fault, err),
     };
     match run_started(alloc, &files, words, out) {
         Ok(status) => status,

@@ -7,9 +7,7 @@ use Rattle.tz_cli.proofs.files.load_listed.Goals as goal
 
 pub returns-in-Err-clause-err : goal.returns-in-Err-clause-err
 returns-in-Err-clause-err g c =
-    listed_board_fault _ _ (dis_in c.args.words.now) _ c.in-Err.fault c.names_of_dis-names.ensures
-    (record { held = refl; sound = refl; before = omega arith; now = omega arith })
-    c.in-Err.ensures.named c.in-Err.ensures.err
+    listed_board_fault _ _ (dis_in c.args.words.now) c.in-Err.fault (record { held = refl; sound = refl; before = omega arith; now = omega arith }) c.in-Err.ensures.err
 
 pub returns-clause-err : goal.returns-clause-err
 returns-clause-err g c =
@@ -18,4 +16,4 @@ returns-clause-err g c =
     let at : Shelved =
     record { held = g.H.Shelf.held c.load_board.new.shelf; sound = g.H.Shelf.sound c.load_board.new.shelf; before = g.H.Shelf.faults c.load_board.new.shelf; now = g.H.Shelf.faults c.load_image.new.shelf } in
     let within : Within shelf at = record { held = c.in-Ok.ensures.held; sound = c.in-Ok.ensures.sound; before = c.in-Ok.ensures.later; now = omega arith } in
-    listed_fault shelf at (dis_in c.args.words.now) _ c.in-Err-load_image.fault c.names_of_dis-names.ensures within c.in-Ok.board c.in-Ok.ensures.ok c.in-Err-load_image.ensures.err
+    listed_fault shelf at (dis_in c.args.words.now) c.in-Err-load_image.fault within c.in-Ok.board c.in-Ok.ensures.ok c.in-Err-load_image.ensures.err
