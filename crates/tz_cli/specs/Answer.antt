@@ -1,7 +1,7 @@
 -- The answers of a call with what the outside had before and after it.
 use Rattle.std.specs.Prelude.{◌≡◌, ◌⊎◌, ℕ, ◌+◌, ◌≤◌, Bool, List, [], ◌++◌, length, codes, Option, Some, None, IsTrue, IfSome}
 use Rattle.tz_model.specs.Outside.{Held, Absent, Rose, Gains}
-use Rattle.tz_cli.specs.Commands.{Command, command_of, longest}
+use Rattle.tz_cli.specs.Commands.{Command, command_of, longest, names_of}
 use Rattle.tz_cli.specs.Told.{Stop, BadWords, TooManySteps, Unread, TooLong, BadBoard, BadImage, BadScript, BadSource, Told, Unknown, Stops, Gives, Task, told, IsDone}
 use Rattle.tz_cli.specs.Reads.{Reading, Form, reads_of, IsOneOf, TellsOf}
 use Rattle.tz_cli.specs.Lines.{stop_line, status_of, unread_line}
@@ -85,6 +85,39 @@ pub record Call : Type 0 where
   pub err_before : ℕ
   pub err_now : ℕ
 
+-- what a shelf tells, with its counts before and after a call
+abbrev pub shelved : {S : Type 0} → (S → List ℕ → Held) → (S → Bool) → (S → ℕ) → S → S → Shelved
+shelved held sound faults old new = record { held = held old; sound = sound old; before = faults old; now = faults new }
+
+-- what a sink tells before and after a call
+pub record Sunk : Type 0 where
+  pub old : Option (List ℕ)
+  pub new : Option (List ℕ)
+  pub space : Option ℕ
+  pub before : ℕ
+  pub now : ℕ
+
+abbrev pub sunk : {S : Type 0} → (S → Option (List ℕ)) → (S → Option ℕ) → (S → ℕ) → S → S → Sunk
+sunk written space faults old new = record { old = written old; new = written new; space = space old; before = faults old; now = faults new }
+
+-- a call over a shelf and two sinks
+abbrev pub call_over : Option Command → ℕ → Shelved → Sunk → Sunk → Call
+call_over command room shelf out err = record {
+  command = command;
+  room = room;
+  shelf = shelf;
+  out_old = out.old;
+  out_new = out.new;
+  out_space = out.space;
+  out_before = out.before;
+  out_now = out.now;
+  err_old = err.old;
+  err_new = err.new;
+  err_space = err.space;
+  err_before = err.before;
+  err_now = err.now;
+}
+
 abbrev pub told_of : Call → Told Task
 told_of c = told c.shelf.held c.command
 
@@ -118,6 +151,10 @@ pub data Answer (c : Call) (result : ℕ) : Type 0 where
   -- the line can't be written
   Silent : (line : List ℕ) → result ≡ 4 → IsLine c.command c.shelf line → GainsFront c.err_old c.err_new line → Gains c.out_old c.out_new [] → Rose c.err_before c.err_now
       → Exceeds c.err_space c.room → Answer c result
+
+-- the answer of a command, with room for a line of each of its names
+abbrev pub CommandAnswer : Command → Shelved → Sunk → Sunk → ℕ → Type 0
+CommandAnswer command shelf out err result = Answer (call_over (Some command) (64 + longest (names_of command)) shelf out err) result
 
 -- ---- the words of the public clauses
 

@@ -7,7 +7,7 @@ ghost use Rattle.tz_cli.specs.Dis.{dis_in};
 ghost use Rattle.tz_cli.specs.Pair.{pair_in};
 ghost use Rattle.tz_cli.specs.Told.{file_with, board_told, image_told, script_told, source_told, start_told, pair_start_told, listed_told};
 ghost use Rattle.tz_cli.specs.Reads.{Form, AsImage, AsSource, IsOneOf, run_reads, pair_reads, dis_reads};
-ghost use Rattle.tz_cli.specs.Answer.{Allows};
+ghost use Rattle.tz_cli.specs.Answer.{Allows, shelved};
 ghost use Rattle.tz_cli.specs.Faults.{IsFile, IsBoardFile, IsScriptFile, IsFault, start_in, pair_start_in};
 
 use crate::stops::LoadError;
@@ -59,7 +59,7 @@ fn read<'a, H: Shelf>(
     requires { limit < 2 ^ 31 }
     ensures ok { IfOk result (λ v. Allows (file_with name.now limit (H.held shelf.old name.now)) v.items) }
     ensures short { IfOk result (λ v. length v.items ≤ limit) }
-    ensures err { (form : Form) → IfErr result (λ e. IsFault (record { held = H.held shelf.old; sound = H.sound shelf.old; before = H.faults shelf.old; now = H.faults shelf.new }) (IsFile name.now form) (file_with name.now limit (H.held shelf.old name.now)) e) }
+    ensures err { (form : Form) → IfErr result (λ e. IsFault (shelved H.held H.sound H.faults shelf.old shelf.new) (IsFile name.now form) (file_with name.now limit (H.held shelf.old name.now)) e) }
     ensures later { H.faults shelf.old ≤ H.faults shelf.new }
     ensures sound { H.sound shelf.new ≡ H.sound shelf.old }
     ensures held { H.held shelf.new ≡ H.held shelf.old }
@@ -81,7 +81,7 @@ fn load_board<'a, H: Shelf>(
     name: &'a str,
 ) -> Result<Board, LoadError<'a>>
     ensures ok { IfOk result (λ b. Allows (board_told (H.held shelf.old) name.now) b) }
-    ensures err { IfErr result (λ e. IsFault (record { held = H.held shelf.old; sound = H.sound shelf.old; before = H.faults shelf.old; now = H.faults shelf.new }) (IsBoardFile name.now) (board_told (H.held shelf.old) name.now) e) }
+    ensures err { IfErr result (λ e. IsFault (shelved H.held H.sound H.faults shelf.old shelf.new) (IsBoardFile name.now) (board_told (H.held shelf.old) name.now) e) }
     ensures later { H.faults shelf.old ≤ H.faults shelf.new }
     ensures sound { H.sound shelf.new ≡ H.sound shelf.old }
     ensures held { H.held shelf.new ≡ H.held shelf.old }
@@ -112,7 +112,7 @@ fn load_image<'a, H: Shelf>(
     side: Side,
 ) -> Result<Image, LoadError<'a>>
     ensures ok { IfOk result (λ i. Allows (image_told (H.held shelf.old) board.now side name.now) i) }
-    ensures err { IfErr result (λ e. IsFault (record { held = H.held shelf.old; sound = H.sound shelf.old; before = H.faults shelf.old; now = H.faults shelf.new }) (IsFile name.now AsImage) (image_told (H.held shelf.old) board.now side name.now) e) }
+    ensures err { IfErr result (λ e. IsFault (shelved H.held H.sound H.faults shelf.old shelf.new) (IsFile name.now AsImage) (image_told (H.held shelf.old) board.now side name.now) e) }
     ensures later { H.faults shelf.old ≤ H.faults shelf.new }
     ensures sound { H.sound shelf.new ≡ H.sound shelf.old }
     ensures held { H.held shelf.new ≡ H.held shelf.old }
@@ -136,7 +136,7 @@ fn load_script<'a, H: Shelf>(
     interrupts: u16,
 ) -> Result<Script, LoadError<'a>>
     ensures ok { IfOk result (λ s. Allows (script_told (H.held shelf.old) interrupts name.now) s) }
-    ensures err { IfErr result (λ e. IsFault (record { held = H.held shelf.old; sound = H.sound shelf.old; before = H.faults shelf.old; now = H.faults shelf.new }) (IsScriptFile name.now) (script_told (H.held shelf.old) interrupts name.now) e) }
+    ensures err { IfErr result (λ e. IsFault (shelved H.held H.sound H.faults shelf.old shelf.new) (IsScriptFile name.now) (script_told (H.held shelf.old) interrupts name.now) e) }
     ensures later { H.faults shelf.old ≤ H.faults shelf.new }
 {
     if name == "@none" {
@@ -162,7 +162,7 @@ pub fn load<'a, H: Shelf>(
     words: &RunWords<'a>,
 ) -> Result<Files, LoadError<'a>>
     ensures ok { IfOk result (λ f. Allows (start_told (H.held shelf.old) (run_in words.now)) (start_in f)) }
-    ensures err { IfErr result (λ e. IsFault (record { held = H.held shelf.old; sound = H.sound shelf.old; before = H.faults shelf.old; now = H.faults shelf.new }) (IsOneOf (run_reads (H.held shelf.old) (run_in words.now))) (start_told (H.held shelf.old) (run_in words.now)) e) }
+    ensures err { IfErr result (λ e. IsFault (shelved H.held H.sound H.faults shelf.old shelf.new) (IsOneOf (run_reads (H.held shelf.old) (run_in words.now))) (start_told (H.held shelf.old) (run_in words.now)) e) }
     ensures later { H.faults shelf.old ≤ H.faults shelf.new }
 {
     let board = match load_board(alloc, shelf, words.board) {
@@ -195,7 +195,7 @@ pub fn load_pair<'a, H: Shelf>(
     words: &PairWords<'a>,
 ) -> Result<PairFiles, LoadError<'a>>
     ensures ok { IfOk result (λ f. Allows (pair_start_told (H.held shelf.old) (pair_in words.now)) (pair_start_in f)) }
-    ensures err { IfErr result (λ e. IsFault (record { held = H.held shelf.old; sound = H.sound shelf.old; before = H.faults shelf.old; now = H.faults shelf.new }) (IsOneOf (pair_reads (H.held shelf.old) (pair_in words.now))) (pair_start_told (H.held shelf.old) (pair_in words.now)) e) }
+    ensures err { IfErr result (λ e. IsFault (shelved H.held H.sound H.faults shelf.old shelf.new) (IsOneOf (pair_reads (H.held shelf.old) (pair_in words.now))) (pair_start_told (H.held shelf.old) (pair_in words.now)) e) }
     ensures later { H.faults shelf.old ≤ H.faults shelf.new }
 {
     let board = match load_board(alloc, shelf, words.board) {
@@ -233,7 +233,7 @@ pub fn load_listed<'a, H: Shelf>(
     words: &DisWords<'a>,
 ) -> Result<Image, LoadError<'a>>
     ensures ok { IfOk result (λ i. Allows (listed_told (H.held shelf.old) (dis_in words.now)) i) }
-    ensures err { IfErr result (λ e. IsFault (record { held = H.held shelf.old; sound = H.sound shelf.old; before = H.faults shelf.old; now = H.faults shelf.new }) (IsOneOf (dis_reads (H.held shelf.old) (dis_in words.now))) (listed_told (H.held shelf.old) (dis_in words.now)) e) }
+    ensures err { IfErr result (λ e. IsFault (shelved H.held H.sound H.faults shelf.old shelf.new) (IsOneOf (dis_reads (H.held shelf.old) (dis_in words.now))) (listed_told (H.held shelf.old) (dis_in words.now)) e) }
     ensures later { H.faults shelf.old ≤ H.faults shelf.new }
 {
     let board = match load_board(alloc, shelf, words.board) {
@@ -255,7 +255,7 @@ pub fn load_assembled<'a, H: Shelf>(
 ) -> Result<Image, LoadError<'a>>
     ensures ok { IfOk result (λ i. Allows (source_told (H.held shelf.old) (asm_in words.now).source) i.segments) }
     ensures few { IfOk result (λ i. length i.segments < 65536) }
-    ensures err { IfErr result (λ e. IsFault (record { held = H.held shelf.old; sound = H.sound shelf.old; before = H.faults shelf.old; now = H.faults shelf.new }) (IsFile (asm_in words.now).source AsSource) (source_told (H.held shelf.old) (asm_in words.now).source) e) }
+    ensures err { IfErr result (λ e. IsFault (shelved H.held H.sound H.faults shelf.old shelf.new) (IsFile (asm_in words.now).source AsSource) (source_told (H.held shelf.old) (asm_in words.now).source) e) }
     ensures later { H.faults shelf.old ≤ H.faults shelf.new }
 {
     let bytes = match read(alloc, shelf, words.source, SOURCE_LIMIT) {
