@@ -197,7 +197,7 @@ module _ {A : Type 0} (c : Call) (IsRead : Reading → Type 0) (t : Told A) (loa
 -- ---- tasks
 
 -- a sink has one error
-pub failed_alone : (error : SinkError) → ◌≡◌ {A = Result Unit SinkError} (Err error) (Err Failed)
+pub failed_alone : {T : Type 0} (error : SinkError) → ◌≡◌ {A = Result T SinkError} (Err error) (Err Failed)
 failed_alone Failed = refl
 
 unfit : (space : Option ℕ) (n : ℕ) (error : SinkError) → IfSome space (λ room. n ≤ room → IsOk {T = Unit {0}} (Err error)) → Exceeds space n
