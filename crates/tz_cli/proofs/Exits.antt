@@ -40,21 +40,21 @@ exceeds_more (Some room) n m l h = λ fits. h (omega arith)
 
 -- the line is written with its status, or it can't be
 abbrev pub IsRefused : Call → ℕ → List ℕ → ℕ → Type 0
-IsRefused c result line status = IsTold result line status c.err_old c.err_new c.err_space c.err_before c.err_now
+IsRefused c result line status = IsTold result line status c.err.old c.err.new c.err.space c.err.before c.err.now
 
-silent : (c : Call) (result : ℕ) (line : List ℕ) → IsLine c.command c.shelf line → Gains c.out_old c.out_new [] → length line ≤ c.room
-    → (result ≡ 4) × Rose c.err_before c.err_now × Exceeds c.err_space (length line) × GainsFront c.err_old c.err_new line → Answer c result
-silent c result line says quiet short h = Silent line h.0 says h.3 quiet h.1 (exceeds_more c.err_space (length line) c.room short h.2)
+silent : (c : Call) (result : ℕ) (line : List ℕ) → IsLine c.command c.shelf line → Gains c.out.old c.out.new [] → length line ≤ c.room
+    → (result ≡ 4) × Rose c.err.before c.err.now × Exceeds c.err.space (length line) × GainsFront c.err.old c.err.new line → Answer c result
+silent c result line says quiet short h = Silent line h.0 says h.3 quiet h.1 (exceeds_more c.err.space (length line) c.room short h.2)
 
-pub answer_stop : (c : Call) (result : ℕ) (stop : Stop) → IsCaused c.command c.shelf stop → Gains c.out_old c.out_new [] → length (stop_line stop) ≤ c.room
+pub answer_stop : (c : Call) (result : ℕ) (stop : Stop) → IsCaused c.command c.shelf stop → Gains c.out.old c.out.new [] → length (stop_line stop) ≤ c.room
     → IsRefused c result (stop_line stop) (status_of stop) → Answer c result
 answer_stop c result stop caused quiet short (inl h) = Stopped stop h.0 caused quiet h.1
 answer_stop c result stop caused quiet short (inr h) = silent c result (stop_line stop) (inr (stop, refl, caused)) quiet short h
 
-pub answer_words : (c : Call) (result : ℕ) → c.command ≡ None → Gains c.out_old c.out_new [] → 64 ≤ c.room → IsRefused c result (codes "usage\n") 2 → Answer c result
+pub answer_words : (c : Call) (result : ℕ) → c.command ≡ None → Gains c.out.old c.out.new [] → 64 ≤ c.room → IsRefused c result (codes "usage\n") 2 → Answer c result
 answer_words c result e quiet short h = answer_stop c result BadWords e quiet (omega arith) h
 
-pub answer_memory : (c : Call) (result : ℕ) → Gains c.out_old c.out_new [] → 64 ≤ c.room → IsRefused c result (codes "no memory\n") 7 → Answer c result
+pub answer_memory : (c : Call) (result : ℕ) → Gains c.out.old c.out.new [] → 64 ≤ c.room → IsRefused c result (codes "no memory\n") 7 → Answer c result
 answer_memory c result quiet short (inl h) = Wanting h.0 quiet h.1
 answer_memory c result quiet short (inr h) = silent c result (codes "no memory\n") (inl refl) quiet (omega arith) h
 
@@ -66,7 +66,7 @@ answer_wider c room result l (Done task e done told out err) = Done task e done 
 answer_wider c room result l (Broken task e told out rose full err) = Broken task e told out rose full err
 answer_wider c room result l (Stopped stop e caused out err) = Stopped stop e caused out err
 answer_wider c room result l (Wanting e out err) = Wanting e out err
-answer_wider c room result l (Silent line e says front out rose full) = Silent line e says front out rose (exceeds_more c.err_space c.room room l full)
+answer_wider c room result l (Silent line e says front out rose full) = Silent line e says front out rose (exceeds_more c.err.space c.room room l full)
 
 -- the answer of a command is that of the words that say it
 pub answer_command : (c : Call) (result : ℕ) (words : List (List ℕ)) (command : Command) → c.command ≡ command_of words → c.room ≡ 64 + longest words → command_of words ≡ Some command
@@ -118,12 +118,12 @@ steps_settled : (s : Shelved) (r : RunWords) → step_limit < r.steps → IsSett
 steps_settled s r l =
     (then_stop (job_told s.held r) _ TooManySteps (many_cond (λ (t : Told Job). AllowsStop t TooManySteps) (nat_lt step_limit r.steps) (Stops TooManySteps) _ (past step_limit r.steps l) refl), tt)
 
-answer_settled : (c : Call) (result : ℕ) (command : Command) → c.command ≡ Some command → IsSettled (Some command) c.shelf TooManySteps → Gains c.out_old c.out_new [] → 64 ≤ c.room
+answer_settled : (c : Call) (result : ℕ) (command : Command) → c.command ≡ Some command → IsSettled (Some command) c.shelf TooManySteps → Gains c.out.old c.out.new [] → 64 ≤ c.room
     → IsRefused c result (codes "limit steps\n") 6 → Answer c result
 answer_settled c result command e settled quiet short h =
     answer_stop c result TooManySteps (subst (λ (o : Option Command). IsSettled o c.shelf TooManySteps) (sym e) settled) quiet (omega arith) h
 
-pub answer_steps : (c : Call) (result : ℕ) (r : RunWords) → c.command ≡ Some (Run r) → step_limit < r.steps → Gains c.out_old c.out_new [] → 64 ≤ c.room
+pub answer_steps : (c : Call) (result : ℕ) (r : RunWords) → c.command ≡ Some (Run r) → step_limit < r.steps → Gains c.out.old c.out.new [] → 64 ≤ c.room
     → IsRefused c result (codes "limit steps\n") 6 → Answer c result
 answer_steps c result r e l quiet short h = answer_settled c result (Run r) e (steps_settled c.shelf r l) quiet short h
 
@@ -144,13 +144,13 @@ caused c command stop e h = subst (λ (o : Option Command). IsCaused o c.shelf s
 module _ {A : Type 0} (c : Call) (IsRead : Reading → Type 0) (t : Told A) (loads : Loads c IsRead t) where
   answer_refusal : {E : Type 0} (result : ℕ) (stop : E → Stop) (o : Option E) → 64 ≤ c.room
       → ((x : E) → AllowsStop t (stop x) → IsCaused (Some loads.command) c.shelf (stop x)) → AllowsRefusal t stop o
-      → Gains c.out_old c.out_new [] → length (line_with (stop_with stop o)) ≤ c.room → IsRefused c result (line_with (stop_with stop o)) (status_with (stop_with stop o)) → Answer c result
+      → Gains c.out.old c.out.new [] → length (line_with (stop_with stop o)) ≤ c.room → IsRefused c result (line_with (stop_with stop o)) (status_with (stop_with stop o)) → Answer c result
   answer_refusal result stop None room is told quiet short h = answer_memory c result quiet room h
   answer_refusal result stop (Some refusal) room is told quiet short h =
       answer_stop c result (stop refusal) (caused c loads.command (stop refusal) loads.is (is refusal told)) quiet short h
 
   answer_fault : (result : ℕ) (fault : LoadError) → 64 ≤ c.room → IsFault c.shelf IsRead t fault
-      → Gains c.out_old c.out_new [] → length (line_with (stop_of fault)) ≤ c.room → IsRefused c result (line_with (stop_of fault)) (status_with (stop_of fault)) → Answer c result
+      → Gains c.out.old c.out.new [] → length (line_with (stop_of fault)) ≤ c.room → IsRefused c result (line_with (stop_of fault)) (status_with (stop_of fault)) → Answer c result
   answer_fault result (Unread name) room told quiet short h =
       answer_stop c result (stops.Unread name.now)
       (caused c loads.command (stops.Unread name.now) loads.is
@@ -184,7 +184,7 @@ module _ {A : Type 0} (c : Call) (IsRead : Reading → Type 0) (t : Told A) (loa
   name_fits Memory room told = omega arith
 
   -- its line was told, or that of want of memory
-  pub answer_told : (result : ℕ) (fault : LoadError) → 64 ≤ c.room → IsFault c.shelf IsRead t fault → Gains c.out_old c.out_new []
+  pub answer_told : (result : ℕ) (fault : LoadError) → 64 ≤ c.room → IsFault c.shelf IsRead t fault → Gains c.out.old c.out.new []
       → ((length (line_with (stop_of fault)) ≤ 64 + length (name_told fault)) × IsRefused c result (line_with (stop_of fault)) (status_with (stop_of fault)))
       ⊎ IsRefused c result (codes "no memory\n") 7
       → Answer c result
@@ -206,19 +206,19 @@ unfit (Some room) n error h = λ short. let ok = h short in cc
 
 -- a task that is put whole is done, and one that isn't is broken
 pub answer_put : (c : Call) (task : Task) (room : Option ℕ) → IsDone c.command task.status → Allows (told_of c) task
-    → Put c.out_old c.out_new c.out_space room task.text (Ok tt) → c.err_new ≡ c.err_old → Answer c task.status
+    → Put c.out.old c.out.new c.out.space room task.text (Ok tt) → c.err.new ≡ c.err.old → Answer c task.status
 answer_put c task room done allowed put same =
     Done task refl done allowed
-    (subst (λ (x : List ℕ). Gains c.out_old c.out_new x) put.whole put.written)
-    (subst (λ (x : Option (List ℕ)). Gains c.err_old x []) (sym same) (gains_nothing c.err_old))
+    (subst (λ (x : List ℕ). Gains c.out.old c.out.new x) put.whole put.written)
+    (subst (λ (x : Option (List ℕ)). Gains c.err.old x []) (sym same) (gains_nothing c.err.old))
 
 pub answer_cut : (c : Call) (task : Task) (room : Option ℕ) (error : SinkError) → Allows (told_of c) task
-    → Put c.out_old c.out_new c.out_space room task.text (Err error) → Rose c.out_before c.out_now → c.err_new ≡ c.err_old → Answer c 4
+    → Put c.out.old c.out.new c.out.space room task.text (Err error) → Rose c.out.before c.out.now → c.err.new ≡ c.err.old → Answer c 4
 answer_cut c task room error allowed put rose same =
     Broken task refl allowed
     (record { gained = put.gained; rest = put.front.0; front = put.front.1; gains = put.written }) rose
-    (unfit c.out_space (length task.text) error put.fits)
-    (subst (λ (x : Option (List ℕ)). Gains c.err_old x []) (sym same) (gains_nothing c.err_old))
+    (unfit c.out.space (length task.text) error put.fits)
+    (subst (λ (x : Option (List ℕ)). Gains c.err.old x []) (sym same) (gains_nothing c.err.old))
 
 -- a text that is put whole is told, and one that isn't is cut
 pub told_put : (old new : Option (List ℕ)) (space room : Option ℕ) (text : List ℕ) (before now : ℕ) → Put old new space room text (Ok tt) → IsTold 0 text 0 old new space before now
@@ -231,11 +231,11 @@ told_cut old new space room text before now error put rose =
 
 -- a task whose text is told is answered by its status
 pub answer_task : (c : Call) (result : ℕ) (task : Task) → IsDone c.command task.status → Allows (told_of c) task
-    → IsTold result task.text task.status c.out_old c.out_new c.out_space c.out_before c.out_now → c.err_new ≡ c.err_old → Answer c result
+    → IsTold result task.text task.status c.out.old c.out.new c.out.space c.out.before c.out.now → c.err.new ≡ c.err.old → Answer c result
 answer_task c result task done allowed (inl h) same =
-    Done task h.0 (subst (IsDone c.command) (sym h.0) done) allowed h.1 (subst (λ (x : Option (List ℕ)). Gains c.err_old x []) (sym same) (gains_nothing c.err_old))
+    Done task h.0 (subst (IsDone c.command) (sym h.0) done) allowed h.1 (subst (λ (x : Option (List ℕ)). Gains c.err.old x []) (sym same) (gains_nothing c.err.old))
 answer_task c result task done allowed (inr h) same =
-    Broken task h.0 allowed h.3 h.1 h.2 (subst (λ (x : Option (List ℕ)). Gains c.err_old x []) (sym same) (gains_nothing c.err_old))
+    Broken task h.0 allowed h.3 h.1 h.2 (subst (λ (x : Option (List ℕ)). Gains c.err.old x []) (sym same) (gains_nothing c.err.old))
 
 -- ---- the run
 
@@ -268,7 +268,7 @@ pair_steps_settled : (s : Shelved) (p : PairWords) → step_limit < p.steps → 
 pair_steps_settled s p l =
     (then_stop (pair_told s.held p) _ TooManySteps (many_cond (λ (t : Told PairJob). AllowsStop t TooManySteps) (nat_lt step_limit p.steps) (Stops TooManySteps) _ (past step_limit p.steps l) refl), tt)
 
-pub answer_pair_steps : (c : Call) (result : ℕ) (p : PairWords) → c.command ≡ Some (Pair p) → step_limit < p.steps → Gains c.out_old c.out_new [] → 64 ≤ c.room
+pub answer_pair_steps : (c : Call) (result : ℕ) (p : PairWords) → c.command ≡ Some (Pair p) → step_limit < p.steps → Gains c.out.old c.out.new [] → 64 ≤ c.room
     → IsRefused c result (codes "limit steps\n") 6 → Answer c result
 answer_pair_steps c result p e l quiet short h = answer_settled c result (Pair p) e (pair_steps_settled c.shelf p l) quiet short h
 

@@ -23,7 +23,7 @@ ghost use Rattle.tz_cli.specs.Commands.{Run, Pair, command_of};
 ghost use Rattle.tz_cli.specs.Told.{Stop, Job, Task, Stops, Gives, IsDone, told, job_told, trace_of, state_of, PairJob, pair_told, first_state, second_state};
 ghost use Rattle.tz_cli.specs.Reads.{reads_of};
 ghost use Rattle.tz_cli.specs.Lines.{stop_line, status_of};
-ghost use Rattle.tz_cli.specs.Answer.{Answer, call_over, shelved, sunk, CutsLine, Excused, GainsFront, IsRefusedBy, IsStatus, IsText, NamesUnread, line_room};
+ghost use Rattle.tz_cli.specs.Answer.{Answer, shelved, sunk, CutsLine, Excused, GainsFront, IsRefusedBy, IsStatus, IsText, NamesUnread, line_room};
 
 use crate::asm::asm_files;
 use crate::dis::dis_files;
@@ -110,8 +110,13 @@ fn answer<H: Shelf, O: Sink, E: Sink>(
     out: &mut O,
     err: &mut E,
 ) -> u8
-    ensures { Answer (call_over (command_of (map string_bytes words.now)) (line_room (map string_bytes words.now)) (shelved H.held H.sound H.faults shelf.old shelf.new)
-        (sunk O.written O.space O.faults out.old out.new) (sunk E.written E.space E.faults err.old err.new)) result }
+    ensures { Answer (record {
+      command = command_of (map string_bytes words.now);
+      room = line_room (map string_bytes words.now);
+      shelf = shelved H.held H.sound H.faults shelf.old shelf.new;
+      out = sunk O.written O.space O.faults out.old out.new;
+      err = sunk E.written E.space E.faults err.old err.new;
+    }) result }
 {
     let command = match command_words(alloc, words) {
         Ok(Some(command)) => command,
