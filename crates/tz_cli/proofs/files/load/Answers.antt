@@ -4,7 +4,7 @@ use Rattle.tz_table.specs.declared.units.Side.TheVariants.{Secure, NonSecure}
 use Rattle.tz_model.specs.Board.{BoardValue}
 use Rattle.tz_model.specs.Outside.{Held}
 use Rattle.tz_cli.specs.Run.{run_in}
-use Rattle.tz_cli.specs.Answer.{Shelved}
+use Rattle.tz_cli.specs.Answer.{Shelved, shelved}
 use Rattle.tz_cli.specs.Told.{Start, no_image, image_told, script_told}
 use Rattle.tz_cli.proofs.Stages.{Within, at_held, with_secure, with_nonsecure, with_script, board_fault, secure_fault, nonsecure_fault, script_fault}
 use Rattle.tz_cli.proofs.files.load.Goals as goal
@@ -16,9 +16,8 @@ returns-in-Err-clause-err g c =
 pub returns-in-Err-load_image-clause-err : goal.returns-in-Err-load_image-clause-err
 returns-in-Err-load_image-clause-err g c =
     let r = run_in c.args.words.now in
-    let held = g.H.Shelf.held c.args.shelf.now in
-    let shelf : Shelved = record { held = g.H.Shelf.held c.args.shelf.now; sound = g.H.Shelf.sound c.args.shelf.now; before = g.H.Shelf.faults c.args.shelf.now; now = g.H.Shelf.faults c.load_image.new.shelf } in
-    let at : Shelved = record { held = g.H.Shelf.held c.load_board.new.shelf; sound = g.H.Shelf.sound c.load_board.new.shelf; before = g.H.Shelf.faults c.load_board.new.shelf; now = g.H.Shelf.faults c.load_image.new.shelf } in
+    let shelf : Shelved = shelved g.H.Shelf.held g.H.Shelf.sound g.H.Shelf.faults c.args.shelf.now c.load_image.new.shelf in
+    let at : Shelved = shelved g.H.Shelf.held g.H.Shelf.sound g.H.Shelf.faults c.load_board.new.shelf c.load_image.new.shelf in
     let later_0 = c.in-Ok.ensures.later in
     let within : Within shelf at = record { held = c.in-Ok.ensures.held; sound = c.in-Ok.ensures.sound; before = omega (arith, later_0); now = omega arith } in
     let board = c.in-Ok.ensures.ok in
@@ -28,31 +27,31 @@ pub returns-in-Err-load_image-2-clause-err : goal.returns-in-Err-load_image-2-cl
 returns-in-Err-load_image-2-clause-err g c =
     let r = run_in c.args.words.now in
     let held = g.H.Shelf.held c.args.shelf.now in
-    let shelf : Shelved = record { held = g.H.Shelf.held c.args.shelf.now; sound = g.H.Shelf.sound c.args.shelf.now; before = g.H.Shelf.faults c.args.shelf.now; now = g.H.Shelf.faults c.load_image-2.new.shelf } in
-    let at : Shelved = record { held = g.H.Shelf.held c.load_image.new.shelf; sound = g.H.Shelf.sound c.load_image.new.shelf; before = g.H.Shelf.faults c.load_image.new.shelf; now = g.H.Shelf.faults c.load_image-2.new.shelf } in
+    let shelf : Shelved = shelved g.H.Shelf.held g.H.Shelf.sound g.H.Shelf.faults c.args.shelf.now c.load_image-2.new.shelf in
+    let at : Shelved = shelved g.H.Shelf.held g.H.Shelf.sound g.H.Shelf.faults c.load_image.new.shelf c.load_image-2.new.shelf in
     let later_0 = c.in-Ok.ensures.later in
     let later_1 = c.in-Ok-load_image.ensures.later in
     let within : Within shelf at = record { held = c.in-Ok-load_image.ensures.held ∙ c.in-Ok.ensures.held; sound = c.in-Ok-load_image.ensures.sound ∙ c.in-Ok.ensures.sound; before = omega (arith, later_0, later_1); now = omega arith } in
     let board = c.in-Ok.ensures.ok in
     let one : Start = record { board = c.in-Ok.board; secure = c.in-Ok-load_image.image; nonsecure = no_image; script = [] } in
-    let first = with_secure held r c.in-Ok.board c.in-Ok-load_image.image board (at_held (λ (h : List ℕ → Held). image_told h c.in-Ok.board Secure (run_in c.args.words.now).secure) c.in-Ok-load_image.image _ _ (c.in-Ok.ensures.held) c.in-Ok-load_image.ensures.ok) in
+    let first = with_secure held r c.in-Ok.board c.in-Ok-load_image.image board (at_held (λ (h : List ℕ → Held). image_told h c.in-Ok.board Secure r.secure) c.in-Ok-load_image.image _ _ c.in-Ok.ensures.held c.in-Ok-load_image.ensures.ok) in
     nonsecure_fault shelf at r c.in-Err-load_image-2.fault within one first c.in-Err-load_image-2.ensures.err
 
 pub returns-clause-err : goal.returns-clause-err
 returns-clause-err g c =
     let r = run_in c.args.words.now in
     let held = g.H.Shelf.held c.args.shelf.now in
-    let shelf : Shelved = record { held = g.H.Shelf.held c.args.shelf.now; sound = g.H.Shelf.sound c.args.shelf.now; before = g.H.Shelf.faults c.args.shelf.now; now = g.H.Shelf.faults c.load_script.new.shelf } in
-    let at : Shelved = record { held = g.H.Shelf.held c.load_image-2.new.shelf; sound = g.H.Shelf.sound c.load_image-2.new.shelf; before = g.H.Shelf.faults c.load_image-2.new.shelf; now = g.H.Shelf.faults c.load_script.new.shelf } in
+    let shelf : Shelved = shelved g.H.Shelf.held g.H.Shelf.sound g.H.Shelf.faults c.args.shelf.now c.load_script.new.shelf in
+    let at : Shelved = shelved g.H.Shelf.held g.H.Shelf.sound g.H.Shelf.faults c.load_image-2.new.shelf c.load_script.new.shelf in
     let later_0 = c.in-Ok.ensures.later in
     let later_1 = c.in-Ok-load_image.ensures.later in
     let later_2 = c.in-Ok-load_image-2.ensures.later in
     let within : Within shelf at = record { held = c.in-Ok-load_image-2.ensures.held ∙ (c.in-Ok-load_image.ensures.held ∙ c.in-Ok.ensures.held); sound = c.in-Ok-load_image-2.ensures.sound ∙ (c.in-Ok-load_image.ensures.sound ∙ c.in-Ok.ensures.sound); before = omega (arith, later_0, later_1, later_2); now = omega arith } in
     let board = c.in-Ok.ensures.ok in
     let one : Start = record { board = c.in-Ok.board; secure = c.in-Ok-load_image.image; nonsecure = no_image; script = [] } in
-    let first = with_secure held r c.in-Ok.board c.in-Ok-load_image.image board (at_held (λ (h : List ℕ → Held). image_told h c.in-Ok.board Secure (run_in c.args.words.now).secure) c.in-Ok-load_image.image _ _ (c.in-Ok.ensures.held) c.in-Ok-load_image.ensures.ok) in
+    let first = with_secure held r c.in-Ok.board c.in-Ok-load_image.image board (at_held (λ (h : List ℕ → Held). image_told h c.in-Ok.board Secure r.secure) c.in-Ok-load_image.image _ _ c.in-Ok.ensures.held c.in-Ok-load_image.ensures.ok) in
     let two : Start = record one { nonsecure = c.in-Ok-load_image-2.image } in
-    let second = with_nonsecure held r one c.in-Ok-load_image-2.image first (at_held (λ (h : List ℕ → Held). image_told h c.in-Ok.board NonSecure (run_in c.args.words.now).nonsecure) c.in-Ok-load_image-2.image _ _ (c.in-Ok-load_image.ensures.held ∙ c.in-Ok.ensures.held) c.in-Ok-load_image-2.ensures.ok) in
+    let second = with_nonsecure held r one c.in-Ok-load_image-2.image first (at_held (λ (h : List ℕ → Held). image_told h c.in-Ok.board NonSecure r.nonsecure) c.in-Ok-load_image-2.image _ _ (c.in-Ok-load_image.ensures.held ∙ c.in-Ok.ensures.held) c.in-Ok-load_image-2.ensures.ok) in
     let many : c.board.inside.interrupts ≡ c.in-Ok.board.interrupts = cc (ap (λ (b : BoardValue). b.interrupts) c.board.view_is) in
     script_fault shelf at r c.in-Err-load_script.fault within two second _ many c.in-Err-load_script.ensures.err
 
@@ -62,9 +61,9 @@ returns-in-Ok-load_script-clause-ok g c =
     let held = g.H.Shelf.held c.args.shelf.now in
     let board = c.in-Ok.ensures.ok in
     let one : Start = record { board = c.in-Ok.board; secure = c.in-Ok-load_image.image; nonsecure = no_image; script = [] } in
-    let first = with_secure held r c.in-Ok.board c.in-Ok-load_image.image board (at_held (λ (h : List ℕ → Held). image_told h c.in-Ok.board Secure (run_in c.args.words.now).secure) c.in-Ok-load_image.image _ _ (c.in-Ok.ensures.held) c.in-Ok-load_image.ensures.ok) in
+    let first = with_secure held r c.in-Ok.board c.in-Ok-load_image.image board (at_held (λ (h : List ℕ → Held). image_told h c.in-Ok.board Secure r.secure) c.in-Ok-load_image.image _ _ c.in-Ok.ensures.held c.in-Ok-load_image.ensures.ok) in
     let two : Start = record one { nonsecure = c.in-Ok-load_image-2.image } in
-    let second = with_nonsecure held r one c.in-Ok-load_image-2.image first (at_held (λ (h : List ℕ → Held). image_told h c.in-Ok.board NonSecure (run_in c.args.words.now).nonsecure) c.in-Ok-load_image-2.image _ _ (c.in-Ok-load_image.ensures.held ∙ c.in-Ok.ensures.held) c.in-Ok-load_image-2.ensures.ok) in
+    let second = with_nonsecure held r one c.in-Ok-load_image-2.image first (at_held (λ (h : List ℕ → Held). image_told h c.in-Ok.board NonSecure r.nonsecure) c.in-Ok-load_image-2.image _ _ (c.in-Ok-load_image.ensures.held ∙ c.in-Ok.ensures.held) c.in-Ok-load_image-2.ensures.ok) in
     let many : c.board.inside.interrupts ≡ c.in-Ok.board.interrupts = cc (ap (λ (b : BoardValue). b.interrupts) c.board.view_is) in
     with_script held r two c.in-Ok-load_script.script _ many second
-    (at_held (λ (h : List ℕ → Held). script_told h c.board.inside.interrupts (run_in c.args.words.now).script) c.in-Ok-load_script.script _ _ (c.in-Ok-load_image-2.ensures.held ∙ (c.in-Ok-load_image.ensures.held ∙ c.in-Ok.ensures.held)) c.in-Ok-load_script.ensures.ok)
+    (at_held (λ (h : List ℕ → Held). script_told h c.board.inside.interrupts r.script) c.in-Ok-load_script.script _ _ (c.in-Ok-load_image-2.ensures.held ∙ (c.in-Ok-load_image.ensures.held ∙ c.in-Ok.ensures.held)) c.in-Ok-load_script.ensures.ok)
