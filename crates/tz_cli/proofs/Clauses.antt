@@ -118,8 +118,8 @@ reads_some : (held : List ℕ → Held) (s : Shelved) (o : Option Command) (name
 reads_some held s None name h = absurd h.read
 reads_some held s (Some command) name h = (command, refl)
 
-unread_of_stop : (c : Call) (words : List (List ℕ)) (stop : Stop) → command_of words ≡ c.command → Cause c stop → status_of stop ≡ 3 → Gains c.err_old c.err_new (stop_line stop)
-    → NamesUnread words c.shelf.held c.shelf.sound c.shelf.before c.shelf.now c.err_old c.err_new
+unread_of_stop : (c : Call) (words : List (List ℕ)) (stop : Stop) → command_of words ≡ c.command → Cause c stop → status_of stop ≡ 3 → Gains c.err.old c.err.new (stop_line stop)
+    → NamesUnread words c.shelf.held c.shelf.sound c.shelf.before c.shelf.now c.err.old c.err.new
 unread_of_stop c words stop same (OfFile name e unread) is err =
     let some = reads_some c.shelf.held c.shelf c.command name unread in
     record {
@@ -127,19 +127,19 @@ unread_of_stop c words stop same (OfFile name e unread) is err =
       words_say = same ∙ some.1;
       name = name;
       unread = subst (λ (o : Option Command). IsUnread (reads_of c.shelf.held o) c.shelf name) some.1 unread;
-      line = subst (λ (s : Stop). Gains c.err_old c.err_new (stop_line s)) e err;
+      line = subst (λ (s : Stop). Gains c.err.old c.err.new (stop_line s)) e err;
     }
 unread_of_stop c words stop same (OfTold told read other) is err = absurd (other is)
 
 pub unread_only : (c : Call) (result : ℕ) (words : List (List ℕ)) → command_of words ≡ c.command → Answer c result → result ≡ 3
-    → NamesUnread words c.shelf.held c.shelf.sound c.shelf.before c.shelf.now c.err_old c.err_new
+    → NamesUnread words c.shelf.held c.shelf.sound c.shelf.before c.shelf.now c.err.old c.err.new
 unread_only c result words same (Done task e done told out err) is = let below = done_below c.command result done in absurd (omega arith)
 unread_only c result words same (Broken task e told out rose full err) is = absurd (cc)
 unread_only c result words same (Stopped stop e caused out err) is = unread_of_stop c words stop same (cause_of c stop caused) (sym e ∙ is) err
 unread_only c result words same (Wanting e out err) is = absurd (cc)
 unread_only c result words same (Silent line e says front out rose full) is = absurd (cc)
 
-pub unwritten_only : (c : Call) (result : ℕ) → Answer c result → result ≡ 4 → Rose c.out_before c.out_now ⊎ Rose c.err_before c.err_now
+pub unwritten_only : (c : Call) (result : ℕ) → Answer c result → result ≡ 4 → Rose c.out.before c.out.now ⊎ Rose c.err.before c.err.now
 unwritten_only c result (Done task e done told out err) is = let below = done_below c.command result done in absurd (omega arith)
 unwritten_only c result (Broken task e told out rose full err) is = inl rose
 unwritten_only c result (Stopped stop e caused out err) is = absurd (not_broken stop (sym e ∙ is))
@@ -147,9 +147,9 @@ unwritten_only c result (Wanting e out err) is = absurd (cc)
 unwritten_only c result (Silent line e says front out rose full) is = inr rose
 
 pub cut_only : (c : Call) (result : ℕ) (words : List (List ℕ)) → command_of words ≡ c.command → Answer c result → result ≡ 4
-    → (c.err_new ≡ c.err_old) ⊎ CutsLine words c.shelf.held c.shelf.sound c.shelf.before c.shelf.now c.err_before c.err_now c.err_old c.err_new
+    → (c.err.new ≡ c.err.old) ⊎ CutsLine words c.shelf.held c.shelf.sound c.shelf.before c.shelf.now c.err.before c.err.now c.err.old c.err.new
 cut_only c result words same (Done task e done told out err) is = let below = done_below c.command result done in absurd (omega arith)
-cut_only c result words same (Broken task e told out rose full err) is = inl (gains_same c.err_old c.err_new err)
+cut_only c result words same (Broken task e told out rose full err) is = inl (gains_same c.err.old c.err.new err)
 cut_only c result words same (Stopped stop e caused out err) is = absurd (not_broken stop (sym e ∙ is))
 cut_only c result words same (Wanting e out err) is = absurd (cc)
 cut_only c result words same (Silent line e says front out rose full) is =
@@ -159,8 +159,8 @@ cut_only c result words same (Silent line e says front out rose full) is =
 abbrev IsRefused : ℕ → Type 0
 IsRefused status = (status ≡ 5) ⊎ (status ≡ 6)
 
-refused_of_stop : (c : Call) (result : ℕ) (stop : Stop) → Cause c stop → result ≡ status_of stop → IsRefused result → Gains c.err_old c.err_new (stop_line stop)
-    → IsRefusedBy (told_of c) (reads_of c.shelf.held c.command) result c.err_old c.err_new
+refused_of_stop : (c : Call) (result : ℕ) (stop : Stop) → Cause c stop → result ≡ status_of stop → IsRefused result → Gains c.err.old c.err.new (stop_line stop)
+    → IsRefusedBy (told_of c) (reads_of c.shelf.held c.command) result c.err.old c.err.new
 refused_of_stop c result stop (OfFile name e unread) s (inl is) err = let three = ap status_of e in absurd (cc)
 refused_of_stop c result stop (OfFile name e unread) s (inr is) err = let three = ap status_of e in absurd (cc)
 refused_of_stop c result stop (OfTold told read other) s is err = record { stop = stop; status = s; settled = told; read = read; line = err }
@@ -169,14 +169,14 @@ not_refusal : (result : ℕ) → IsRefused result → (result ≡ 4 → ⊥) × 
 not_refusal result (inl is) = (λ e. cc, λ e. cc, λ l. omega arith)
 not_refusal result (inr is) = (λ e. cc, λ e. cc, λ l. omega arith)
 
-pub refused_only : (c : Call) (result : ℕ) → Answer c result → (result ≡ 5) ⊎ (result ≡ 6) → IsRefusedBy (told_of c) (reads_of c.shelf.held c.command) result c.err_old c.err_new
+pub refused_only : (c : Call) (result : ℕ) → Answer c result → (result ≡ 5) ⊎ (result ≡ 6) → IsRefusedBy (told_of c) (reads_of c.shelf.held c.command) result c.err.old c.err.new
 refused_only c result (Done task e done told out err) is = absurd ((not_refusal result is).2 (done_below c.command result done))
 refused_only c result (Broken task e told out rose full err) is = absurd ((not_refusal result is).0 e)
 refused_only c result (Stopped stop e caused out err) is = refused_of_stop c result stop (cause_of c stop caused) e is err
 refused_only c result (Wanting e out err) is = absurd ((not_refusal result is).1 e)
 refused_only c result (Silent line e says front out rose full) is = absurd ((not_refusal result is).0 e)
 
-pub memory_told : (c : Call) (result : ℕ) → Answer c result → result ≡ 7 → Gains c.err_old c.err_new (codes "no memory\n")
+pub memory_told : (c : Call) (result : ℕ) → Answer c result → result ≡ 7 → Gains c.err.old c.err.new (codes "no memory\n")
 memory_told c result (Done task e done told out err) is = let below = done_below c.command result done in absurd (omega arith)
 memory_told c result (Broken task e told out rose full err) is = absurd (cc)
 memory_told c result (Stopped stop e caused out err) is = absurd (not_wanting stop (sym e ∙ is))
@@ -185,16 +185,16 @@ memory_told c result (Silent line e says front out rose full) is = absurd (cc)
 
 -- ---- where the words and the shelf settle it
 
-stop_answers : (c : Call) (result : ℕ) (s stop : Stop) → Cause c s → result ≡ status_of s → Gains c.err_old c.err_new (stop_line s) → told_of c ≡ Stops stop
-    → ((result ≡ status_of stop) × Gains c.err_old c.err_new (stop_line stop)) ⊎ Excused result c.shelf.before c.shelf.now c.out_before c.out_now c.err_before c.err_now
+stop_answers : (c : Call) (result : ℕ) (s stop : Stop) → Cause c s → result ≡ status_of s → Gains c.err.old c.err.new (stop_line s) → told_of c ≡ Stops stop
+    → ((result ≡ status_of stop) × Gains c.err.old c.err.new (stop_line stop)) ⊎ Excused result c.shelf.before c.shelf.now c.out.before c.out.now c.err.before c.err.now
 stop_answers c result s stop (OfFile name e unread) r err is = inr (inl (r ∙ ap status_of e, unread.rose))
 stop_answers c result s stop (OfTold told read other) r err is =
     let same : s ≡ stop = sym (same_stop (told_of c) s stop told is) in
-    inl (r ∙ ap status_of same, subst (λ x. Gains c.err_old c.err_new (stop_line x)) same err)
+    inl (r ∙ ap status_of same, subst (λ x. Gains c.err.old c.err.new (stop_line x)) same err)
 
 -- a stop is the answer, or excused
 pub settled_stop : (c : Call) (result : ℕ) → Answer c result → (stop : Stop) → told_of c ≡ Stops stop
-    → ((result ≡ status_of stop) × Gains c.err_old c.err_new (stop_line stop)) ⊎ Excused result c.shelf.before c.shelf.now c.out_before c.out_now c.err_before c.err_now
+    → ((result ≡ status_of stop) × Gains c.err.old c.err.new (stop_line stop)) ⊎ Excused result c.shelf.before c.shelf.now c.out.before c.out.now c.err.before c.err.now
 settled_stop c result (Done task e done told out err) stop is = absurd (not_stopped (told_of c) task stop told is)
 settled_stop c result (Broken task e told out rose full err) stop is = inr (inr (inl (e, inl rose)))
 settled_stop c result (Stopped s e caused out err) stop is = stop_answers c result s stop (cause_of c s caused) e err is
@@ -202,13 +202,13 @@ settled_stop c result (Wanting e out err) stop is = inr (inr (inr e))
 settled_stop c result (Silent line e says front out rose full) stop is = inr (inr (inl (e, inr rose)))
 
 stop_of_task : (c : Call) (result : ℕ) (s : Stop) (task : Task) → Cause c s → result ≡ status_of s → told_of c ≡ Gives task
-    → (result ≡ task.status) ⊎ Excused result c.shelf.before c.shelf.now c.out_before c.out_now c.err_before c.err_now
+    → (result ≡ task.status) ⊎ Excused result c.shelf.before c.shelf.now c.out.before c.out.now c.err.before c.err.now
 stop_of_task c result s task (OfFile name e unread) r is = inr (inl (r ∙ ap status_of e, unread.rose))
 stop_of_task c result s task (OfTold told read other) r is = absurd (not_given (told_of c) s task told is)
 
 -- a task is done, or excused
 pub settled_task : (c : Call) (result : ℕ) → Answer c result → (task : Task) → told_of c ≡ Gives task
-    → (result ≡ task.status) ⊎ Excused result c.shelf.before c.shelf.now c.out_before c.out_now c.err_before c.err_now
+    → (result ≡ task.status) ⊎ Excused result c.shelf.before c.shelf.now c.out.before c.out.now c.err.before c.err.now
 settled_task c result (Done x e done told out err) task is = inl (e ∙ ap (λ (t : Task). t.status) (sym (same_task (told_of c) x task told is)))
 settled_task c result (Broken x e told out rose full err) task is = inr (inr (inl (e, inl rose)))
 settled_task c result (Stopped s e caused out err) task is = stop_of_task c result s task (cause_of c s caused) e is
@@ -220,8 +220,8 @@ pub record WasDone (c : Call) (result : ℕ) : Type 0 where
   pub task : Task
   pub status : result ≡ task.status
   pub told : Allows (told_of c) task
-  pub out : Gains c.out_old c.out_new task.text
-  pub err : Gains c.err_old c.err_new []
+  pub out : Gains c.out.old c.out.new task.text
+  pub err : Gains c.err.old c.err.new []
 
 was_done : (c : Call) (result : ℕ) → Answer c result → result < 2 → WasDone c result
 was_done c result (Done task e done told out err) is = record { task = task; status = e; told = told; out = out; err = err }
@@ -231,23 +231,23 @@ was_done c result (Wanting e out err) is = absurd (omega arith)
 was_done c result (Silent line e says front out rose full) is = absurd (omega arith)
 
 pub task_written : (c : Call) (result : ℕ) → Answer c result → result < 2 → (task : Task) → told_of c ≡ Gives task
-    → (result ≡ task.status) × Gains c.out_old c.out_new task.text
+    → (result ≡ task.status) × Gains c.out.old c.out.new task.text
 task_written c result a is task told =
     let d = was_done c result a is in
-    subst (λ (t : Task). (result ≡ t.status) × Gains c.out_old c.out_new t.text) (sym (same_task (told_of c) d.task task d.told told)) (d.status, d.out)
+    subst (λ (t : Task). (result ≡ t.status) × Gains c.out.old c.out.new t.text) (sym (same_task (told_of c) d.task task d.told told)) (d.status, d.out)
 
-pub nothing_told : (c : Call) (result : ℕ) → Answer c result → result < 2 → c.err_new ≡ c.err_old
-nothing_told c result a is = let d = was_done c result a is in gains_same c.err_old c.err_new d.err
+pub nothing_told : (c : Call) (result : ℕ) → Answer c result → result < 2 → c.err.new ≡ c.err.old
+nothing_told c result a is = let d = was_done c result a is in gains_same c.err.old c.err.new d.err
 
 pub no_stop : (c : Call) (result : ℕ) → Answer c result → result < 2 → (stop : Stop) → told_of c ≢ Stops stop
 no_stop c result a is stop told = let d = was_done c result a is in not_stopped (told_of c) d.task stop d.told told
 
-pub quiet_else : (c : Call) (result : ℕ) → Answer c result → (IsDone c.command result → ⊥) → result ≢ 4 → c.out_new ≡ c.out_old
+pub quiet_else : (c : Call) (result : ℕ) → Answer c result → (IsDone c.command result → ⊥) → result ≢ 4 → c.out.new ≡ c.out.old
 quiet_else c result (Done task e done told out err) never broken = absurd (never done)
 quiet_else c result (Broken task e told out rose full err) never broken = absurd (broken e)
-quiet_else c result (Stopped stop e caused out err) never broken = gains_same c.out_old c.out_new out
-quiet_else c result (Wanting e out err) never broken = gains_same c.out_old c.out_new out
-quiet_else c result (Silent line e says front out rose full) never broken = gains_same c.out_old c.out_new out
+quiet_else c result (Stopped stop e caused out err) never broken = gains_same c.out.old c.out.new out
+quiet_else c result (Wanting e out err) never broken = gains_same c.out.old c.out.new out
+quiet_else c result (Silent line e says front out rose full) never broken = gains_same c.out.old c.out.new out
 
 -- ---- the text
 
@@ -260,21 +260,21 @@ text_of_task (Gives x) task text h is = is ∙ ap (λ (t : Task). t.text) h
 front_of_none : (old new : Option (List ℕ)) (text : List ℕ) → Gains old new [] → GainsFront old new text
 front_of_none old new text h = record { gained = []; rest = text; front = refl; gains = h }
 
-pub front_written : (c : Call) (result : ℕ) → Answer c result → (text : List ℕ) → IsText (told_of c) text → GainsFront c.out_old c.out_new text
+pub front_written : (c : Call) (result : ℕ) → Answer c result → (text : List ℕ) → IsText (told_of c) text → GainsFront c.out.old c.out.new text
 front_written c result (Done task e done told out err) text is =
     let same = text_of_task (told_of c) task text told is in
-    record { gained = text; rest = []; front = append-nil text; gains = subst (λ (x : List ℕ). Gains c.out_old c.out_new x) (sym same) out }
+    record { gained = text; rest = []; front = append-nil text; gains = subst (λ (x : List ℕ). Gains c.out.old c.out.new x) (sym same) out }
 front_written c result (Broken task e told out rose full err) text is =
-    subst (λ (x : List ℕ). GainsFront c.out_old c.out_new x) (sym (text_of_task (told_of c) task text told is)) out
-front_written c result (Stopped stop e caused out err) text is = front_of_none c.out_old c.out_new text out
-front_written c result (Wanting e out err) text is = front_of_none c.out_old c.out_new text out
-front_written c result (Silent line e says front out rose full) text is = front_of_none c.out_old c.out_new text out
+    subst (λ (x : List ℕ). GainsFront c.out.old c.out.new x) (sym (text_of_task (told_of c) task text told is)) out
+front_written c result (Stopped stop e caused out err) text is = front_of_none c.out.old c.out.new text out
+front_written c result (Wanting e out err) text is = front_of_none c.out.old c.out.new text out
+front_written c result (Silent line e says front out rose full) text is = front_of_none c.out.old c.out.new text out
 
 -- ---- room
 
 -- where both sinks tell room enough
 abbrev RoomSuffices : Call → ℕ → List ℕ → Type 0
-RoomSuffices c result text = IfSome c.out_space (λ n. length text ≤ n → IfSome c.err_space (λ m. c.room ≤ m → result ≢ 4))
+RoomSuffices c result text = IfSome c.out.space (λ n. length text ≤ n → IfSome c.err.space (λ m. c.room ≤ m → result ≢ 4))
 
 fits_told : (space : Option ℕ) (n : ℕ) (P : ℕ → Type 0) → Exceeds space n → ((room : ℕ) → (n ≤ room → ⊥) → P room) → IfSome space P
 fits_told None n P full h = tt
@@ -286,18 +286,18 @@ told_any (Some room) P h = h room
 
 never_four : (c : Call) (result : ℕ) (text : List ℕ) → result ≢ 4 → RoomSuffices c result text
 never_four c result text never =
-    told_any c.out_space (λ n. length text ≤ n → IfSome c.err_space (λ m. c.room ≤ m → result ≢ 4)) (λ n fits.
-    told_any c.err_space (λ m. c.room ≤ m → result ≢ 4) (λ m enough. never))
+    told_any c.out.space (λ n. length text ≤ n → IfSome c.err.space (λ m. c.room ≤ m → result ≢ 4)) (λ n fits.
+    told_any c.err.space (λ m. c.room ≤ m → result ≢ 4) (λ m enough. never))
 
 pub room_suffices : (c : Call) (result : ℕ) → Answer c result → (text : List ℕ) → IsText (told_of c) text
-    → IfSome c.out_space (λ n. length text ≤ n → IfSome c.err_space (λ m. c.room ≤ m → result ≢ 4))
+    → IfSome c.out.space (λ n. length text ≤ n → IfSome c.err.space (λ m. c.room ≤ m → result ≢ 4))
 room_suffices c result (Broken task e told out rose full err) text is =
     let same = text_of_task (told_of c) task text told is in
-    fits_told c.out_space (length task.text) (λ n. length text ≤ n → IfSome c.err_space (λ m. c.room ≤ m → result ≢ 4)) full
+    fits_told c.out.space (length task.text) (λ n. length text ≤ n → IfSome c.err.space (λ m. c.room ≤ m → result ≢ 4)) full
     (λ room over fits. absurd (over (subst (λ (x : List ℕ). length x ≤ room) same fits)))
 room_suffices c result (Silent line e says front out rose full) text is =
-    told_any c.out_space (λ n. length text ≤ n → IfSome c.err_space (λ m. c.room ≤ m → result ≢ 4)) (λ room fits.
-    fits_told c.err_space c.room (λ m. c.room ≤ m → result ≢ 4) full (λ m over enough. absurd (over enough)))
+    told_any c.out.space (λ n. length text ≤ n → IfSome c.err.space (λ m. c.room ≤ m → result ≢ 4)) (λ room fits.
+    fits_told c.err.space c.room (λ m. c.room ≤ m → result ≢ 4) full (λ m over enough. absurd (over enough)))
 room_suffices c result (Done task e done told out err) text is = let below = done_below c.command result done in never_four c result text (λ four. omega arith)
 room_suffices c result (Stopped stop e caused out err) text is = never_four c result text (λ four. not_broken stop (sym e ∙ four))
 room_suffices c result (Wanting e out err) text is = never_four c result text (λ four. cc)
@@ -323,18 +323,18 @@ told_job : (held : List ℕ → Held) (o : Option Command) (r : RunWords) (job :
 told_job held o r job e h = ap (told held) e ∙ ap (λ (t : Told Job). told_then t (λ j. Gives (run_task j))) h
 
 pub trace_written : (c : Call) (result : ℕ) → Answer c result → result ≡ 0 → (r : RunWords) → c.command ≡ Some (Run r) → (job : Job) → job_told c.shelf.held r ≡ Gives job
-    → Gains c.out_old c.out_new (trace_of job)
+    → Gains c.out.old c.out.new (trace_of job)
 trace_written c result a is r e job told = (task_written c result a (omega arith) (run_task job) (told_job c.shelf.held c.command r job e told)).1
 
 -- what was written is the trace of each other Secure image whose run agrees
 pub isolated_trace : (c : Call) (result : ℕ) → Answer c result → result ≡ 0 → (r : RunWords) → c.command ≡ Some (Run r) → (job : Job) → job_told c.shelf.held r ≡ Gives job → job.words.view ≡ Ns
     → (image : ImageValue)
     → Agree (events_of job.start.script) 0 (state_of job.start) (boot job.start.board image job.start.nonsecure) job.words.steps
-    → Gains c.out_old c.out_new (text_from Ns (events_of job.start.script) 0 (boot job.start.board image job.start.nonsecure) job.words.steps)
+    → Gains c.out.old c.out.new (text_from Ns (events_of job.start.script) 0 (boot job.start.board image job.start.nonsecure) job.words.steps)
 isolated_trace c result a is r e job told view image agree =
     let shown : trace_of job ≡ text_from Ns (events_of job.start.script) 0 (state_of job.start) job.words.steps = ap (λ v. text_from v (events_of job.start.script) 0 (state_of job.start) job.words.steps) view in
     let same = isolated job.start.board job.start.secure image job.start.nonsecure (events_of job.start.script) job.words.steps agree in
-    subst (λ (x : List ℕ). Gains c.out_old c.out_new x) (shown ∙ same) (trace_written c result a is r e job told)
+    subst (λ (x : List ℕ). Gains c.out.old c.out.new x) (shown ∙ same) (trace_written c result a is r e job told)
 
 -- ---- all statuses
 

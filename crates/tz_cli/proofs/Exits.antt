@@ -6,27 +6,25 @@ use Rattle.tz_model.specs.declared.outside.SinkError.{SinkError}
 use Rattle.tz_model.specs.declared.outside.SinkError.TheVariants.{Failed}
 use Rattle.tz_model.specs.Outside.{Held, Rose, Gains, Put}
 use Rattle.tz_model.specs.Image.{ImageValue, SegmentValue}
-use Rattle.tz_cli.specs.Run.{RunWords}
-use Rattle.tz_cli.specs.Pair.{PairWords}
+use Rattle.tz_cli.specs.Run.{RunWords, run_names}
+use Rattle.tz_cli.specs.Pair.{PairWords, pair_names}
 use Rattle.tz_sem.specs.Run.{Events}
 use Rattle.tz_iso.specs.declared.answer.What.{What}
 use Rattle.tz_iso.specs.Runs.{PairValue, difference}
 use Rattle.tz_cli.specs.PairLine.{is_agreed, pair_line, pair_status}
-use Rattle.tz_cli.specs.Asm.{AsmWords}
-use Rattle.tz_cli.specs.Dis.{DisWords}
+use Rattle.tz_cli.specs.Asm.{AsmWords, asm_names}
+use Rattle.tz_cli.specs.Dis.{DisWords, dis_names}
 use Rattle.tz_cli.specs.Commands.{Command, Run, Pair, Asm, Dis, command_of, longest, names_of}
 use Rattle.tz_cli.proofs.FileNames.{names_of-longest}
 use Rattle.tz_cli.specs.declared.stops.LoadError.{LoadError}
 use Rattle.tz_cli.specs.declared.stops.LoadError.TheVariants.{Unread, Long, Board, Image, Script, Source, Memory}
-use Rattle.tz_cli.specs.declared.stops.File.{File}
-use Rattle.tz_cli.specs.declared.stops.File.TheVariants as files
 use Rattle.tz_cli.specs.Told.{Stop, BadWords, TooManySteps, TooLong, BadBoard, BadImage, BadScript, BadSource, Told, Unknown, Stops, Gives, told_then, Start, Job, Task, run_task, PairStart, PairJob, pair_task, pair_told, pair_start_told, asm_task, dis_task, told, IsDone, start_told, job_told, source_told, listed_told, step_limit}
 use Rattle.tz_cli.specs.Told as stops
-use Rattle.tz_cli.specs.Reads.{Form, AsImage, Reading, reads_of, IsOneOf}
+use Rattle.tz_cli.specs.Reads.{AsBoard, AsImage, AsScript, AsSource, Reading, run_reads, pair_reads, dis_reads, reads_of, IsOneOf}
 use Rattle.tz_cli.specs.Lines.{stop_line, status_of}
 use Rattle.tz_cli.specs.Answer.{Allows, AllowsStop, Shelved, IsSettled, IsCaused, IsLine, Call, told_of, GainsFront, Exceeds, IsTold, Answer, Done, Broken, Stopped, Wanting, Silent}
-use Rattle.tz_cli.specs.Faults.{AllowsRefusal, IsFault, IsReached, IsPaired, IsListed, IsSource, Names, run_files, pair_files, asm_files, dis_files, list_of, form_of, name_in, image_refusal, source_refusal, stop_of, stop_with, line_with, status_with}
-use Rattle.tz_cli.proofs.Reached.{is_read, is_paired, is_listed, is_assembled}
+use Rattle.tz_cli.specs.Faults.{AllowsRefusal, IsFault, IsFile, image_refusal, source_refusal, name_told, stop_of, stop_with, line_with, status_with}
+use Rattle.tz_cli.proofs.Reached.{run_within, pair_within, dis_within}
 use Rattle.tz_board.specs.BoardErrors.{refusal_of}
 use Rattle.tz_board.specs.ScriptErrors.{script_refusal_of}
 
@@ -42,21 +40,21 @@ exceeds_more (Some room) n m l h = λ fits. h (omega arith)
 
 -- the line is written with its status, or it can't be
 abbrev pub IsRefused : Call → ℕ → List ℕ → ℕ → Type 0
-IsRefused c result line status = IsTold result line status c.err_old c.err_new c.err_space c.err_before c.err_now
+IsRefused c result line status = IsTold result line status c.err.old c.err.new c.err.space c.err.before c.err.now
 
-silent : (c : Call) (result : ℕ) (line : List ℕ) → IsLine c.command c.shelf line → Gains c.out_old c.out_new [] → length line ≤ c.room
-    → (result ≡ 4) × Rose c.err_before c.err_now × Exceeds c.err_space (length line) × GainsFront c.err_old c.err_new line → Answer c result
-silent c result line says quiet short h = Silent line h.0 says h.3 quiet h.1 (exceeds_more c.err_space (length line) c.room short h.2)
+silent : (c : Call) (result : ℕ) (line : List ℕ) → IsLine c.command c.shelf line → Gains c.out.old c.out.new [] → length line ≤ c.room
+    → (result ≡ 4) × Rose c.err.before c.err.now × Exceeds c.err.space (length line) × GainsFront c.err.old c.err.new line → Answer c result
+silent c result line says quiet short h = Silent line h.0 says h.3 quiet h.1 (exceeds_more c.err.space (length line) c.room short h.2)
 
-pub answer_stop : (c : Call) (result : ℕ) (stop : Stop) → IsCaused c.command c.shelf stop → Gains c.out_old c.out_new [] → length (stop_line stop) ≤ c.room
+pub answer_stop : (c : Call) (result : ℕ) (stop : Stop) → IsCaused c.command c.shelf stop → Gains c.out.old c.out.new [] → length (stop_line stop) ≤ c.room
     → IsRefused c result (stop_line stop) (status_of stop) → Answer c result
 answer_stop c result stop caused quiet short (inl h) = Stopped stop h.0 caused quiet h.1
 answer_stop c result stop caused quiet short (inr h) = silent c result (stop_line stop) (inr (stop, refl, caused)) quiet short h
 
-pub answer_words : (c : Call) (result : ℕ) → c.command ≡ None → Gains c.out_old c.out_new [] → 64 ≤ c.room → IsRefused c result (codes "usage\n") 2 → Answer c result
+pub answer_words : (c : Call) (result : ℕ) → c.command ≡ None → Gains c.out.old c.out.new [] → 64 ≤ c.room → IsRefused c result (codes "usage\n") 2 → Answer c result
 answer_words c result e quiet short h = answer_stop c result BadWords e quiet (omega arith) h
 
-pub answer_memory : (c : Call) (result : ℕ) → Gains c.out_old c.out_new [] → 64 ≤ c.room → IsRefused c result (codes "no memory\n") 7 → Answer c result
+pub answer_memory : (c : Call) (result : ℕ) → Gains c.out.old c.out.new [] → 64 ≤ c.room → IsRefused c result (codes "no memory\n") 7 → Answer c result
 answer_memory c result quiet short (inl h) = Wanting h.0 quiet h.1
 answer_memory c result quiet short (inr h) = silent c result (codes "no memory\n") (inl refl) quiet (omega arith) h
 
@@ -68,7 +66,7 @@ answer_wider c room result l (Done task e done told out err) = Done task e done 
 answer_wider c room result l (Broken task e told out rose full err) = Broken task e told out rose full err
 answer_wider c room result l (Stopped stop e caused out err) = Stopped stop e caused out err
 answer_wider c room result l (Wanting e out err) = Wanting e out err
-answer_wider c room result l (Silent line e says front out rose full) = Silent line e says front out rose (exceeds_more c.err_space c.room room l full)
+answer_wider c room result l (Silent line e says front out rose full) = Silent line e says front out rose (exceeds_more c.err.space c.room room l full)
 
 -- the answer of a command is that of the words that say it
 pub answer_command : (c : Call) (result : ℕ) (words : List (List ℕ)) (command : Command) → c.command ≡ command_of words → c.room ≡ 64 + longest words → command_of words ≡ Some command
@@ -120,83 +118,86 @@ steps_settled : (s : Shelved) (r : RunWords) → step_limit < r.steps → IsSett
 steps_settled s r l =
     (then_stop (job_told s.held r) _ TooManySteps (many_cond (λ (t : Told Job). AllowsStop t TooManySteps) (nat_lt step_limit r.steps) (Stops TooManySteps) _ (past step_limit r.steps l) refl), tt)
 
-answer_settled : (c : Call) (result : ℕ) (command : Command) → c.command ≡ Some command → IsSettled (Some command) c.shelf TooManySteps → Gains c.out_old c.out_new [] → 64 ≤ c.room
+answer_settled : (c : Call) (result : ℕ) (command : Command) → c.command ≡ Some command → IsSettled (Some command) c.shelf TooManySteps → Gains c.out.old c.out.new [] → 64 ≤ c.room
     → IsRefused c result (codes "limit steps\n") 6 → Answer c result
 answer_settled c result command e settled quiet short h =
     answer_stop c result TooManySteps (subst (λ (o : Option Command). IsSettled o c.shelf TooManySteps) (sym e) settled) quiet (omega arith) h
 
-pub answer_steps : (c : Call) (result : ℕ) (r : RunWords) → c.command ≡ Some (Run r) → step_limit < r.steps → Gains c.out_old c.out_new [] → 64 ≤ c.room
+pub answer_steps : (c : Call) (result : ℕ) (r : RunWords) → c.command ≡ Some (Run r) → step_limit < r.steps → Gains c.out.old c.out.new [] → 64 ≤ c.room
     → IsRefused c result (codes "limit steps\n") 6 → Answer c result
 answer_steps c result r e l quiet short h = answer_settled c result (Run r) e (steps_settled c.shelf r l) quiet short h
 
 -- ---- a fault of a command's files
 
--- how what is settled of a command's files settles the command: what is read of them is read by it, and what
--- stops them stops it
-pub record Loads {A : Type 0} (c : Call) (n : Names) (IsRead : File → Type 0) (t : Told A) : Type 0 where
+-- how what is settled of a command's files settles the command: what is read of them is read by it, with room for
+-- a line of its name, and what stops them stops it
+pub record Loads {A : Type 0} (c : Call) (IsRead : Reading → Type 0) (t : Told A) : Type 0 where
   pub command : Command
   pub is : c.command ≡ Some command
-  pub read : (file : File) → IsRead file → IsOneOf (reads_of c.shelf.held (Some command)) (record { name = name_in n file; form = form_of file })
+  pub read : (file : Reading) → IsRead file → IsOneOf (reads_of c.shelf.held (Some command)) file
+  pub within : (file : Reading) → IsRead file → 64 + length file.name ≤ c.room
   pub stops : (stop : Stop) → AllowsStop t stop → AllowsStop (told c.shelf.held (Some command)) stop
 
 caused : (c : Call) (command : Command) (stop : Stop) → c.command ≡ Some command → IsCaused (Some command) c.shelf stop → IsCaused c.command c.shelf stop
 caused c command stop e h = subst (λ (o : Option Command). IsCaused o c.shelf stop) (sym e) h
 
-module _ {A : Type 0} (c : Call) (n : Names) (IsRead : File → Type 0) (t : Told A) (loads : Loads c n IsRead t) where
-  reads_it : (file : File) (form : Form) → IsRead file → form_of file ≡ form → IsOneOf (reads_of c.shelf.held (Some loads.command)) (record { name = name_in n file; form = form })
-  reads_it file form read e =
-      subst (λ (x : Form). IsOneOf (reads_of c.shelf.held (Some loads.command)) (record { name = name_in n file; form = x })) e (loads.read file read)
-
+module _ {A : Type 0} (c : Call) (IsRead : Reading → Type 0) (t : Told A) (loads : Loads c IsRead t) where
   answer_refusal : {E : Type 0} (result : ℕ) (stop : E → Stop) (o : Option E) → 64 ≤ c.room
       → ((x : E) → AllowsStop t (stop x) → IsCaused (Some loads.command) c.shelf (stop x)) → AllowsRefusal t stop o
-      → Gains c.out_old c.out_new [] → length (line_with (stop_with stop o)) ≤ c.room → IsRefused c result (line_with (stop_with stop o)) (status_with (stop_with stop o)) → Answer c result
+      → Gains c.out.old c.out.new [] → length (line_with (stop_with stop o)) ≤ c.room → IsRefused c result (line_with (stop_with stop o)) (status_with (stop_with stop o)) → Answer c result
   answer_refusal result stop None room is told quiet short h = answer_memory c result quiet room h
   answer_refusal result stop (Some refusal) room is told quiet short h =
       answer_stop c result (stop refusal) (caused c loads.command (stop refusal) loads.is (is refusal told)) quiet short h
 
-  answer_fault : (result : ℕ) (fault : LoadError) → 64 ≤ c.room → IsFault c.shelf n IsRead t fault
-      → Gains c.out_old c.out_new [] → length (line_with (stop_of n fault)) ≤ c.room → IsRefused c result (line_with (stop_of n fault)) (status_with (stop_of n fault)) → Answer c result
-  answer_fault result (Unread f) room told quiet short h =
-      answer_stop c result (stops.Unread (name_in n f))
-      (caused c loads.command (stops.Unread (name_in n f)) loads.is (record { form = form_of f; read = reads_it f (form_of f) told.0 refl; rose = told.1; absent = told.2 })) quiet short h
-  answer_fault result (Long f) room told quiet short h =
-      answer_stop c result (TooLong (name_in n f))
-      (caused c loads.command (TooLong (name_in n f)) loads.is (loads.stops (TooLong (name_in n f)) told.1, (form_of f, reads_it f (form_of f) told.0 refl))) quiet short h
-  answer_fault result (Board error) room told quiet short h =
-      answer_refusal result (BadBoard n.board) (refusal_of error) room
-      (λ x stop. (loads.stops (BadBoard n.board x) stop, reads_it files.Board (form_of files.Board) told.0 refl)) told.1 quiet short h
-  answer_fault result (Image f error) room told quiet short h =
-      answer_refusal result (BadImage (name_in n f)) (image_refusal error) room
-      (λ x stop. (loads.stops (BadImage (name_in n f) x) stop, reads_it f AsImage told.0 told.1)) told.2 quiet short h
-  answer_fault result (Script error) room told quiet short h =
-      answer_refusal result (BadScript n.script) (script_refusal_of error) room
-      (λ x stop. (loads.stops (BadScript n.script x) stop, reads_it files.Script (form_of files.Script) told.0 refl)) told.1 quiet short h
-  answer_fault result (Source error) room told quiet short h =
-      answer_refusal result (BadSource n.source) (source_refusal error) room
-      (λ x stop. (loads.stops (BadSource n.source x) stop, reads_it files.Source (form_of files.Source) told.0 refl)) told.1 quiet short h
+  answer_fault : (result : ℕ) (fault : LoadError) → 64 ≤ c.room → IsFault c.shelf IsRead t fault
+      → Gains c.out.old c.out.new [] → length (line_with (stop_of fault)) ≤ c.room → IsRefused c result (line_with (stop_of fault)) (status_with (stop_of fault)) → Answer c result
+  answer_fault result (Unread name) room told quiet short h =
+      answer_stop c result (stops.Unread name.now)
+      (caused c loads.command (stops.Unread name.now) loads.is
+      (record { form = told.0.0; read = loads.read (record { name = name.now; form = told.0.0 }) told.0.1; rose = told.1; absent = told.2 })) quiet short h
+  answer_fault result (Long name) room told quiet short h =
+      answer_stop c result (TooLong name.now)
+      (caused c loads.command (TooLong name.now) loads.is
+      (loads.stops (TooLong name.now) told.1, (told.0.0, loads.read (record { name = name.now; form = told.0.0 }) told.0.1))) quiet short h
+  answer_fault result (Board name error) room told quiet short h =
+      answer_refusal result (BadBoard name.now) (refusal_of error) room
+      (λ x stop. (loads.stops (BadBoard name.now x) stop, loads.read (record { name = name.now; form = AsBoard }) told.0)) told.1 quiet short h
+  answer_fault result (Image name error) room told quiet short h =
+      answer_refusal result (BadImage name.now) (image_refusal error) room
+      (λ x stop. (loads.stops (BadImage name.now x) stop, loads.read (record { name = name.now; form = AsImage }) told.0)) told.1 quiet short h
+  answer_fault result (Script name error) room told quiet short h =
+      answer_refusal result (BadScript name.now) (script_refusal_of error) room
+      (λ x stop. (loads.stops (BadScript name.now x) stop, loads.read (record { name = name.now; form = AsScript }) told.0)) told.1 quiet short h
+  answer_fault result (Source name error) room told quiet short h =
+      answer_refusal result (BadSource name.now) (source_refusal error) room
+      (λ x stop. (loads.stops (BadSource name.now x) stop, loads.read (record { name = name.now; form = AsSource }) told.0)) told.1 quiet short h
   answer_fault result Memory room told quiet short h = answer_memory c result quiet room h
 
+  -- there is room for a line of the name that a fault tells
+  name_fits : (fault : LoadError) → 64 ≤ c.room → IsFault c.shelf IsRead t fault → 64 + length (name_told fault) ≤ c.room
+  name_fits (Unread name) room told = loads.within (record { name = name.now; form = told.0.0 }) told.0.1
+  name_fits (Long name) room told = loads.within (record { name = name.now; form = told.0.0 }) told.0.1
+  name_fits (Board name error) room told = loads.within (record { name = name.now; form = AsBoard }) told.0
+  name_fits (Image name error) room told = loads.within (record { name = name.now; form = AsImage }) told.0
+  name_fits (Script name error) room told = loads.within (record { name = name.now; form = AsScript }) told.0
+  name_fits (Source name error) room told = loads.within (record { name = name.now; form = AsSource }) told.0
+  name_fits Memory room told = omega arith
+
   -- its line was told, or that of want of memory
-  abbrev IsFaultTold : ℕ → LoadError → Names → Type 0
-  IsFaultTold result fault m =
-      ((length (line_with (stop_of m fault)) ≤ 64 + longest (list_of m)) × IsRefused c result (line_with (stop_of m fault)) (status_with (stop_of m fault)))
-      ⊎ IsRefused c result (codes "no memory\n") 7
-
-  answer_either : (result : ℕ) (fault : LoadError) → c.room ≡ 64 + longest (list_of n) → IsFault c.shelf n IsRead t fault → Gains c.out_old c.out_new [] → IsFaultTold result fault n → Answer c result
-  answer_either result fault room told quiet (inl h) = let short = h.0 in answer_fault result fault (omega arith) told quiet (omega arith) h.1
-  answer_either result fault room told quiet (inr h) = answer_memory c result quiet (omega arith) h
-
-  -- the same by names that are those of the command
-  pub answer_told : (result : ℕ) (fault : LoadError) (m : Names) → m ≡ n → c.room ≡ 64 + longest (list_of n) → IsFault c.shelf n IsRead t fault → Gains c.out_old c.out_new []
-      → ((length (line_with (stop_of m fault)) ≤ 64 + longest (list_of m)) × IsRefused c result (line_with (stop_of m fault)) (status_with (stop_of m fault)))
+  pub answer_told : (result : ℕ) (fault : LoadError) → 64 ≤ c.room → IsFault c.shelf IsRead t fault → Gains c.out.old c.out.new []
+      → ((length (line_with (stop_of fault)) ≤ 64 + length (name_told fault)) × IsRefused c result (line_with (stop_of fault)) (status_with (stop_of fault)))
       ⊎ IsRefused c result (codes "no memory\n") 7
       → Answer c result
-  answer_told result fault m e room told quiet h = answer_either result fault room told quiet (subst (IsFaultTold result fault) e h)
+  answer_told result fault room told quiet (inl h) =
+      let short = h.0 in
+      let name = name_fits fault room told in
+      answer_fault result fault room told quiet (omega (arith, short, name)) h.1
+  answer_told result fault room told quiet (inr h) = answer_memory c result quiet room h
 
 -- ---- tasks
 
 -- a sink has one error
-pub failed_alone : (error : SinkError) → ◌≡◌ {A = Result Unit SinkError} (Err error) (Err Failed)
+pub failed_alone : {T : Type 0} (error : SinkError) → ◌≡◌ {A = Result T SinkError} (Err error) (Err Failed)
 failed_alone Failed = refl
 
 unfit : (space : Option ℕ) (n : ℕ) (error : SinkError) → IfSome space (λ room. n ≤ room → IsOk {T = Unit {0}} (Err error)) → Exceeds space n
@@ -205,19 +206,19 @@ unfit (Some room) n error h = λ short. let ok = h short in cc
 
 -- a task that is put whole is done, and one that isn't is broken
 pub answer_put : (c : Call) (task : Task) (room : Option ℕ) → IsDone c.command task.status → Allows (told_of c) task
-    → Put c.out_old c.out_new c.out_space room task.text (Ok tt) → c.err_new ≡ c.err_old → Answer c task.status
+    → Put c.out.old c.out.new c.out.space room task.text (Ok tt) → c.err.new ≡ c.err.old → Answer c task.status
 answer_put c task room done allowed put same =
     Done task refl done allowed
-    (subst (λ (x : List ℕ). Gains c.out_old c.out_new x) put.whole put.written)
-    (subst (λ (x : Option (List ℕ)). Gains c.err_old x []) (sym same) (gains_nothing c.err_old))
+    (subst (λ (x : List ℕ). Gains c.out.old c.out.new x) put.whole put.written)
+    (subst (λ (x : Option (List ℕ)). Gains c.err.old x []) (sym same) (gains_nothing c.err.old))
 
 pub answer_cut : (c : Call) (task : Task) (room : Option ℕ) (error : SinkError) → Allows (told_of c) task
-    → Put c.out_old c.out_new c.out_space room task.text (Err error) → Rose c.out_before c.out_now → c.err_new ≡ c.err_old → Answer c 4
+    → Put c.out.old c.out.new c.out.space room task.text (Err error) → Rose c.out.before c.out.now → c.err.new ≡ c.err.old → Answer c 4
 answer_cut c task room error allowed put rose same =
     Broken task refl allowed
     (record { gained = put.gained; rest = put.front.0; front = put.front.1; gains = put.written }) rose
-    (unfit c.out_space (length task.text) error put.fits)
-    (subst (λ (x : Option (List ℕ)). Gains c.err_old x []) (sym same) (gains_nothing c.err_old))
+    (unfit c.out.space (length task.text) error put.fits)
+    (subst (λ (x : Option (List ℕ)). Gains c.err.old x []) (sym same) (gains_nothing c.err.old))
 
 -- a text that is put whole is told, and one that isn't is cut
 pub told_put : (old new : Option (List ℕ)) (space room : Option ℕ) (text : List ℕ) (before now : ℕ) → Put old new space room text (Ok tt) → IsTold 0 text 0 old new space before now
@@ -230,21 +231,22 @@ told_cut old new space room text before now error put rose =
 
 -- a task whose text is told is answered by its status
 pub answer_task : (c : Call) (result : ℕ) (task : Task) → IsDone c.command task.status → Allows (told_of c) task
-    → IsTold result task.text task.status c.out_old c.out_new c.out_space c.out_before c.out_now → c.err_new ≡ c.err_old → Answer c result
+    → IsTold result task.text task.status c.out.old c.out.new c.out.space c.out.before c.out.now → c.err.new ≡ c.err.old → Answer c result
 answer_task c result task done allowed (inl h) same =
-    Done task h.0 (subst (IsDone c.command) (sym h.0) done) allowed h.1 (subst (λ (x : Option (List ℕ)). Gains c.err_old x []) (sym same) (gains_nothing c.err_old))
+    Done task h.0 (subst (IsDone c.command) (sym h.0) done) allowed h.1 (subst (λ (x : Option (List ℕ)). Gains c.err.old x []) (sym same) (gains_nothing c.err.old))
 answer_task c result task done allowed (inr h) same =
-    Broken task h.0 allowed h.3 h.1 h.2 (subst (λ (x : Option (List ℕ)). Gains c.err_old x []) (sym same) (gains_nothing c.err_old))
+    Broken task h.0 allowed h.3 h.1 h.2 (subst (λ (x : Option (List ℕ)). Gains c.err.old x []) (sym same) (gains_nothing c.err.old))
 
 -- ---- the run
 
 -- how the files of a run settle it, within the limit of steps
-pub run_loads : (c : Call) (r : RunWords) → c.command ≡ Some (Run r) → r.steps ≤ step_limit → Loads c (run_files r) (IsReached c.shelf.held r) (start_told c.shelf.held r)
-run_loads c r e l = record {
+pub run_loads : (c : Call) (r : RunWords) → c.command ≡ Some (Run r) → c.room ≡ 64 + longest (run_names r) → r.steps ≤ step_limit
+    → Loads c (IsOneOf (run_reads c.shelf.held r)) (start_told c.shelf.held r)
+run_loads c r e room l = record {
   command = Run r;
   is = e;
-  read = λ file reached. within_cond (λ (readings : List Reading). IsOneOf readings (record { name = name_in (run_files r) file; form = form_of file })) (nat_lt step_limit r.steps) [] _ (fits step_limit r.steps l)
-      (is_read c.shelf.held r file reached);
+  read = λ file read. within_cond (λ (readings : List Reading). IsOneOf readings file) (nat_lt step_limit r.steps) [] _ (fits step_limit r.steps l) read;
+  within = λ file read. let name = run_within c.shelf.held r file read in omega (arith, name, room);
   stops = λ stop h. run_of_stop c.shelf.held r stop l h;
 }
 
@@ -266,17 +268,18 @@ pair_steps_settled : (s : Shelved) (p : PairWords) → step_limit < p.steps → 
 pair_steps_settled s p l =
     (then_stop (pair_told s.held p) _ TooManySteps (many_cond (λ (t : Told PairJob). AllowsStop t TooManySteps) (nat_lt step_limit p.steps) (Stops TooManySteps) _ (past step_limit p.steps l) refl), tt)
 
-pub answer_pair_steps : (c : Call) (result : ℕ) (p : PairWords) → c.command ≡ Some (Pair p) → step_limit < p.steps → Gains c.out_old c.out_new [] → 64 ≤ c.room
+pub answer_pair_steps : (c : Call) (result : ℕ) (p : PairWords) → c.command ≡ Some (Pair p) → step_limit < p.steps → Gains c.out.old c.out.new [] → 64 ≤ c.room
     → IsRefused c result (codes "limit steps\n") 6 → Answer c result
 answer_pair_steps c result p e l quiet short h = answer_settled c result (Pair p) e (pair_steps_settled c.shelf p l) quiet short h
 
 -- how the files of a pair settle it, within the limit of steps
-pub pair_loads : (c : Call) (p : PairWords) → c.command ≡ Some (Pair p) → p.steps ≤ step_limit → Loads c (pair_files p) (IsPaired c.shelf.held p) (pair_start_told c.shelf.held p)
-pair_loads c p e l = record {
+pub pair_loads : (c : Call) (p : PairWords) → c.command ≡ Some (Pair p) → c.room ≡ 64 + longest (pair_names p) → p.steps ≤ step_limit
+    → Loads c (IsOneOf (pair_reads c.shelf.held p)) (pair_start_told c.shelf.held p)
+pair_loads c p e room l = record {
   command = Pair p;
   is = e;
-  read = λ file reached. within_cond (λ (readings : List Reading). IsOneOf readings (record { name = name_in (pair_files p) file; form = form_of file })) (nat_lt step_limit p.steps) [] _ (fits step_limit p.steps l)
-      (is_paired c.shelf.held p file reached);
+  read = λ file read. within_cond (λ (readings : List Reading). IsOneOf readings file) (nat_lt step_limit p.steps) [] _ (fits step_limit p.steps l) read;
+  within = λ file read. let name = pair_within c.shelf.held p file read in omega (arith, name, room);
   stops = λ stop h. pair_of_stop c.shelf.held p stop l h;
 }
 
@@ -304,11 +307,12 @@ pair_done (Some found) = inr refl
 
 -- ---- the assembly
 
-pub asm_loads : (c : Call) (a : AsmWords) → c.command ≡ Some (Asm a) → Loads c (asm_files a) IsSource (source_told c.shelf.held a.source)
-asm_loads c a e = record {
+pub asm_loads : (c : Call) (a : AsmWords) → c.command ≡ Some (Asm a) → c.room ≡ 64 + longest (asm_names a) → Loads c (IsFile a.source AsSource) (source_told c.shelf.held a.source)
+asm_loads c a e room = record {
   command = Asm a;
   is = e;
-  read = λ file reached. is_assembled c.shelf.held a file reached;
+  read = λ file is. inl (sym is);
+  within = λ file is. let name = ap (λ (x : Reading). length x.name) is in omega (arith, name, room);
   stops = λ stop h. then_stop (source_told c.shelf.held a.source) _ stop h;
 }
 
@@ -318,11 +322,12 @@ asm_of_segments held a segments allowed = then_gives (asm_task a.form) (source_t
 
 -- ---- the disassembly
 
-pub dis_loads : (c : Call) (d : DisWords) → c.command ≡ Some (Dis d) → Loads c (dis_files d) (IsListed c.shelf.held d) (listed_told c.shelf.held d)
-dis_loads c d e = record {
+pub dis_loads : (c : Call) (d : DisWords) → c.command ≡ Some (Dis d) → c.room ≡ 64 + longest (dis_names d) → Loads c (IsOneOf (dis_reads c.shelf.held d)) (listed_told c.shelf.held d)
+dis_loads c d e room = record {
   command = Dis d;
   is = e;
-  read = λ file reached. is_listed c.shelf.held d file reached;
+  read = λ file read. read;
+  within = λ file read. let name = dis_within c.shelf.held d file read in omega (arith, name, room);
   stops = λ stop h. then_stop (listed_told c.shelf.held d) _ stop h;
 }
 

@@ -23,7 +23,7 @@ told_pair held o p job e h = ap (told held) e ∙ ap (λ (t : Told PairJob). tol
 
 -- its status, and the line that was written
 pair_written : (c : Call) (result : ℕ) → Answer c result → result < 2 → (p : PairWords) → c.command ≡ Some (Pair p) → (job : PairJob) → pair_told c.shelf.held p ≡ Gives job
-    → (result ≡ pair_status (difference_of job)) × Gains c.out_old c.out_new (pair_line job.words.steps (difference_of job))
+    → (result ≡ pair_status (difference_of job)) × Gains c.out.old c.out.new (pair_line job.words.steps (difference_of job))
 pair_written c result a below p e job h = task_written c result a below (pair_task job) (told_pair c.shelf.held c.command p job e h)
 
 -- nothing of either start is seen but the board
@@ -38,10 +38,10 @@ agreed_by job (Some found) old new is status gains = absurd (cc status)
 
 -- at status 0 the runs agree
 pub agreement_told : (c : Call) (result : ℕ) → Answer c result → result ≡ 0 → (p : PairWords) → c.command ≡ Some (Pair p) → (job : PairJob) → pair_told c.shelf.held p ≡ Gives job
-    → Agree (events_of job.start.script) 0 (first_state job.start) (second_state job.start) job.words.steps × Gains c.out_old c.out_new (agree_line job.words.steps)
+    → Agree (events_of job.start.script) 0 (first_state job.start) (second_state job.start) job.words.steps × Gains c.out.old c.out.new (agree_line job.words.steps)
 agreement_told c result a is p e job h =
     let w = pair_written c result a (omega arith) p e job h in
-    agreed_by job (difference_of job) c.out_old c.out_new refl (sym is ∙ w.0) w.1
+    agreed_by job (difference_of job) c.out.old c.out.new refl (sym is ∙ w.0) w.1
 
 not_both : {A : Type 0} (o : Option A) (x : A) → o ≡ None → o ≡ Some x → ⊥
 not_both o x e h = cc
@@ -76,7 +76,7 @@ apart_by job (Some found) old new is status gains =
 -- at status 1 they don't
 pub disagreement_told : (c : Call) (result : ℕ) → Answer c result → result ≡ 1 → (p : PairWords) → c.command ≡ Some (Pair p) → (job : PairJob) → pair_told c.shelf.held p ≡ Gives job
     → (k : ℕ) × (what : What) × FirstApart (events_of job.start.script) (first_state job.start) (second_state job.start) job.words.steps k what
-    × Gains c.out_old c.out_new (differ_line k what)
+    × Gains c.out.old c.out.new (differ_line k what)
 disagreement_told c result a is p e job h =
     let w = pair_written c result a (omega arith) p e job h in
-    apart_by job (difference_of job) c.out_old c.out_new refl (sym is ∙ w.0) w.1
+    apart_by job (difference_of job) c.out.old c.out.new refl (sym is ∙ w.0) w.1

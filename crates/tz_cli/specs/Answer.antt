@@ -1,7 +1,7 @@
 -- The answers of a call with what the outside had before and after it.
 use Rattle.std.specs.Prelude.{◌≡◌, ◌⊎◌, ℕ, ◌+◌, ◌≤◌, Bool, List, [], ◌++◌, length, codes, Option, Some, None, IsTrue, IfSome}
 use Rattle.tz_model.specs.Outside.{Held, Absent, Rose, Gains}
-use Rattle.tz_cli.specs.Commands.{Command, command_of, longest}
+use Rattle.tz_cli.specs.Commands.{Command, command_of, longest, names_of}
 use Rattle.tz_cli.specs.Told.{Stop, BadWords, TooManySteps, Unread, TooLong, BadBoard, BadImage, BadScript, BadSource, Told, Unknown, Stops, Gives, Task, told, IsDone}
 use Rattle.tz_cli.specs.Reads.{Reading, Form, reads_of, IsOneOf, TellsOf}
 use Rattle.tz_cli.specs.Lines.{stop_line, status_of, unread_line}
@@ -69,21 +69,28 @@ line_room words = 64 + longest words
 
 -- ---- a call
 
+-- what a shelf tells, with its counts before and after a call
+abbrev pub shelved : {S : Type 0} → (S → List ℕ → Held) → (S → Bool) → (S → ℕ) → S → S → Shelved
+shelved held sound faults old new = record { held = held old; sound = sound old; before = faults old; now = faults new }
+
+-- what a sink tells before and after a call
+pub record Sunk : Type 0 where
+  pub old : Option (List ℕ)
+  pub new : Option (List ℕ)
+  pub space : Option ℕ
+  pub before : ℕ
+  pub now : ℕ
+
+abbrev pub sunk : {S : Type 0} → (S → Option (List ℕ)) → (S → Option ℕ) → (S → ℕ) → S → S → Sunk
+sunk written space faults old new = record { old = written old; new = written new; space = space old; before = faults old; now = faults new }
+
 -- a command, the room for its lines, and the outside before and after the call
 pub record Call : Type 0 where
   pub command : Option Command
   pub room : ℕ
   pub shelf : Shelved
-  pub out_old : Option (List ℕ)
-  pub out_new : Option (List ℕ)
-  pub out_space : Option ℕ
-  pub out_before : ℕ
-  pub out_now : ℕ
-  pub err_old : Option (List ℕ)
-  pub err_new : Option (List ℕ)
-  pub err_space : Option ℕ
-  pub err_before : ℕ
-  pub err_now : ℕ
+  pub out : Sunk
+  pub err : Sunk
 
 abbrev pub told_of : Call → Told Task
 told_of c = told c.shelf.held c.command
@@ -107,17 +114,22 @@ IsTold result line status old new space before now =
 -- an answer, with what it says of the outside
 pub data Answer (c : Call) (result : ℕ) : Type 0 where
   -- the text is written whole
-  Done : (task : Task) → result ≡ task.status → IsDone c.command result → Allows (told_of c) task → Gains c.out_old c.out_new task.text → Gains c.err_old c.err_new [] → Answer c result
+  Done : (task : Task) → result ≡ task.status → IsDone c.command result → Allows (told_of c) task → Gains c.out.old c.out.new task.text → Gains c.err.old c.err.new [] → Answer c result
   -- the text can't be written
-  Broken : (task : Task) → result ≡ 4 → Allows (told_of c) task → GainsFront c.out_old c.out_new task.text → Rose c.out_before c.out_now → Exceeds c.out_space (length task.text)
-      → Gains c.err_old c.err_new [] → Answer c result
+  Broken : (task : Task) → result ≡ 4 → Allows (told_of c) task → GainsFront c.out.old c.out.new task.text → Rose c.out.before c.out.now → Exceeds c.out.space (length task.text)
+      → Gains c.err.old c.err.new [] → Answer c result
   -- the command stops, and the line says why
-  Stopped : (stop : Stop) → result ≡ status_of stop → IsCaused c.command c.shelf stop → Gains c.out_old c.out_new [] → Gains c.err_old c.err_new (stop_line stop) → Answer c result
+  Stopped : (stop : Stop) → result ≡ status_of stop → IsCaused c.command c.shelf stop → Gains c.out.old c.out.new [] → Gains c.err.old c.err.new (stop_line stop) → Answer c result
   -- there is no memory
-  Wanting : result ≡ 7 → Gains c.out_old c.out_new [] → Gains c.err_old c.err_new (codes "no memory\n") → Answer c result
+  Wanting : result ≡ 7 → Gains c.out.old c.out.new [] → Gains c.err.old c.err.new (codes "no memory\n") → Answer c result
   -- the line can't be written
-  Silent : (line : List ℕ) → result ≡ 4 → IsLine c.command c.shelf line → GainsFront c.err_old c.err_new line → Gains c.out_old c.out_new [] → Rose c.err_before c.err_now
-      → Exceeds c.err_space c.room → Answer c result
+  Silent : (line : List ℕ) → result ≡ 4 → IsLine c.command c.shelf line → GainsFront c.err.old c.err.new line → Gains c.out.old c.out.new [] → Rose c.err.before c.err.now
+      → Exceeds c.err.space c.room → Answer c result
+
+-- the answer of a command, with room for a line of each of its names
+abbrev pub CommandAnswer : Command → Shelved → Sunk → Sunk → ℕ → Type 0
+CommandAnswer command shelf out err result =
+    Answer (record { command = Some command; room = 64 + longest (names_of command); shelf = shelf; out = out; err = err }) result
 
 -- ---- the words of the public clauses
 

@@ -1,13 +1,13 @@
 //! The command `asm`: its source, the image in its form, and the status.
 
-ghost use Rattle.std.specs.Prelude.{◌≡◌, ◌<◌, ◌≤◌, ◌+◌, ◌^◌, IfOk, Err, length, Some};
+ghost use Rattle.std.specs.Prelude.{◌≡◌, ◌<◌, ◌≤◌, ◌^◌, IfOk, Err, length};
 ghost use Rattle.tz_model.specs.Outside.{HasCause, Put};
-ghost use Rattle.tz_cli.specs.Asm.{asm_in, asm_names};
-ghost use Rattle.tz_cli.specs.Commands.{Asm, longest};
+ghost use Rattle.tz_cli.specs.Asm.{asm_in};
+ghost use Rattle.tz_cli.specs.Commands.{Asm};
 ghost use Rattle.tz_cli.specs.Told.{image_bytes};
-ghost use Rattle.tz_cli.specs.Answer.{Answer};
+ghost use Rattle.tz_cli.specs.Answer.{CommandAnswer, shelved, sunk};
 
-use crate::files::{load_assembled, names_of_asm};
+use crate::files::load_assembled;
 use crate::lines::{refuse, refuse_fault};
 use crate::words::{AsmWords, Form};
 use std::alloc::{AllocError, Global};
@@ -74,25 +74,12 @@ pub fn asm_files<H: Shelf, O: Sink, E: Sink>(
     out: &mut O,
     err: &mut E,
 ) -> u8
-    ensures { Answer (record {
-      command = Some (Asm (asm_in words.now));
-      room = 64 + longest (asm_names (asm_in words.now));
-      shelf = record { held = H.held shelf.old; sound = H.sound shelf.old; before = H.faults shelf.old; now = H.faults shelf.new };
-      out_old = O.written out.old;
-      out_new = O.written out.new;
-      out_space = O.space out.old;
-      out_before = O.faults out.old;
-      out_now = O.faults out.new;
-      err_old = E.written err.old;
-      err_new = E.written err.new;
-      err_space = E.space err.old;
-      err_before = E.faults err.old;
-      err_now = E.faults err.new;
-    }) result }
+    ensures { CommandAnswer (Asm (asm_in words.now)) (shelved H.held H.sound H.faults shelf.old shelf.new)
+        (sunk O.written O.space O.faults out.old out.new) (sunk E.written E.space E.faults err.old err.new) result }
 {
     let image = match load_assembled(alloc, shelf, words) {
         Ok(image) => image,
-        Err(fault) => return refuse_fault(alloc, &names_of_asm(words), fault, err),
+        Err(fault) => return refuse_fault(alloc, fault, err),
     };
     let Ok(file) = file_of(alloc, words.form, &image) else {
         return refuse(err, b"no memory\n", 7);

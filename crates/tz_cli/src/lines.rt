@@ -6,13 +6,11 @@ ghost use Rattle.std.specs.Prelude.{◌≡◌, ◌⊎◌, ◌≤◌, ◌+◌, �
 ghost use Rattle.tz_elf.specs.Images.{Refusal};
 ghost use Rattle.tz_board.specs.BoardErrors.{refusal_of, place_of};
 ghost use Rattle.tz_board.specs.ScriptErrors.{script_refusal_of};
-ghost use Rattle.tz_cli.specs.Commands.{longest};
 ghost use Rattle.tz_cli.specs.Answer.{IsTold};
 ghost use Rattle.tz_cli.specs.Lines.{board_code, image_code, script_code, source_code, place_text};
-ghost use Rattle.tz_cli.specs.Faults.{Names, image_refusal, source_refusal, line_with, list_of, names_read, status_with, stop_of, code_with};
+ghost use Rattle.tz_cli.specs.Faults.{image_refusal, source_refusal, line_with, name_told, status_with, stop_of, code_with};
 
-use crate::files::name_of;
-use crate::stops::{FileNames, LoadError};
+use crate::stops::LoadError;
 use itoa::Buffer;
 use std::alloc::{AllocError, Global};
 use tz_asm::AsmError;
@@ -161,34 +159,34 @@ fn push_name(line: &mut Vec<u8>, name: &str) -> Result<(), AllocError>
 }
 
 /// Appends what is told of a fault, up to the end of its line; its error is want of memory.
-fn push_fault(line: &mut Vec<u8>, names: &FileNames<'_>, fault: LoadError) -> Result<(), AllocError>
-    ensures bytes { OnOk result (line.new.items ++ codes "\n" ≡ line.old.items ++ line_with (stop_of (names_read names.now) fault)) }
-    ensures len { OnOk result (vec_len line.new ≤ vec_len line.old + 63 + longest (list_of (names_read names.now))) }
-    ensures told { OnOk result (IsSome (stop_of (names_read names.now) fault)) }
+fn push_fault(line: &mut Vec<u8>, fault: LoadError<'_>) -> Result<(), AllocError>
+    ensures bytes { OnOk result (line.new.items ++ codes "\n" ≡ line.old.items ++ line_with (stop_of fault.entry)) }
+    ensures len { OnOk result (vec_len line.new ≤ vec_len line.old + 63 + length (name_told fault.entry)) }
+    ensures told { OnOk result (IsSome (stop_of fault.entry)) }
 {
     match fault {
-        LoadError::Unread(file) => {
+        LoadError::Unread(name) => {
             push_text(line, "cannot read ")?;
-            push_text(line, name_of(names, file))
+            push_text(line, name)
         }
-        LoadError::Long(file) => {
+        LoadError::Long(name) => {
             push_text(line, "limit ")?;
-            push_text(line, name_of(names, file))
+            push_text(line, name)
         }
-        LoadError::Board(error) => {
-            push_name(line, names.board)?;
+        LoadError::Board(name, error) => {
+            push_name(line, name)?;
             push_board_error(line, error)
         }
-        LoadError::Image(file, error) => {
-            push_name(line, name_of(names, file))?;
+        LoadError::Image(name, error) => {
+            push_name(line, name)?;
             push_image_error(line, error)
         }
-        LoadError::Script(error) => {
-            push_name(line, names.script)?;
+        LoadError::Script(name, error) => {
+            push_name(line, name)?;
             push_script_error(line, error)
         }
-        LoadError::Source(error) => {
-            push_name(line, names.source)?;
+        LoadError::Source(name, error) => {
+            push_name(line, name)?;
             push_source_error(line, error)
         }
         LoadError::Memory => Err(AllocError),
@@ -196,20 +194,20 @@ fn push_fault(line: &mut Vec<u8>, names: &FileNames<'_>, fault: LoadError) -> Re
 }
 
 /// The line of a fault; its error is want of memory.
-fn fault_line(alloc: Global, names: &FileNames<'_>, fault: LoadError) -> Result<Vec<u8>, AllocError>
-    ensures bytes { IfOk result (λ line. line.items ≡ line_with (stop_of (names_read names.now) fault)) }
-    ensures len { IfOk result (λ line. vec_len line ≤ 64 + longest (list_of (names_read names.now))) }
-    ensures told { IfOk result (λ _. IsSome (stop_of (names_read names.now) fault)) }
+fn fault_line(alloc: Global, fault: LoadError<'_>) -> Result<Vec<u8>, AllocError>
+    ensures bytes { IfOk result (λ line. line.items ≡ line_with (stop_of fault.entry)) }
+    ensures len { IfOk result (λ line. vec_len line ≤ 64 + length (name_told fault.entry)) }
+    ensures told { IfOk result (λ _. IsSome (stop_of fault.entry)) }
 {
     let mut line = Vec::new(alloc);
-    push_fault(&mut line, names, fault)?;
+    push_fault(&mut line, fault)?;
     push_text(&mut line, "\n")?;
     Ok(line)
 }
 
 /// The status of a fault that has a line: 3, 5 or 6.
-fn fault_status(fault: LoadError) -> u8
-    ensures { (n : Names) → IsSome (stop_of n fault) → status_with (stop_of n fault) ≡ result }
+fn fault_status(fault: LoadError<'_>) -> u8
+    ensures { IsSome (stop_of fault.entry) → status_with (stop_of fault.entry) ≡ result }
 {
     match fault {
         LoadError::Unread(_) => 3,
@@ -230,18 +228,13 @@ pub fn refuse<E: Sink>(err: &mut E, line: &[u8], status: u8) -> u8
 
 /// Writes the line of a fault on standard error, and answers its status. Where there is no memory for the
 /// line, it is that of want of memory.
-pub fn refuse_fault<E: Sink>(
-    alloc: Global,
-    names: &FileNames<'_>,
-    fault: LoadError,
-    err: &mut E,
-) -> u8
-    ensures { ((length (line_with (stop_of (names_read names.now) fault)) ≤ 64 + longest (list_of (names_read names.now)))
-        × IsTold result (line_with (stop_of (names_read names.now) fault)) (status_with (stop_of (names_read names.now) fault))
+pub fn refuse_fault<E: Sink>(alloc: Global, fault: LoadError<'_>, err: &mut E) -> u8
+    ensures { ((length (line_with (stop_of fault.entry)) ≤ 64 + length (name_told fault.entry))
+        × IsTold result (line_with (stop_of fault.entry)) (status_with (stop_of fault.entry))
         (E.written err.old) (E.written err.new) (E.space err.old) (E.faults err.old) (E.faults err.new))
         ⊎ IsTold result (codes "no memory\n") 7 (E.written err.old) (E.written err.new) (E.space err.old) (E.faults err.old) (E.faults err.new) }
 {
-    match fault_line(alloc, names, fault) {
+    match fault_line(alloc, fault) {
         Ok(line) => refuse(err, &line, fault_status(fault)),
         Err(_) => refuse(err, b"no memory\n", 7),
     }

@@ -1,16 +1,16 @@
 //! The command `pair`: its files, two machines of the same board, and the line of their runs.
 
-ghost use Rattle.std.specs.Prelude.{◌+◌, [], Some, IfOk, IfErr};
+ghost use Rattle.std.specs.Prelude.{[], IfOk, IfErr};
 ghost use Rattle.tz_model.specs.Outside.{Gains};
-ghost use Rattle.tz_cli.specs.Pair.{pair_in, pair_names};
-ghost use Rattle.tz_cli.specs.Commands.{Pair as PairCommand, longest};
+ghost use Rattle.tz_cli.specs.Pair.{pair_in};
+ghost use Rattle.tz_cli.specs.Commands.{Pair as PairCommand};
 ghost use Rattle.tz_cli.specs.PairLine.{pair_status};
 ghost use Rattle.tz_cli.specs.Told.{difference_of, pair_task};
-ghost use Rattle.tz_cli.specs.Answer.{Answer, IsTold};
+ghost use Rattle.tz_cli.specs.Answer.{CommandAnswer, shelved, sunk, IsTold};
 ghost use Rattle.tz_cli.specs.Faults.{pair_start_in};
 
 use crate::comparison::pair_run;
-use crate::files::{PairFiles, load_pair, names_of_pair};
+use crate::files::{PairFiles, load_pair};
 use crate::lines::{refuse, refuse_fault};
 use crate::run::STEP_LIMIT;
 use crate::words::PairWords;
@@ -56,28 +56,15 @@ pub fn pair_files<H: Shelf, O: Sink, E: Sink>(
     out: &mut O,
     err: &mut E,
 ) -> u8
-    ensures { Answer (record {
-      command = Some (PairCommand (pair_in words.now));
-      room = 64 + longest (pair_names (pair_in words.now));
-      shelf = record { held = H.held shelf.old; sound = H.sound shelf.old; before = H.faults shelf.old; now = H.faults shelf.new };
-      out_old = O.written out.old;
-      out_new = O.written out.new;
-      out_space = O.space out.old;
-      out_before = O.faults out.old;
-      out_now = O.faults out.new;
-      err_old = E.written err.old;
-      err_new = E.written err.new;
-      err_space = E.space err.old;
-      err_before = E.faults err.old;
-      err_now = E.faults err.new;
-    }) result }
+    ensures { CommandAnswer (PairCommand (pair_in words.now)) (shelved H.held H.sound H.faults shelf.old shelf.new)
+        (sunk O.written O.space O.faults out.old out.new) (sunk E.written E.space E.faults err.old err.new) result }
 {
     if words.steps > STEP_LIMIT {
         return refuse(err, b"limit steps\n", 6);
     }
     let files = match load_pair(alloc, shelf, words) {
         Ok(files) => files,
-        Err(fault) => return refuse_fault(alloc, &names_of_pair(words), fault, err),
+        Err(fault) => return refuse_fault(alloc, fault, err),
     };
     match pair_started(alloc, &files, words, out) {
         Ok(status) => status,

@@ -23,7 +23,7 @@ ghost use Rattle.tz_cli.specs.Commands.{Run, Pair, command_of};
 ghost use Rattle.tz_cli.specs.Told.{Stop, Job, Task, Stops, Gives, IsDone, told, job_told, trace_of, state_of, PairJob, pair_told, first_state, second_state};
 ghost use Rattle.tz_cli.specs.Reads.{reads_of};
 ghost use Rattle.tz_cli.specs.Lines.{stop_line, status_of};
-ghost use Rattle.tz_cli.specs.Answer.{Answer, CutsLine, Excused, GainsFront, IsRefusedBy, IsStatus, IsText, NamesUnread, line_room};
+ghost use Rattle.tz_cli.specs.Answer.{Answer, shelved, sunk, CutsLine, Excused, GainsFront, IsRefusedBy, IsStatus, IsText, NamesUnread, line_room};
 
 use crate::asm::asm_files;
 use crate::dis::dis_files;
@@ -113,17 +113,9 @@ fn answer<H: Shelf, O: Sink, E: Sink>(
     ensures { Answer (record {
       command = command_of (map string_bytes words.now);
       room = line_room (map string_bytes words.now);
-      shelf = record { held = H.held shelf.old; sound = H.sound shelf.old; before = H.faults shelf.old; now = H.faults shelf.new };
-      out_old = O.written out.old;
-      out_new = O.written out.new;
-      out_space = O.space out.old;
-      out_before = O.faults out.old;
-      out_now = O.faults out.new;
-      err_old = E.written err.old;
-      err_new = E.written err.new;
-      err_space = E.space err.old;
-      err_before = E.faults err.old;
-      err_now = E.faults err.new;
+      shelf = shelved H.held H.sound H.faults shelf.old shelf.new;
+      out = sunk O.written O.space O.faults out.old out.new;
+      err = sunk E.written E.space E.faults err.old err.new;
     }) result }
 {
     let command = match command_words(alloc, words) {

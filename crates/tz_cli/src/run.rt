@@ -1,14 +1,14 @@
 //! The command `run`: its files, the machine, the trace, and the status.
 
-ghost use Rattle.std.specs.Prelude.{◌+◌, [], Some, IfOk, IfErr};
+ghost use Rattle.std.specs.Prelude.{[], IfOk, IfErr};
 ghost use Rattle.tz_model.specs.Outside.{Gains};
-ghost use Rattle.tz_cli.specs.Run.{run_in, run_names};
-ghost use Rattle.tz_cli.specs.Commands.{Run, longest};
+ghost use Rattle.tz_cli.specs.Run.{run_in};
+ghost use Rattle.tz_cli.specs.Commands.{Run};
 ghost use Rattle.tz_cli.specs.Told.{trace_of};
-ghost use Rattle.tz_cli.specs.Answer.{Answer, IsTold};
+ghost use Rattle.tz_cli.specs.Answer.{CommandAnswer, shelved, sunk, IsTold};
 ghost use Rattle.tz_cli.specs.Faults.{start_in};
 
-use crate::files::{Files, load, names_of_run};
+use crate::files::{Files, load};
 use crate::lines::{refuse, refuse_fault};
 use crate::words::RunWords;
 use std::alloc::{AllocError, Global};
@@ -48,28 +48,15 @@ pub fn run_files<H: Shelf, O: Sink, E: Sink>(
     out: &mut O,
     err: &mut E,
 ) -> u8
-    ensures { Answer (record {
-      command = Some (Run (run_in words.now));
-      room = 64 + longest (run_names (run_in words.now));
-      shelf = record { held = H.held shelf.old; sound = H.sound shelf.old; before = H.faults shelf.old; now = H.faults shelf.new };
-      out_old = O.written out.old;
-      out_new = O.written out.new;
-      out_space = O.space out.old;
-      out_before = O.faults out.old;
-      out_now = O.faults out.new;
-      err_old = E.written err.old;
-      err_new = E.written err.new;
-      err_space = E.space err.old;
-      err_before = E.faults err.old;
-      err_now = E.faults err.new;
-    }) result }
+    ensures { CommandAnswer (Run (run_in words.now)) (shelved H.held H.sound H.faults shelf.old shelf.new)
+        (sunk O.written O.space O.faults out.old out.new) (sunk E.written E.space E.faults err.old err.new) result }
 {
     if words.steps > STEP_LIMIT {
         return refuse(err, b"limit steps\n", 6);
     }
     let files = match load(alloc, shelf, words) {
         Ok(files) => files,
-        Err(fault) => return refuse_fault(alloc, &names_of_run(words), fault, err),
+        Err(fault) => return refuse_fault(alloc, fault, err),
     };
     match run_started(alloc, &files, words, out) {
         Ok(status) => status,

@@ -3,14 +3,15 @@ use Rattle.std.proofs.Common.{◌∙◌, refl, arith, subst, List, ℕ, Ok, Err}
 use Rattle.tz_model.specs.Outside.{Put}
 use Rattle.tz_cli.specs.Asm.{asm_in}
 use Rattle.tz_cli.specs.Told.{asm_task}
-use Rattle.tz_cli.specs.Faults.{IsSource, asm_files}
+use Rattle.tz_cli.specs.Reads.{AsSource}
+use Rattle.tz_cli.specs.Faults.{IsFile}
 use Rattle.tz_cli.proofs.Exits.{gains_nothing, answer_memory, answer_told, answer_put, answer_cut, asm_loads, asm_of_segments, failed_alone}
 use Rattle.tz_cli.proofs.asm.asm_files.Goals as goal
 
 pub returns-in-Err : goal.returns-in-Err
 returns-in-Err g c =
-    answer_told _ (asm_files (asm_in c.args.words.now)) IsSource _ (asm_loads _ (asm_in c.args.words.now) refl) _ c.in-Err.fault _
-    c.names_of_asm.ensures (omega arith) c.in-Err.ensures.err (gains_nothing _) c.refuse_fault.ensures
+    answer_told _ (IsFile (asm_in c.args.words.now).source AsSource) _ (asm_loads _ (asm_in c.args.words.now) refl refl) _ c.in-Err.fault
+    (omega arith) c.in-Err.ensures.err (gains_nothing _) c.refuse_fault.ensures
 
 pub returns-in_default : goal.returns-in_default
 returns-in_default g c = answer_memory _ _ (gains_nothing _) (omega arith) c.refuse.ensures

@@ -1,15 +1,15 @@
 -- Each exit is its answer.
-use Rattle.std.proofs.Common.{refl}
+use Rattle.std.proofs.Common.{refl, arith}
 use Rattle.tz_cli.specs.Dis.{dis_in}
 use Rattle.tz_cli.specs.Told.{dis_task}
-use Rattle.tz_cli.specs.Faults.{IsListed, dis_files}
+use Rattle.tz_cli.specs.Reads.{IsOneOf, dis_reads}
 use Rattle.tz_cli.proofs.Exits.{gains_nothing, answer_told, answer_put, answer_cut, dis_loads, dis_of_image, failed_alone}
 use Rattle.tz_cli.proofs.dis.dis_files.Goals as goal
 
 pub returns-in-Err : goal.returns-in-Err
 returns-in-Err g c =
-    answer_told _ (dis_files (dis_in c.args.words.now)) (IsListed _ (dis_in c.args.words.now)) _ (dis_loads _ (dis_in c.args.words.now) refl) _ c.in-Err.fault _
-    c.names_of_dis.ensures refl c.in-Err.ensures.err (gains_nothing _) c.refuse_fault.ensures
+    answer_told _ (IsOneOf (dis_reads _ (dis_in c.args.words.now))) _ (dis_loads _ (dis_in c.args.words.now) refl refl) _ c.in-Err.fault
+    (omega arith) c.in-Err.ensures.err (gains_nothing _) c.refuse_fault.ensures
 
 pub returns-in-Ok-disassemble : goal.returns-in-Ok-disassemble
 returns-in-Ok-disassemble g c =

@@ -4,28 +4,25 @@ use Rattle.std.proofs.lemmas.Result.{on_ok_weaker}
 use Rattle.std.specs.Prelude.{codes}
 use Rattle.tz_board.specs.BoardErrors.{refusal_of}
 use Rattle.tz_board.specs.ScriptErrors.{script_refusal_of}
-use Rattle.tz_cli.specs.declared.stops.File.TheVariants as files
 use Rattle.tz_cli.specs.declared.stops.LoadError.{LoadError}
 use Rattle.tz_cli.specs.Told.{BadBoard, BadImage, BadScript, BadSource}
 use Rattle.tz_cli.specs.Lines.{board_code, image_code, script_code, source_code}
-use Rattle.tz_cli.specs.Faults.{image_refusal, line_with, name_in, names_read, source_refusal, stop_of}
-use Rattle.tz_cli.proofs.FaultLines.{file_told, name_within, on_ok_both, refused_told, some_stop}
+use Rattle.tz_cli.specs.Faults.{image_refusal, line_with, name_told, source_refusal, stop_of}
+use Rattle.tz_cli.proofs.FaultLines.{file_told, on_ok_both, refused_told, some_stop}
 use Rattle.tz_cli.proofs.lines.push_fault.Goals as goal
 
 pub returns-in_ok-push_text-in-Unread-clause-bytes : goal.returns-in_ok-push_text-in-Unread-clause-bytes
 returns-in_ok-push_text-in-Unread-clause-bytes c =
-    let n = names_read c.args.names.now in
-    let told = ap (λ (fault : LoadError). stop_of n fault) c.in-Unread.is in
     on_ok_weaker c.push_text-in-Unread.result
-    (file_told n c.args.fault c.args.line.now.items (codes "cannot read ") (name_in n c.in-Unread.file) c.push_text.new.line.items c.name_of.result.now c.push_text-in-Unread.new.line.items
-    (ap line_with told) c.in_ok-push_text-in-Unread.ensures.bytes c.name_of.ensures)
+    (file_told c.args.fault c.args.line.now.items (codes "cannot read ") c.in-Unread.name.now c.push_text.new.line.items c.push_text-in-Unread.new.line.items
+    (ap (λ (fault : LoadError). line_with (stop_of fault)) c.in-Unread.is) c.in_ok-push_text-in-Unread.ensures.bytes)
     c.push_text-in-Unread.ensures.bytes
 
 pub returns-in_ok-push_text-in-Unread-clause-len : goal.returns-in_ok-push_text-in-Unread-clause-len
 returns-in_ok-push_text-in-Unread-clause-len c =
-    let name = name_within (names_read c.args.names.now) c.in-Unread.file c.name_of.result.now c.name_of.ensures in
+    let name = ap name_told c.in-Unread.is in
     let front = c.in_ok-push_text-in-Unread.ensures.len in
-    on_ok_weaker c.push_text-in-Unread.result (λ l. omega (arith, name, front, l)) c.push_text-in-Unread.ensures.len
+    on_ok_weaker c.push_text-in-Unread.result (λ l. rw name (omega (arith, front, l))) c.push_text-in-Unread.ensures.len
 
 pub returns-in_ok-push_text-in-Unread-clause-told : goal.returns-in_ok-push_text-in-Unread-clause-told
 returns-in_ok-push_text-in-Unread-clause-told c =
@@ -33,18 +30,16 @@ returns-in_ok-push_text-in-Unread-clause-told c =
 
 pub returns-in_ok-push_text-in-Long-clause-bytes : goal.returns-in_ok-push_text-in-Long-clause-bytes
 returns-in_ok-push_text-in-Long-clause-bytes c =
-    let n = names_read c.args.names.now in
-    let told = ap (λ (fault : LoadError). stop_of n fault) c.in-Long.is in
     on_ok_weaker c.push_text-in-Long-2.result
-    (file_told n c.args.fault c.args.line.now.items (codes "limit ") (name_in n c.in-Long.file) c.push_text-in-Long.new.line.items c.name_of-in-Long.result.now c.push_text-in-Long-2.new.line.items
-    (ap line_with told) c.in_ok-push_text-in-Long.ensures.bytes c.name_of-in-Long.ensures)
+    (file_told c.args.fault c.args.line.now.items (codes "limit ") c.in-Long.name.now c.push_text-in-Long.new.line.items c.push_text-in-Long-2.new.line.items
+    (ap (λ (fault : LoadError). line_with (stop_of fault)) c.in-Long.is) c.in_ok-push_text-in-Long.ensures.bytes)
     c.push_text-in-Long-2.ensures.bytes
 
 pub returns-in_ok-push_text-in-Long-clause-len : goal.returns-in_ok-push_text-in-Long-clause-len
 returns-in_ok-push_text-in-Long-clause-len c =
-    let name = name_within (names_read c.args.names.now) c.in-Long.file c.name_of-in-Long.result.now c.name_of-in-Long.ensures in
+    let name = ap name_told c.in-Long.is in
     let front = c.in_ok-push_text-in-Long.ensures.len in
-    on_ok_weaker c.push_text-in-Long-2.result (λ l. omega (arith, name, front, l)) c.push_text-in-Long-2.ensures.len
+    on_ok_weaker c.push_text-in-Long-2.result (λ l. rw name (omega (arith, front, l))) c.push_text-in-Long-2.ensures.len
 
 pub returns-in_ok-push_text-in-Long-clause-told : goal.returns-in_ok-push_text-in-Long-clause-told
 returns-in_ok-push_text-in-Long-clause-told c =
@@ -52,76 +47,68 @@ returns-in_ok-push_text-in-Long-clause-told c =
 
 pub returns-in_ok-push_name-in-Board-clause-bytes : goal.returns-in_ok-push_name-in-Board-clause-bytes
 returns-in_ok-push_name-in-Board-clause-bytes c =
-    let n = names_read c.args.names.now in
     on_ok_both c.push_board_error.result
-    (λ behind some. refused_told n c.args.fault c.args.line.now.items n.board c.push_name.new.line.items c.args.names.now.board.now c.push_board_error.new.line.items board_code (BadBoard n.board) (refusal_of c.in-Board.error)
-    (ap (λ (fault : LoadError). stop_of n fault) c.in-Board.is) (λ e. refl) c.in_ok-push_name-in-Board.ensures.bytes refl behind some)
+    (λ behind some. refused_told c.args.fault c.args.line.now.items c.in-Board.name.now c.push_name.new.line.items c.push_board_error.new.line.items board_code (BadBoard c.in-Board.name.now) (refusal_of c.in-Board.error)
+    (ap stop_of c.in-Board.is) (λ e. refl) c.in_ok-push_name-in-Board.ensures.bytes behind some)
     c.push_board_error.ensures.bytes c.push_board_error.ensures.told
 
 pub returns-in_ok-push_name-in-Board-clause-len : goal.returns-in_ok-push_name-in-Board-clause-len
 returns-in_ok-push_name-in-Board-clause-len c =
-    let name = name_within (names_read c.args.names.now) files.Board c.args.names.now.board.now refl in
+    let name = ap name_told c.in-Board.is in
     let front = c.in_ok-push_name-in-Board.ensures.len in
-    on_ok_weaker c.push_board_error.result (λ l. omega (arith, name, front, l)) c.push_board_error.ensures.len
+    on_ok_weaker c.push_board_error.result (λ l. rw name (omega (arith, front, l))) c.push_board_error.ensures.len
 
 pub returns-in_ok-push_name-in-Board-clause-told : goal.returns-in_ok-push_name-in-Board-clause-told
 returns-in_ok-push_name-in-Board-clause-told c =
-    let n = names_read c.args.names.now in
-    on_ok_weaker c.push_board_error.result (some_stop n c.args.fault (BadBoard n.board) (refusal_of c.in-Board.error) (ap (λ (fault : LoadError). stop_of n fault) c.in-Board.is)) c.push_board_error.ensures.told
+    on_ok_weaker c.push_board_error.result (some_stop c.args.fault (BadBoard c.in-Board.name.now) (refusal_of c.in-Board.error) (ap stop_of c.in-Board.is)) c.push_board_error.ensures.told
 
 pub returns-in_ok-push_name-in-Image-clause-bytes : goal.returns-in_ok-push_name-in-Image-clause-bytes
 returns-in_ok-push_name-in-Image-clause-bytes c =
-    let n = names_read c.args.names.now in
     on_ok_both c.push_image_error.result
-    (λ behind some. refused_told n c.args.fault c.args.line.now.items (name_in n c.in-Image.file) c.push_name-in-Image.new.line.items c.name_of-in-Image.result.now c.push_image_error.new.line.items image_code (BadImage (name_in n c.in-Image.file)) (image_refusal c.in-Image.error)
-    (ap (λ (fault : LoadError). stop_of n fault) c.in-Image.is) (λ e. refl) c.in_ok-push_name-in-Image.ensures.bytes c.name_of-in-Image.ensures behind some)
+    (λ behind some. refused_told c.args.fault c.args.line.now.items c.in-Image.name.now c.push_name-in-Image.new.line.items c.push_image_error.new.line.items image_code (BadImage c.in-Image.name.now) (image_refusal c.in-Image.error)
+    (ap stop_of c.in-Image.is) (λ e. refl) c.in_ok-push_name-in-Image.ensures.bytes behind some)
     c.push_image_error.ensures.bytes c.push_image_error.ensures.told
 
 pub returns-in_ok-push_name-in-Image-clause-len : goal.returns-in_ok-push_name-in-Image-clause-len
 returns-in_ok-push_name-in-Image-clause-len c =
-    let name = name_within (names_read c.args.names.now) c.in-Image.file c.name_of-in-Image.result.now c.name_of-in-Image.ensures in
+    let name = ap name_told c.in-Image.is in
     let front = c.in_ok-push_name-in-Image.ensures.len in
-    on_ok_weaker c.push_image_error.result (λ l. omega (arith, name, front, l)) c.push_image_error.ensures.len
+    on_ok_weaker c.push_image_error.result (λ l. rw name (omega (arith, front, l))) c.push_image_error.ensures.len
 
 pub returns-in_ok-push_name-in-Image-clause-told : goal.returns-in_ok-push_name-in-Image-clause-told
 returns-in_ok-push_name-in-Image-clause-told c =
-    let n = names_read c.args.names.now in
-    on_ok_weaker c.push_image_error.result (some_stop n c.args.fault (BadImage (name_in n c.in-Image.file)) (image_refusal c.in-Image.error) (ap (λ (fault : LoadError). stop_of n fault) c.in-Image.is)) c.push_image_error.ensures.told
+    on_ok_weaker c.push_image_error.result (some_stop c.args.fault (BadImage c.in-Image.name.now) (image_refusal c.in-Image.error) (ap stop_of c.in-Image.is)) c.push_image_error.ensures.told
 
 pub returns-in_ok-push_name-in-Script-clause-bytes : goal.returns-in_ok-push_name-in-Script-clause-bytes
 returns-in_ok-push_name-in-Script-clause-bytes c =
-    let n = names_read c.args.names.now in
     on_ok_both c.push_script_error.result
-    (λ behind some. refused_told n c.args.fault c.args.line.now.items n.script c.push_name-in-Script.new.line.items c.args.names.now.script.now c.push_script_error.new.line.items script_code (BadScript n.script) (script_refusal_of c.in-Script.error)
-    (ap (λ (fault : LoadError). stop_of n fault) c.in-Script.is) (λ e. refl) c.in_ok-push_name-in-Script.ensures.bytes refl behind some)
+    (λ behind some. refused_told c.args.fault c.args.line.now.items c.in-Script.name.now c.push_name-in-Script.new.line.items c.push_script_error.new.line.items script_code (BadScript c.in-Script.name.now) (script_refusal_of c.in-Script.error)
+    (ap stop_of c.in-Script.is) (λ e. refl) c.in_ok-push_name-in-Script.ensures.bytes behind some)
     c.push_script_error.ensures.bytes c.push_script_error.ensures.told
 
 pub returns-in_ok-push_name-in-Script-clause-len : goal.returns-in_ok-push_name-in-Script-clause-len
 returns-in_ok-push_name-in-Script-clause-len c =
-    let name = name_within (names_read c.args.names.now) files.Script c.args.names.now.script.now refl in
+    let name = ap name_told c.in-Script.is in
     let front = c.in_ok-push_name-in-Script.ensures.len in
-    on_ok_weaker c.push_script_error.result (λ l. omega (arith, name, front, l)) c.push_script_error.ensures.len
+    on_ok_weaker c.push_script_error.result (λ l. rw name (omega (arith, front, l))) c.push_script_error.ensures.len
 
 pub returns-in_ok-push_name-in-Script-clause-told : goal.returns-in_ok-push_name-in-Script-clause-told
 returns-in_ok-push_name-in-Script-clause-told c =
-    let n = names_read c.args.names.now in
-    on_ok_weaker c.push_script_error.result (some_stop n c.args.fault (BadScript n.script) (script_refusal_of c.in-Script.error) (ap (λ (fault : LoadError). stop_of n fault) c.in-Script.is)) c.push_script_error.ensures.told
+    on_ok_weaker c.push_script_error.result (some_stop c.args.fault (BadScript c.in-Script.name.now) (script_refusal_of c.in-Script.error) (ap stop_of c.in-Script.is)) c.push_script_error.ensures.told
 
 pub returns-in_ok-push_name-in-Source-clause-bytes : goal.returns-in_ok-push_name-in-Source-clause-bytes
 returns-in_ok-push_name-in-Source-clause-bytes c =
-    let n = names_read c.args.names.now in
     on_ok_both c.push_source_error.result
-    (λ behind some. refused_told n c.args.fault c.args.line.now.items n.source c.push_name-in-Source.new.line.items c.args.names.now.source.now c.push_source_error.new.line.items source_code (BadSource n.source) (source_refusal c.in-Source.error)
-    (ap (λ (fault : LoadError). stop_of n fault) c.in-Source.is) (λ e. refl) c.in_ok-push_name-in-Source.ensures.bytes refl behind some)
+    (λ behind some. refused_told c.args.fault c.args.line.now.items c.in-Source.name.now c.push_name-in-Source.new.line.items c.push_source_error.new.line.items source_code (BadSource c.in-Source.name.now) (source_refusal c.in-Source.error)
+    (ap stop_of c.in-Source.is) (λ e. refl) c.in_ok-push_name-in-Source.ensures.bytes behind some)
     c.push_source_error.ensures.bytes c.push_source_error.ensures.told
 
 pub returns-in_ok-push_name-in-Source-clause-len : goal.returns-in_ok-push_name-in-Source-clause-len
 returns-in_ok-push_name-in-Source-clause-len c =
-    let name = name_within (names_read c.args.names.now) files.Source c.args.names.now.source.now refl in
+    let name = ap name_told c.in-Source.is in
     let front = c.in_ok-push_name-in-Source.ensures.len in
-    on_ok_weaker c.push_source_error.result (λ l. omega (arith, name, front, l)) c.push_source_error.ensures.len
+    on_ok_weaker c.push_source_error.result (λ l. rw name (omega (arith, front, l))) c.push_source_error.ensures.len
 
 pub returns-in_ok-push_name-in-Source-clause-told : goal.returns-in_ok-push_name-in-Source-clause-told
 returns-in_ok-push_name-in-Source-clause-told c =
-    let n = names_read c.args.names.now in
-    on_ok_weaker c.push_source_error.result (some_stop n c.args.fault (BadSource n.source) (source_refusal c.in-Source.error) (ap (λ (fault : LoadError). stop_of n fault) c.in-Source.is)) c.push_source_error.ensures.told
+    on_ok_weaker c.push_source_error.result (some_stop c.args.fault (BadSource c.in-Source.name.now) (source_refusal c.in-Source.error) (ap stop_of c.in-Source.is)) c.push_source_error.ensures.told

@@ -2,7 +2,8 @@
 use Rattle.std.proofs.Common.{refl, arith}
 use Rattle.tz_cli.specs.Pair.{pair_in}
 use Rattle.tz_cli.specs.Told.{PairJob, pair_task, difference_of}
-use Rattle.tz_cli.specs.Faults.{IsPaired, pair_files, pair_start_in}
+use Rattle.tz_cli.specs.Reads.{IsOneOf, pair_reads}
+use Rattle.tz_cli.specs.Faults.{pair_start_in}
 use Rattle.tz_cli.proofs.Exits.{gains_nothing, answer_memory, answer_pair_steps, answer_told, answer_task, pair_loads, pair_of_start, pair_done}
 use Rattle.tz_cli.proofs.pair.pair_files.Goals as goal
 
@@ -12,8 +13,8 @@ returns-then-words-gt-STEP_LIMIT g c =
 
 pub returns-in-Err : goal.returns-in-Err
 returns-in-Err g c =
-    answer_told _ (pair_files (pair_in c.args.words.now)) (IsPaired _ (pair_in c.args.words.now)) _ (pair_loads _ (pair_in c.args.words.now) refl c.if-words-gt-STEP_LIMIT.false) _ c.in-Err.fault _
-    c.names_of_pair.ensures refl c.in-Err.ensures.err (gains_nothing _) c.refuse_fault.ensures
+    answer_told _ (IsOneOf (pair_reads _ (pair_in c.args.words.now))) _ (pair_loads _ (pair_in c.args.words.now) refl refl c.if-words-gt-STEP_LIMIT.false) _ c.in-Err.fault
+    (omega arith) c.in-Err.ensures.err (gains_nothing _) c.refuse_fault.ensures
 
 pub returns-in-Ok-pair_started : goal.returns-in-Ok-pair_started
 returns-in-Ok-pair_started g c =

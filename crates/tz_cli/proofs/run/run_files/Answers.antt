@@ -2,7 +2,8 @@
 use Rattle.std.proofs.Common.{refl, arith}
 use Rattle.tz_cli.specs.Run.{run_in}
 use Rattle.tz_cli.specs.Told.{run_task}
-use Rattle.tz_cli.specs.Faults.{IsReached, run_files, start_in}
+use Rattle.tz_cli.specs.Reads.{IsOneOf, run_reads}
+use Rattle.tz_cli.specs.Faults.{start_in}
 use Rattle.tz_cli.proofs.Exits.{gains_nothing, answer_memory, answer_steps, answer_told, answer_task, run_loads, run_of_start}
 use Rattle.tz_cli.proofs.run.run_files.Goals as goal
 
@@ -12,8 +13,8 @@ returns-then-words-gt-STEP_LIMIT g c =
 
 pub returns-in-Err : goal.returns-in-Err
 returns-in-Err g c =
-    answer_told _ (run_files (run_in c.args.words.now)) (IsReached _ (run_in c.args.words.now)) _ (run_loads _ (run_in c.args.words.now) refl c.if-words-gt-STEP_LIMIT.false) _ c.in-Err.fault _
-    c.names_of_run.ensures (omega arith) c.in-Err.ensures.err (gains_nothing _) c.refuse_fault.ensures
+    answer_told _ (IsOneOf (run_reads _ (run_in c.args.words.now))) _ (run_loads _ (run_in c.args.words.now) refl refl c.if-words-gt-STEP_LIMIT.false) _ c.in-Err.fault
+    (omega arith) c.in-Err.ensures.err (gains_nothing _) c.refuse_fault.ensures
 
 pub returns-in-Ok-run_started : goal.returns-in-Ok-run_started
 returns-in-Ok-run_started g c =
