@@ -33,3 +33,9 @@ pub mod Secured
 pub mod TwoRuns
 pub mod Unharmed
 pub mod WaysOut
+pub mod Evens
+pub mod EvenOffsets
+pub mod EvenRows
+pub mod EvenInstructions
+pub mod EvenFrames
+pub mod EvenPc
