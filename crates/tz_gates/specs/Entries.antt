@@ -53,7 +53,7 @@ abbrev pub count_at : List ℕ → ℕ → ℕ
 count_at places a = count_by (λ p. p == a) places
 
 abbrev pub is_among : List ℕ → ℕ → Bool
-is_among gates p = list_any (λ g. g == p) gates
+is_among gates p = list_any (λ a. p == a) gates
 
 abbrev pub count_elsewhere : List ℕ → List ℕ → ℕ
 count_elsewhere places gates = count_by (λ p. not (is_among gates p)) places
@@ -65,9 +65,3 @@ entries_at events k s n a = count_at (entered events k s n) a
 -- and how many at none of these
 abbrev pub other_entries : Events → ℕ → State → ℕ → List ℕ → ℕ
 other_entries events k s n gates = count_elsewhere (entered events k s n) gates
-
--- the hits of gates after one more entry
-abbrev pub with_hit : List ℕ → List ℕ → ℕ → List ℕ
-with_hit [] hits p = hits
-with_hit (g ∷ gs) [] p = []
-with_hit (g ∷ gs) (h ∷ hs) p = (if p == g then h + 1 else h) ∷ with_hit gs hs p

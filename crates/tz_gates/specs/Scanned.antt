@@ -1,5 +1,5 @@
 -- How far gates were looked for.
-use Rattle.std.specs.Prelude.{◌≡◌, ℕ, ◌+◌, ◌-◌, ◌<◌, ◌≤◌, ◌%◌, Bool, false, ◌&&◌, nat_le, List}
+use Rattle.std.specs.Prelude.{◌≡◌, ℕ, ◌-◌, ◌<◌, ◌≤◌, ◌%◌, ◌^◌, Bool, false, ◌&&◌, nat_le, List, Option, MatchOption}
 use Rattle.tz_model.specs.declared.board.Region.{Region}
 use Rattle.tz_state.specs.Access.{is_mapped}
 use Rattle.tz_state.specs.State.{State}
@@ -22,3 +22,7 @@ pub record IsNext (rs : List Region) (from first end : ℕ) : Type 0 where
   pub first_block : first % 32 ≡ 0
   pub end_block : end % 32 ≡ 0
   pub gap : IsGap rs from first
+
+-- the first bytes that regions hold from an address on, and where they end; or there are none
+abbrev pub IsNextOf : List Region → ℕ → Option (ℕ × ℕ) → Type 0
+IsNextOf rs from next = MatchOption next (IsGap rs from (2 ^ 32)) (λ span. IsNext rs from span.0 span.1)

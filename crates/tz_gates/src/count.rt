@@ -1,11 +1,11 @@
 //! The entries of a run, counted by gates.
 
-ghost use Rattle.std.specs.Prelude.{◌≡◌, ℕ, ◌<◌, ◌+◌, length, map, replicate, slice_index, if◌then◌else◌};
+ghost use Rattle.std.specs.Prelude.{◌≡◌, ℕ, ◌<◌, ◌+◌, ◌==◌, length, map, replicate, slice_index, if◌then◌else◌};
 ghost use Rattle.std.specs.List.Sorted.{IsStrictlyIncreasing};
 ghost use Rattle.tz_state.specs.State.{State};
 ghost use Rattle.tz_sem.specs.Run.{state_after};
 ghost use Rattle.tz_run.specs.Events.{events_of};
-ghost use Rattle.tz_gates.specs.Entries.{is_sg, sg_place, entry_of, is_among, entries_at, other_entries, with_hit};
+ghost use Rattle.tz_gates.specs.Entries.{is_sg, sg_place, entry_of, is_among, entries_at, other_entries};
 ghost use Rattle.tz_gates.specs.Gates.{gates_of};
 ghost use Rattle.tz_gates.specs.Stays.{KeepsGatesFor, HasEvenPcFor};
 
@@ -50,7 +50,7 @@ fn note_entry(gates: &[u32], hits: &mut [u32], others: u32, entry: u32) -> u32
     requires long { length hits.old ≡ length gates.now }
     requires room { (k : ℕ) → k < length hits.old → slice_index hits.old k < 4294967295 }
     requires others_room { others < 4294967295 }
-    ensures hits { hits.new ≡ with_hit gates.now hits.old entry }
+    ensures hits { (k : ℕ) → k < length gates.now → slice_index hits.new k ≡ slice_index hits.old k + (if entry == slice_index gates.now k then 1 else 0) }
     ensures others { result ≡ (if is_among gates.now entry then others else others + 1) }
 {
     match gates.binary_search(&entry) {

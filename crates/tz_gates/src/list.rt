@@ -1,13 +1,12 @@
 //! The gates of a machine as it starts.
 
-ghost use Rattle.std.specs.Prelude.{◌≡◌, true, IfOk};
+ghost use Rattle.std.specs.Prelude.{◌≡◌, IfOk};
 ghost use Rattle.std.specs.List.Sorted.{IsStrictlyIncreasing};
-ghost use Rattle.tz_model.specs.Board.{are_regions};
 ghost use Rattle.tz_sem.specs.Boot.{boot};
 ghost use Rattle.tz_gates.specs.Gates.{gates_of};
 ghost use Rattle.tz_gates.specs.Stays.{FindsGates};
 
-use crate::scan::Scan;
+use crate::scan::{Scan, know_regions};
 use crate::spans::next_span;
 use std::alloc::{AllocError, Global};
 use tz_core::Machine;
@@ -17,9 +16,11 @@ use tz_model::{Board, Image};
 pub(crate) fn gates_in(alloc: Global, machine: &Machine) -> Result<Vec<u32>, AllocError>
     ensures { IfOk result (λ v. v.items ≡ gates_of machine.now) }
 {
+    know_regions(machine);
+    let regions = &machine.board().regions;
     let mut scan = Scan::new(alloc);
     let mut from = 0;
-    'spans: while let Some((first, end)) = next_span(machine.board(), from) {
+    'spans: while let Some((first, end)) = next_span(regions, from) {
         scan.go_to(machine, from, first);
         scan.read_span(machine, first, end)?;
         from = end;

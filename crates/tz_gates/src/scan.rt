@@ -19,7 +19,7 @@ pub struct Scan {
 }
 
 /// The board's regions are made of whole blocks.
-fn know_regions(machine: &Machine)
+pub fn know_regions(machine: &Machine)
     ensures { are_regions machine.now.bus.board.regions ≡ true }
 {
     let board = machine.board();

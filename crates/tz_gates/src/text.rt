@@ -46,9 +46,12 @@ pub fn put_gates<O: Sink>(
     ensures cause { HasCause (O.faults out.old) (O.faults out.new) (result ≡ Err SinkError.Failed) }
 {
     let mut line = Line::new();
-    for (gate, hits) in gates.iter().zip(hits) {
-        push_gate(&mut line, *gate, *hits);
-        out.put(line.as_str().as_bytes())?;
+    let count = gates.len().min(hits.len());
+    for index in 0..count {
+        push_gate(&mut line, gates[index], hits[index]);
+        if let Err(error) = out.put(line.as_str().as_bytes()) {
+            return Err(error);
+        }
         line.clear();
     }
     push_unlisted(&mut line, unlisted);

@@ -1,0 +1,9 @@
+use Rattle.std.proofs.Common.{◌≡◌, length}
+use Rattle.tz_run.specs.Events.{events_of}
+use Rattle.tz_gates.proofs.Counting.{SoFar}
+use Rattle.tz_gates.proofs.count.count_counted.Given as goal
+
+abbrev pub invariant-loop-step : goal.invariant-loop-step
+invariant-loop-step g l = record {
+  so_far : SoFar (events_of l.script) l.gates l.fn.machine l.machine l.step l.steps l.hits l.others;
+}
