@@ -1,10 +1,7 @@
 -- A step that enters does so by SG at a gate: what ran is told by its code alone.
-use Rattle.std.proofs.Common.{◌≡◌, ℕ, zero, suc, ◌+◌, ◌%◌, ◌^◌, ◌<◌, ◌≤◌, Bool, true, false, ◌&&◌, ◌||◌, not, cond, List, [], ◌∷◌, ◌++◌, Option, Some, None, Result, Ok, Err, refl, sym, ap, ◌∙◌, subst, arith, ◌⊎◌, inl, inr}
-use Rattle.std.specs.Prelude.{◌==◌, nat_le}
-use Rattle.std.proofs.lemmas.Bool.{and_parts, eqb-true, not-true}
-use Rattle.std.proofs.lemmas.Bool.Decides.{nat_tests}
-use Rattle.tz_table.specs.declared.units.Side.{Side}
-use Rattle.tz_table.specs.declared.units.Side.TheVariants.{Secure, NonSecure}
+use Rattle.std.proofs.Common.{◌≡◌, ℕ, Bool, true, false, ◌&&◌, ◌||◌, not, cond, List, [], Option, Some, None, Result, Ok, Err, refl, sym, subst, arith}
+use Rattle.std.specs.Prelude.{◌==◌}
+use Rattle.std.proofs.lemmas.Bool.{and_parts, eqb-true}
 use Rattle.tz_table.specs.declared.units.Code.{Code}
 use Rattle.tz_table.specs.declared.units.Width.TheVariants.{Wide}
 use Rattle.tz_table.specs.declared.instruction.Insn.{Insn}
@@ -17,11 +14,9 @@ use Rattle.tz_model.specs.declared.report.Outcome.{Outcome}
 use Rattle.tz_model.specs.declared.report.Outcome.TheVariants.{Next, Jump, Exchange, Sleep}
 use Rattle.tz_model.specs.declared.report.Sleep.{Sleep as Sleeping}
 use Rattle.tz_model.specs.declared.report.Sleep.TheVariants.{Awake, Wfi, Wfe}
-use Rattle.tz_model.specs.declared.report.ScriptEvent.{ScriptEvent}
 use Rattle.tz_model.specs.declared.report.Store.{Store}
 use Rattle.tz_model.specs.declared.fetch.Fetched.{Fetched}
 use Rattle.tz_model.specs.Codes.{meaning_of}
-use Rattle.tz_model.specs.Words.{wrap}
 use Rattle.tz_regs.specs.declared.parts.Core.{Core}
 use Rattle.tz_regs.specs.Registers.{is_handler}
 use Rattle.tz_state.specs.Access.{Reached, reached_in, access}
@@ -35,17 +30,16 @@ use Rattle.tz_frames.specs.Machine.{framed}
 use Rattle.tz_frames.specs.Status.{faulted}
 use Rattle.tz_frames.specs.Enter.{enters}
 use Rattle.tz_frames.specs.Leave.{leaves, is_exc_return}
-use Rattle.tz_frames.specs.Gate.{Called, calls_ns, is_fnc_return, function_returned}
-use Rattle.tz_sem.specs.declared.ending.Cause.{Cause}
+use Rattle.tz_frames.specs.Gate.{calls_ns, is_fnc_return, function_returned}
 use Rattle.tz_sem.specs.declared.ending.Cause.TheVariants as causes
 use Rattle.tz_sem.specs.declared.ending.Course.{Course}
 use Rattle.tz_sem.specs.declared.ending.Ending.{Ending}
 use Rattle.tz_sem.specs.Ended.{Passed, Ended, with_stores}
-use Rattle.tz_sem.specs.Exec.{Executed, executed}
+use Rattle.tz_sem.specs.Exec.{executed}
 use Rattle.tz_sem.specs.ItRules.{is_misplaced, is_passed_over, ignores_condition}
 use Rattle.tz_sem.specs.Taking.{state_of, locks, framed_in, taken_by, preempted, goes_on_at, passed_by, faults, left_by, returns}
 use Rattle.tz_sem.specs.Exchange.{core_back, back_with, touching, comes_back, moves_to, exchanged, called_with, calls}
-use Rattle.tz_sem.specs.Step.{past, is_call, exchanges, goes_on, concludes, executes, placed, decoded, fetched, fetches, fetch_in, course_in, instructs, idles, by_sleep, is_woken, awake, without_event, ended, faulting, skips}
+use Rattle.tz_sem.specs.Step.{past, is_call, exchanges, concludes, executes, placed, decoded, fetched, fetches, fetch_in, course_in, instructs, idles, by_sleep, is_woken, awake, without_event, ended, faulting, skips}
 use Rattle.tz_gates.specs.Entries.{is_sg, is_sg_second}
 
 -- no instruction ran, or the one of this code
@@ -54,15 +48,15 @@ pub data TellsCode (code : Code) (e : Ending) : Type 0 where
   Tells : e.ran ≡ Some code → TellsCode code e
 
 -- SG ran by going on to what stands behind it
-abbrev pub GoesOn : Ending → Type 0
-GoesOn e = (code : Code) → e.ran ≡ Some code → is_sg code ≡ true → e.cause ≡ causes.Went
+pub record GoesOn (e : Ending) : Type 0 where
+  pub goes : (code : Code) → e.ran ≡ Some code → is_sg code ≡ true → e.cause ≡ causes.Went
 
 -- no instruction ran
 abbrev pub IsSilent : Ending → Type 0
 IsSilent e = e.ran ≡ None
 
 silent_goes : (e : Ending) → e.ran ≡ None → GoesOn e
-silent_goes e none = λ code is sg. absurd (cc)
+silent_goes e none = record { goes = λ code is sg. absurd (cc) }
 
 -- ---- exceptions
 
@@ -169,7 +163,7 @@ goes_cond true p q h k = h
 goes_cond false p q h k = k
 
 went : (e : Ending) → e.cause ≡ causes.Went → GoesOn e
-went e is = λ code ran sg. is
+went e is = record { goes = λ code ran sg. is }
 
 goes_placed : (s : State) (course : Course) (code : Code) → GoesOn (placed s course code SecureGateway).ending
 goes_placed s course code =
@@ -194,11 +188,13 @@ same_code code other e (Silent none) is = absurd (cc)
 same_code code other e (Tells some) is = cc
 
 goes_decoded : (s : State) (course : Course) (code : Code) → GoesOn (decoded s course code (meaning_of code)).ending
-goes_decoded s course code = λ other ran sg.
-    let same : other ≡ code = same_code code other _ (tells_decoded s course code (meaning_of code)) ran in
-    let its : is_sg code ≡ true = subst (λ (c : Code). is_sg c ≡ true) same sg in
-    let means : meaning_of code ≡ One SecureGateway Wide = sg_means code its in
-    subst (λ (d : Decoded). GoesOn (decoded s course code d).ending) (sym means) (goes_placed s course code) other ran sg
+goes_decoded s course code = record {
+  goes = λ other ran sg.
+      let same : other ≡ code = same_code code other (decoded s course code (meaning_of code)).ending (tells_decoded s course code (meaning_of code)) ran in
+      let its : is_sg code ≡ true = subst (λ (c : Code). is_sg c ≡ true) same sg in
+      let means : meaning_of code ≡ One SecureGateway Wide = sg_means code its in
+      (subst (λ (d : Decoded). GoesOn (decoded s course code d).ending) (sym means) (goes_placed s course code)).goes other ran sg;
+}
 
 goes_fetched : (s : State) (course : Course) (answer : Result Fetched Fault) → GoesOn (fetched s course answer).ending
 goes_fetched s course (Err fault) = silent_goes _ (silent_faults s course fault)

@@ -1,14 +1,11 @@
 -- Where what gates rest upon stays, each entry is at a gate.
-use Rattle.std.proofs.Common.{◌≡◌, ℕ, zero, suc, ◌+◌, ◌%◌, ◌^◌, ◌<◌, ◌≤◌, Bool, true, false, ◌&&◌, cond, List, [], ◌∷◌, ◌++◌, Option, Some, None, refl, sym, ap, ◌∙◌, subst, arith, ◌⊎◌, inl, inr}
+use Rattle.std.proofs.Common.{◌≡◌, ℕ, zero, suc, ◌+◌, ◌%◌, ◌<◌, Bool, true, false, ◌&&◌, cond, List, Option, Some, None, refl, sym, ap, ◌∙◌, arith, inl, inr}
 use Rattle.std.specs.Prelude.{◌==◌, nat_le, not}
-use Rattle.std.specs.List.{count_by}
 use Rattle.std.proofs.lemmas.Bool.{and_parts, and_from, not-true, eqb-true}
 use Rattle.std.proofs.lemmas.Bool.Decides.{nat_tests}
 use Rattle.std.proofs.lemmas.List.Sums.{sum_by-append}
-use Rattle.tz_table.specs.declared.units.Side.{Side}
 use Rattle.tz_table.specs.declared.units.Side.TheVariants.{NonSecure}
 use Rattle.tz_table.specs.declared.units.Code.{Code}
-use Rattle.tz_model.specs.declared.board.RegionSide.{RegionSide}
 use Rattle.tz_model.specs.declared.board.RegionSide.TheVariants as sides
 use Rattle.tz_model.specs.declared.report.ScriptEvent.{ScriptEvent}
 use Rattle.tz_model.specs.declared.report.StepKind.TheVariants.{Locked}
@@ -26,7 +23,7 @@ use Rattle.tz_sem.specs.declared.ending.Cause.TheVariants as causes
 use Rattle.tz_sem.specs.Ended.{Ended, kind_without, told_by, ran_in, report_of}
 use Rattle.tz_sem.specs.Run.{Events, state_after}
 use Rattle.tz_sem.specs.Step.{ended, started, step}
-use Rattle.tz_twin.specs.Integrity.{IsGatewayHalf, RanGateway, Came, ByException, ByReturn, ByUnstacking, WayIn}
+use Rattle.tz_twin.specs.Integrity.{IsGatewayHalf, Came, ByException, ByReturn, ByUnstacking, WayIn}
 use Rattle.tz_twin.proofs.Unharmed.{enters_secure}
 use Rattle.tz_gates.specs.Gates.{is_gate_half, is_gate, gates_of}
 use Rattle.tz_gates.specs.Entries.{is_sg, sg_place, goes_in, entry_of, listed, entered, is_among, count_elsewhere, other_entries}
@@ -123,7 +120,7 @@ entry_at_gate s t events p is k even told =
         let gate = gate_from s (started t events) t.core.registers.pc is even (keeps_started s t events k) g.first g.second in
         let low : t.core.registers.pc < 0xE0000000 = entry_low (map_of t) t.core.registers.pc (callable_entry (map_of t) t.core.registers.pc g.first.callable.1) in
         ap (is_among (gates_of s)) h.place ∙ gate_among s t.core.registers.pc (omega arith) gate
-    by_way h (inr c) = absurd (came_otherwise _ _ _ _ c (goes_ended (started t events) h.code h.ran h.sg))
+    by_way h (inr c) = absurd (came_otherwise _ _ _ _ c ((goes_ended (started t events)).goes h.code h.ran h.sg))
 
 -- ---- runs
 

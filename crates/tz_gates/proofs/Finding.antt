@@ -1,8 +1,7 @@
 -- A fetch of Non-secure code at a gate, where what the gate rests upon stays.
-use Rattle.std.proofs.Common.{◌≡◌, ℕ, ◌+◌, ◌/◌, ◌%◌, ◌^◌, ◌<◌, Bool, true, false, ◌&&◌, cond, Result, Ok, Err, refl, sym, ap, ◌∙◌, subst, arith}
+use Rattle.std.proofs.Common.{◌≡◌, ℕ, ◌+◌, ◌%◌, ◌^◌, ◌<◌, Bool, true, false, ◌&&◌, cond, Result, Ok, Err, refl, sym, ap, ◌∙◌, arith}
 use Rattle.std.specs.Prelude.{◌==◌, not}
 use Rattle.std.proofs.lemmas.Bool.{and_parts, and_from, eqb-true}
-use Rattle.std.proofs.lemmas.Bool.Decides.{nat_tests}
 use Rattle.tz_table.specs.declared.units.Side.{Side}
 use Rattle.tz_table.specs.declared.units.Side.TheVariants.{Secure, NonSecure}
 use Rattle.tz_model.specs.declared.board.RegionSide.{RegionSide}
@@ -10,14 +9,13 @@ use Rattle.tz_model.specs.declared.board.RegionSide.TheVariants as sides
 use Rattle.tz_model.specs.declared.report.Fault.{Fault}
 use Rattle.tz_model.specs.declared.report.Fault.TheVariants.{EntryPoint, Exec, ExecBus}
 use Rattle.tz_model.specs.declared.fetch.Fetched.{Fetched}
-use Rattle.tz_model.specs.declared.fetch.FetchAnswer.{FetchAnswer}
 use Rattle.tz_model.specs.Board.{is_nonsecure, is_callable, are_regions}
 use Rattle.tz_model.specs.Words.{wrap}
 use Rattle.tz_state.specs.declared.fetcher.Fetcher.{Fetcher}
-use Rattle.tz_state.specs.Memory.{Memory, byte_at, half_at}
+use Rattle.tz_state.specs.Memory.{byte_at, half_at}
 use Rattle.tz_state.specs.Attribution.{MapState, fetch_attribution, mapped_side, sau_side}
 use Rattle.tz_state.specs.State.{Bus, State, map_in, map_of}
-use Rattle.tz_state.specs.Fetch.{is_entry, is_own_fetch, is_runnable, is_half_mapped, sg_half, wide, own_touch, own_fetch, gateway_fetch, fetch_by, fetch}
+use Rattle.tz_state.specs.Fetch.{is_entry, is_own_fetch, is_half_mapped, sg_half, wide, own_touch, own_fetch, gateway_fetch, fetch_by, fetch}
 use Rattle.tz_access.proofs.Blocks.{entry_by_blocks}
 use Rattle.tz_gates.specs.Gates.{is_gate_half, is_gate}
 use Rattle.tz_gates.specs.Stays.{KeepsGates, lets_enter, gate_answer, FindsGates}
@@ -75,9 +73,13 @@ not_own : (m : MapState) (a : ℕ) → is_entry m a ≡ true → is_own_fetch m 
 unfolding is_own_fetch
 not_own m a e = rw (callable_own (fetch_attribution m NonSecure a) e) refl
 
+-- an answer that is a fault
+abbrev faults_by : Fault → Result Fetched Fault
+faults_by fault = Err fault
+
 answer_by : (entry runs mapped sg : Bool) → entry ≡ true → mapped ≡ true → sg ≡ true
     → cond (not entry) (Err EntryPoint) (cond (not runs) (Err (Exec Secure)) (cond (not mapped) (Err ExecBus) (cond sg (Ok (wide sg_half sg_half true)) (Err EntryPoint))))
-    ≡ cond runs (Ok (wide sg_half sg_half true)) (Err {T = Fetched} (Exec Secure))
+    ≡ cond runs (Ok (wide sg_half sg_half true)) (faults_by (Exec Secure))
 answer_by true true true true e m g = refl
 answer_by true false true true e m g = refl
 answer_by false runs mapped sg e m g = cc
@@ -85,7 +87,7 @@ answer_by true runs false sg e m g = cc
 answer_by true runs true false e m g = cc
 
 gateway_answer : (b : Bus) (f : Fetcher) (a : ℕ) → (is_entry (map_in b) a && is_entry (map_in b) (wrap (a + 2))) ≡ true → (is_half_mapped b a && is_half_mapped b (wrap (a + 2))) ≡ true
-    → (half_at b.memory a == sg_half && half_at b.memory (wrap (a + 2)) == sg_half) ≡ true → gateway_fetch b f a ≡ cond (lets_enter b f a) (Ok (wide sg_half sg_half true)) (Err (Exec Secure))
+    → (half_at b.memory a == sg_half && half_at b.memory (wrap (a + 2)) == sg_half) ≡ true → gateway_fetch b f a ≡ cond (lets_enter b f a) (Ok (wide sg_half sg_half true)) (faults_by (Exec Secure))
 unfolding gateway_fetch
 gateway_answer b f a entry mapped sg = answer_by _ (lets_enter b f a) _ _ entry mapped sg
 

@@ -1,11 +1,11 @@
 -- Hits of gates, after one more entry.
-use Rattle.std.proofs.Common.{◌≡◌, ℕ, zero, suc, ◌+◌, ◌-◌, ◌<◌, ◌≤◌, Bool, true, false, ◌||◌, not, cond, List, [], ◌∷◌, ◌++◌, length, get_or, map, Result, Ok, Err, refl, sym, ap, ◌∙◌, subst, arith, ◌⊎◌, inl, inr, length-append, add-zero}
+use Rattle.std.proofs.Common.{◌≡◌, ℕ, zero, suc, ◌+◌, ◌-◌, ◌<◌, ◌≤◌, Bool, true, false, not, cond, List, [], ◌∷◌, ◌++◌, length, get_or, map, Result, Ok, Err, refl, sym, ap, ◌∙◌, arith, inl, inr, add-zero, zero-add, set, get_or-set_same, get_or-set_other}
 use Rattle.std.specs.Prelude.{◌==◌, replicate}
-use Rattle.std.specs.List.{count_by, sum_by, list_any}
+use Rattle.std.specs.List.{count_by}
 use Rattle.std.specs.List.Sorted.{IsStrictlyIncreasing, IsBinarySearchResult}
 use Rattle.std.specs.Ordering.{nat_cmp}
 use Rattle.std.specs.Result.{MatchResult}
-use Rattle.std.proofs.lemmas.Bool.{ne_eqb, eq-eqb, or_right, or_left, or_from, cases_order, cases_lt}
+use Rattle.std.proofs.lemmas.Bool.{eq-eqb, or_right, or_left, or_from, cases_order, cases_lt, cases_eq}
 use Rattle.std.proofs.lemmas.Bool.Decides.{nat_tests}
 use Rattle.std.proofs.lemmas.Grind.{same_number_lists}
 use Rattle.std.proofs.lemmas.List.{get_or-map, length-map}
@@ -75,7 +75,7 @@ among_none (y ∷ xs) x none = or_from (x == y) (is_among xs x) (none 0 (omega a
 -- ---- counts
 
 one_more : (p : ℕ → Bool) (xs : List ℕ) (x : ℕ) → count_by p (xs ++ x ∷ []) ≡ count_by p xs + cond (p x) 1 0
-one_more p xs x = sum_by-append (λ y. cond (p y) 1 0) xs (x ∷ [])
+one_more p xs x = sum_by-append (λ y. cond (p y) 1 0) xs (x ∷ []) ∙ ap (λ (n : ℕ). count_by p xs + n) (zero-add (cond (p x) 1 0))
 
 -- one more at each gate that is the address of the entry
 pub hits_more : (gates old new done : List ℕ) (x : ℕ) → length new ≡ length gates → old ≡ map (count_at done) gates
@@ -110,3 +110,22 @@ hits_few gates done k l =
 
 pub others_few : (gates done : List ℕ) → count_elsewhere done gates ≤ length done
 others_few gates done = count_by-le-length (λ p. not (is_among gates p)) done
+
+-- no hit where the entry isn't
+pub hit_none : (gates hits : List ℕ) (x k : ℕ) → (x == get_or gates k 0) ≡ false → get_or hits k 0 ≡ get_or hits k 0 + cond (x == get_or gates k 0) 1 0
+hit_none gates hits x k isnt = sym (add-zero (get_or hits k 0)) ∙ ap (λ (t : Bool). get_or hits k 0 + cond t 1 0) (sym isnt)
+
+other_hit : (gates hits : List ℕ) (x i k : ℕ) → IsStrictlyIncreasing gates → i < length gates → get_or gates i 0 ≡ x → k < length gates → (i ≡ k → ⊥) → get_or (set hits i (get_or hits i 0 + 1)) k 0 ≡ get_or hits k 0 + cond (x == get_or gates k 0) 1 0
+other_hit gates hits x i k up l e m apart = get_or-set_other hits i k (get_or hits i 0 + 1) 0 (λ e. apart (sym e)) ∙ hit_none gates hits x k (other_place gates x i k up l e m apart)
+
+-- one more at the place of the entry, and the others as they were
+pub hit_one : (gates hits : List ℕ) (x i : ℕ) → IsStrictlyIncreasing gates → length hits ≡ length gates → i < length gates → get_or gates i 0 ≡ x → (k : ℕ) → k < length gates
+    → get_or (set hits i (get_or hits i 0 + 1)) k 0 ≡ get_or hits k 0 + cond (x == get_or gates k 0) 1 0
+hit_one gates hits x i up long l e k m = elim (cases_eq i k) [
+  | inl same ↦
+      let there : i < length hits = omega arith in
+      let is : (x == get_or gates k 0) ≡ true = eq-eqb x (get_or gates k 0) (sym e ∙ ap (λ (j : ℕ). get_or gates j 0) same) in
+      ap (λ (j : ℕ). get_or (set hits i (get_or hits i 0 + 1)) j 0) (sym same) ∙ get_or-set_same hits i (get_or hits i 0 + 1) 0 there ∙ ap (λ (j : ℕ). get_or hits j 0 + 1) same
+      ∙ ap (λ (t : Bool). get_or hits k 0 + cond t 1 0) (sym is)
+  | inr apart ↦ other_hit gates hits x i k up l e m apart
+]

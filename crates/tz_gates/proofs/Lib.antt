@@ -1,7 +1,7 @@
 pub mod Scanning
 pub mod Listed
 pub mod Finding
-pub mod Spans
+pub mod Regions
 pub mod Hits
 pub mod Entering
 pub mod Exact

@@ -1,11 +1,11 @@
 -- The lines of gates that are left to write.
-use Rattle.std.proofs.Common.{◌≡◌, ℕ, zero, suc, ◌+◌, ◌<◌, ◌≤◌, ◌⊎◌, inl, inr, List, [], ◌∷◌, ◌++◌, length, get_or, drop, Option, Result, Ok, Err, refl, sym, ap, ◌∙◌, subst, arith, append_assoc}
+use Rattle.std.proofs.Common.{◌≡◌, ℕ, zero, suc, ◌+◌, ◌<◌, ◌≤◌, ◌⊎◌, inl, inr, List, [], ◌∷◌, ◌++◌, length, get_or, drop, Option, Result, refl, sym, ap, ◌∙◌, subst, arith, append_assoc}
 use Rattle.std.proofs.lemmas.List.{drop_all}
 use Rattle.tz_model.specs.declared.outside.SinkError.{SinkError}
 use Rattle.tz_model.specs.Outside.{Put}
 use Rattle.tz_model.proofs.Puts.{put_then}
 use Rattle.tz_text.proofs.Sending.{Sent}
-use Rattle.tz_gates.specs.GatesText.{gate_line, gate_lines, unlisted_line, gates_text}
+use Rattle.tz_gates.specs.GatesText.{gate_line, gate_lines, unlisted_line}
 
 -- the text from the gate of a number on
 abbrev pub lines_left : List ℕ → List ℕ → ℕ → ℕ → List ℕ

@@ -1,7 +1,7 @@
 -- What a list of all gates is: each gate is in it, nothing else is, and it ascends.
-use Rattle.std.proofs.Common.{◌≡◌, ℕ, zero, suc, ◌+◌, ◌-◌, ◌^◌, ◌<◌, ◌≤◌, Bool, true, false, ◌||◌, cond, List, [], ◌∷◌, ◌++◌, length, get_or, refl, sym, ap, ◌∙◌, subst, arith, ◌⊎◌, inl, inr, length-append}
+use Rattle.std.proofs.Common.{◌≡◌, ℕ, zero, suc, ◌+◌, ◌-◌, ◌^◌, ◌<◌, Bool, true, false, ◌||◌, cond, List, [], ◌∷◌, ◌++◌, length, get_or, refl, sym, ap, ◌∙◌, subst, arith, inl, inr, length-append}
 use Rattle.std.specs.Prelude.{◌==◌}
-use Rattle.std.specs.List.{Contains, list_any}
+use Rattle.std.specs.List.{Contains}
 use Rattle.std.specs.List.Sorted.{IsStrictlyIncreasing}
 use Rattle.std.proofs.lemmas.Bool.{or_right, or_left, cases_lt}
 use Rattle.std.proofs.lemmas.Bool.Decides.{nat_tests}
@@ -14,15 +14,15 @@ use Rattle.tz_gates.specs.Entries.{is_among}
 
 contained : (s : State) (n a : ℕ) → Contains (gates_below s n) a → (a < n) × (is_gate s a ≡ true)
 unfolding gates_below
-contained s zero a h = absurd (omega (arith, h.1.0))
-contained s (suc n) a h = go (is_gate s n) refl h where
+contained s zero a h = let l : h.0 < 0 = h.1 in absurd (omega arith)
+contained s (suc n) a h = go (is_gate s n) refl (contained s n a) h where
   less : (a < n) × (is_gate s a ≡ true) → (a < suc n) × (is_gate s a ≡ true)
   less k = let l : a < n = k.0 in (omega arith, k.1)
 
-  go : (t : Bool) → is_gate s n ≡ t → Contains (cond t (gates_below s n ++ n ∷ []) (gates_below s n)) a → (a < suc n) × (is_gate s a ≡ true)
-  go false no k = less (contained s n a k)
-  go true is k = elim (Contains-push_cases (gates_below s n) n a k) [
-    | inl l ↦ less (contained s n a l)
+  go : (t : Bool) → is_gate s n ≡ t → (Contains (gates_below s n) a → (a < n) × (is_gate s a ≡ true)) → Contains (cond t (gates_below s n ++ n ∷ []) (gates_below s n)) a → (a < suc n) × (is_gate s a ≡ true)
+  go false isnt below k = less (below k)
+  go true is below k = elim (Contains-push_cases (gates_below s n) n a k) [
+    | inl l ↦ less (below l)
     | inr e ↦ (omega arith, subst (λ (x : ℕ). is_gate s x ≡ true) e is)
   ]
 
@@ -33,17 +33,17 @@ contained_gate s a h = contained s 0x100000000 a h
 among : (s : State) (n a : ℕ) → a < n → is_gate s a ≡ true → is_among (gates_below s n) a ≡ true
 unfolding gates_below
 among s zero a l is = absurd (omega arith)
-among s (suc n) a l is = go (is_gate s n) refl where
+among s (suc n) a l is = go (is_gate s n) refl (λ k. among s n a k is) where
   here : n ≡ a → (a == n) ≡ true
   here e = grind (arith, nat_tests)
 
-  go : (t : Bool) → is_gate s n ≡ t → is_among (cond t (gates_below s n ++ n ∷ []) (gates_below s n)) a ≡ true
-  go false no = elim (cases_lt a n) [
-    | inl k ↦ among s n a k is
-    | inr k ↦ let same : a ≡ n = omega arith in let both : true ≡ false = sym is ∙ ap (is_gate s) same ∙ no in cc
+  go : (t : Bool) → is_gate s n ≡ t → (a < n → is_among (gates_below s n) a ≡ true) → is_among (cond t (gates_below s n ++ n ∷ []) (gates_below s n)) a ≡ true
+  go false isnt below = elim (cases_lt a n) [
+    | inl k ↦ below k
+    | inr k ↦ let same : a ≡ n = omega arith in let both : true ≡ false = sym is ∙ ap (is_gate s) same ∙ isnt in cc
   ]
-  go true yes = list_any-append (λ (x : ℕ). a == x) (gates_below s n) (n ∷ []) ∙ elim (cases_lt a n) as (λ _. (is_among (gates_below s n) a || is_among (n ∷ []) a) ≡ true) [
-    | inl k ↦ or_left (is_among (gates_below s n) a) (is_among (n ∷ []) a) (among s n a k is)
+  go true gate below = list_any-append (λ (x : ℕ). a == x) (gates_below s n) (n ∷ []) ∙ elim (cases_lt a n) as (λ _. (is_among (gates_below s n) a || is_among (n ∷ []) a) ≡ true) [
+    | inl k ↦ or_left (is_among (gates_below s n) a) (is_among (n ∷ []) a) (below k)
     | inr k ↦ or_right (is_among (gates_below s n) a) (is_among (n ∷ []) a) (or_left (a == n) false (here (omega arith)))
   ]
 
@@ -96,10 +96,10 @@ ascends_more xs n h = record { up = h.up; below = λ k l. let m : get_or xs k 0 
 ascends : (s : State) (n : ℕ) → Ascends (gates_below s n) n
 unfolding gates_below
 ascends s zero = record { up = λ k l. absurd (omega arith); below = λ k l. absurd (omega arith) }
-ascends s (suc n) = go (is_gate s n) where
-  go : (t : Bool) → Ascends (cond t (gates_below s n ++ n ∷ []) (gates_below s n)) (suc n)
-  go true = ascends_push (gates_below s n) n (ascends s n)
-  go false = ascends_more (gates_below s n) n (ascends s n)
+ascends s (suc n) = go (is_gate s n) (ascends s n) where
+  go : (t : Bool) → Ascends (gates_below s n) n → Ascends (cond t (gates_below s n ++ n ∷ []) (gates_below s n)) (suc n)
+  go true h = ascends_push (gates_below s n) n h
+  go false h = ascends_more (gates_below s n) n h
 
 pub gates_ascend : (s : State) → IsStrictlyIncreasing (gates_of s)
 unfolding gates_of

@@ -7,8 +7,8 @@ use Rattle.tz_gates.specs.Gates.{is_gate_half, gates_below}
 
 -- the gates below the halfword right before an address are found, and it is told whether that halfword might begin one
 pub record Scanned (s : State) (a : ℕ) (gates : List ℕ) (half : Bool) : Type 0 where
-  pub gates : gates ≡ gates_below s (a - 2)
-  pub half : half ≡ (nat_le 2 a && is_gate_half s (a - 2))
+  pub found : gates ≡ gates_below s (a - 2)
+  pub last : half ≡ (nat_le 2 a && is_gate_half s (a - 2))
 
 -- no region holds an address from one on and below another
 abbrev pub IsGap : List Region → ℕ → ℕ → Type 0

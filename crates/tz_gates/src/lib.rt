@@ -6,12 +6,12 @@
 //! both as lines.
 #![tactic(auto)]
 
-mod count;
-mod list;
+mod listing;
 mod scan;
 mod spans;
+mod tally;
 mod text;
 
-pub use count::count;
-pub use list::list;
+pub use listing::list;
+pub use tally::count;
 pub use text::put_gates;

@@ -1,6 +1,6 @@
 //! The search for gates, from one address on to the next.
 
-ghost use Rattle.std.specs.Prelude.{◌≡◌, ◌+◌, ◌≤◌, ◌<◌, ◌%◌, true, OnOk};
+ghost use Rattle.std.specs.Prelude.{◌≡◌, ◌+◌, ◌≤◌, ◌<◌, ◌%◌, ◌^◌, true, false, OnOk};
 ghost use Rattle.tz_model.specs.Board.{are_regions};
 ghost use Rattle.tz_state.specs.State.{map_of};
 ghost use Rattle.tz_state.specs.Fetch.{is_entry};
@@ -124,7 +124,7 @@ impl Scan {
         ensures { OnOk result (Scanned machine.now end self.new.gates.items self.new.half) }
     {
         let mut block = first;
-        'blocks: while block < end {
+        'span: while block < end {
             if is_entry(machine, block) {
                 self.read_block(machine, block)?;
             } else {

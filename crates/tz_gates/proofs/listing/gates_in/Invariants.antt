@@ -1,6 +1,6 @@
 use Rattle.std.proofs.Common.{◌≡◌, ◌≤◌, ◌%◌, ◌-◌}
 use Rattle.tz_gates.specs.Scanned.{Scanned}
-use Rattle.tz_gates.proofs.list.gates_in.Given as goal
+use Rattle.tz_gates.proofs.listing.gates_in.Given as goal
 
 abbrev pub invariant-spans : goal.invariant-spans
 invariant-spans l = record {

@@ -1,7 +1,6 @@
-use Rattle.std.proofs.Common.{◌≡◌, length}
 use Rattle.tz_run.specs.Events.{events_of}
 use Rattle.tz_gates.proofs.Counting.{SoFar}
-use Rattle.tz_gates.proofs.count.count_counted.Given as goal
+use Rattle.tz_gates.proofs.tally.count_counted.Given as goal
 
 abbrev pub invariant-loop-step : goal.invariant-loop-step
 invariant-loop-step g l = record {

@@ -9,6 +9,7 @@ ghost use Rattle.tz_gates.specs.Entries.{is_sg, sg_place, entry_of, is_among, en
 ghost use Rattle.tz_gates.specs.Gates.{gates_of};
 ghost use Rattle.tz_gates.specs.Stays.{KeepsGatesFor, HasEvenPcFor};
 
+use crate::scan::know_regions;
 use std::marker::Brand;
 use std::sync::ledger::{Blank, Ledger};
 use tz_board::Script;
@@ -103,6 +104,7 @@ fn count_counted<L: Ledger>(
     ensures others { result ≡ other_entries (events_of script.now) 0 machine.old steps gates.now }
     ensures exact { (s : State) → gates.now ≡ gates_of s → KeepsGatesFor s (events_of script.now) machine.old steps → HasEvenPcFor (events_of script.now) machine.old steps → result ≡ 0 }
 {
+    know_regions(machine);
     let mut looks = Steps::<L>::start(blank);
     let mut report = Report::new();
     let mut others = 0;

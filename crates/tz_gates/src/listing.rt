@@ -14,7 +14,9 @@ use tz_model::{Board, Image};
 
 /// The gates of a machine. Each region is read once, and of it only what Non-secure code may call.
 pub(crate) fn gates_in(alloc: Global, machine: &Machine) -> Result<Vec<u32>, AllocError>
-    ensures { IfOk result (λ v. v.items ≡ gates_of machine.now) }
+    ensures gates { IfOk result (λ v. v.items ≡ gates_of machine.now) }
+    ensures ascending { IfOk result (λ v. IsStrictlyIncreasing v.items) }
+    ensures found { IfOk result (λ v. FindsGates machine.now v.items) }
 {
     know_regions(machine);
     let regions = &machine.board().regions;

@@ -1,10 +1,11 @@
 -- The first bytes that regions hold from an address on.
-use Rattle.std.proofs.Common.{◌≡◌, ℕ, ◌+◌, ◌-◌, ◌%◌, ◌^◌, ◌<◌, ◌≤◌, Bool, true, false, ◌&&◌, cond, List, [], ◌∷◌, ◌++◌, Option, Some, None, refl, sym, ap, ◌∙◌, arith}
-use Rattle.std.proofs.lemmas.Bool.{and_left, and_right, and_parts}
+use Rattle.std.proofs.Common.{◌≡◌, ℕ, zero, suc, length, get_or, take, subst, ◌+◌, ◌%◌, ◌^◌, ◌<◌, ◌≤◌, Bool, true, false, cond, List, [], ◌∷◌, ◌++◌, Option, Some, None, refl, sym, ap, arith}
+use Rattle.std.proofs.lemmas.Bool.{and_parts}
 use Rattle.std.proofs.lemmas.Bool.Decides.{nat_tests}
-use Rattle.std.specs.Prelude.{◌==◌, nat_le, nat_lt}
+use Rattle.std.specs.Prelude.{◌==◌, nat_le}
+use Rattle.std.proofs.lemmas.List.{take_more}
 use Rattle.tz_model.specs.declared.board.Region.{Region}
-use Rattle.tz_model.specs.Board.{in_region, is_region}
+use Rattle.tz_model.specs.Board.{in_region, is_region, are_regions}
 use Rattle.tz_state.specs.Access.{is_mapped}
 use Rattle.tz_gates.specs.Scanned.{IsGap, IsNext, IsNextOf}
 
@@ -12,7 +13,7 @@ use Rattle.tz_gates.specs.Scanned.{IsGap, IsNext, IsNextOf}
 
 one_unmapped : (r : Region) (a : ℕ) → in_region r a ≡ false → is_mapped (r ∷ []) a ≡ false
 unfolding is_mapped
-one_unmapped r a no = ap (λ (t : Bool). cond t true false) no
+one_unmapped r a isnt = ap (λ (t : Bool). cond t true false) isnt
 
 above_end : (r : Region) (a : ℕ) → r.base + r.size ≤ a → in_region r a ≡ false
 above_end r a l = grind (arith, nat_tests)
@@ -60,11 +61,11 @@ whole_region r from is above =
 
 pub unmapped_append : (rs qs : List Region) (a : ℕ) → is_mapped rs a ≡ false → is_mapped qs a ≡ false → is_mapped (rs ++ qs) a ≡ false
 unfolding is_mapped
-unmapped_append [] qs a no other = other
-unmapped_append (r ∷ rs) qs a no other = go (in_region r a) no where
-  go : (t : Bool) → cond t true (is_mapped rs a) ≡ false → cond t true (is_mapped (rs ++ qs) a) ≡ false
-  go true e = e
-  go false e = unmapped_append rs qs a e other
+unmapped_append [] qs a isnt other = other
+unmapped_append (r ∷ rs) qs a isnt other = go (in_region r a) (λ e. unmapped_append rs qs a e other) isnt where
+  go : (t : Bool) → (is_mapped rs a ≡ false → is_mapped (rs ++ qs) a ≡ false) → cond t true (is_mapped rs a) ≡ false → cond t true (is_mapped (rs ++ qs) a) ≡ false
+  go true more e = e
+  go false more e = more e
 
 gap_both : (rs qs : List Region) (from to end : ℕ) → to ≤ end → IsGap rs from to → IsGap qs from end → IsGap (rs ++ qs) from to
 gap_both rs qs from to end l p q a le lt = unmapped_append rs qs a (p a le lt) (q a le (omega arith))
@@ -96,3 +97,16 @@ next_second rs qs from x y l p q = with_gap qs (rs ++ qs) from y.0 y.1 q (gap_ot
 pub next_none : (from : ℕ) → IsNextOf [] from None
 unfolding is_mapped
 next_none from a le lt = refl
+
+-- each region of a board is made so
+pub region_at : (rs : List Region) (i : ℕ) (r : Region) → are_regions rs ≡ true → i < length rs → is_region (get_or rs i r) ≡ true
+region_at [] i r all l = absurd (omega arith)
+region_at (q ∷ rs) zero r all l = (and_parts (is_region q) (are_regions rs) all).0
+region_at (q ∷ rs) (suc i) r all l = region_at rs i r (and_parts (is_region q) (are_regions rs) all).1 (omega arith)
+
+-- one region more
+pub next_more : (rs : List Region) (i : ℕ) (d : Region) (from : ℕ) (old part new : Option (ℕ × ℕ)) → i < length rs
+    → ((ps qs : List Region) (from : ℕ) → IsNextOf ps from old → IsNextOf qs from part → IsNextOf (ps ++ qs) from new) → IsNextOf (take i rs) from old → IsNextOf (get_or rs i d ∷ []) from part
+    → IsNextOf (take (i + 1) rs) from new
+next_more rs i d from old part new l both p q =
+    subst (λ (xs : List Region). IsNextOf xs from new) (sym (take_more rs i d l)) (both (take i rs) (get_or rs i d ∷ []) from p q)
