@@ -1,0 +1,9 @@
+pub mod Scanning
+pub mod Listed
+pub mod Finding
+pub mod Regions
+pub mod Hits
+pub mod Entering
+pub mod Exact
+pub mod Counting
+pub mod Lines
