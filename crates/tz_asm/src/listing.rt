@@ -67,7 +67,7 @@ fn push_halfword(text: &mut Head, low: u8, high: u8)
 
 /// Appends the bytes of a code, halfword by halfword.
 #[tactic(auto, unfolding(crate::specs::Listing::code_text))]
-fn push_code(text: &mut Head, bytes: &[u8])
+fn push_halfwords(text: &mut Head, bytes: &[u8])
     requires { array_string_len text.old + 9 ≤ 32 }
     ensures { text.new.bytes ≡ text.old.bytes ++ code_text bytes.now }
 {
@@ -106,7 +106,7 @@ fn push_placed(text: &mut Head, statement: &Statement<'_, '_>, bytes: &[u8])
     ensures { text.new.bytes ≡ text.old.bytes ++ placed_text (statement_view statement.now) bytes.now }
 {
     match *statement {
-        Statement::Instruction(_, _, _) => push_code(text, bytes),
+        Statement::Instruction(_, _, _) => push_halfwords(text, bytes),
         _ => push_data(text, bytes),
     }
 }
