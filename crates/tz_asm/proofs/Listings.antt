@@ -1,14 +1,14 @@
 -- A listing, line by line, and which sources have one.
-use Rattle.std.proofs.Common.{◌≡◌, ◌+◌, ◌≤◌, ℕ, zero, suc, refl, arith, Bool, true, false, ◌||◌, nat_lt, if◌then◌else◌, List, [], ◌∷◌, length, Result, Ok, Err}
+use Rattle.std.proofs.Common.{◌≡◌, ◌==◌, ◌+◌, ◌≤◌, ℕ, zero, suc, refl, arith, subst, Bool, true, false, ◌||◌, nat_lt, if◌then◌else◌, List, [], ◌∷◌, length, Option, Some, None, Result, Ok, Err}
 use Rattle.std.proofs.lemmas.Bool.{ltb-false}
 use Rattle.tz_asm.specs.Errors.{IsRefusal, Tells}
 use Rattle.tz_asm.specs.FirstPass.{first_pass}
 use Rattle.tz_asm.specs.Growing.{GrowingValue, grown, nothing}
-use Rattle.tz_asm.specs.Layouts.{advance, byte_count, put, start}
-use Rattle.tz_asm.specs.Listing.{ListingValue, RefusedAlike, listed, listed_from, listed_turn, listed_with, no_lines, noted, refusal_in, whole}
+use Rattle.tz_asm.specs.Layouts.{advance, behind, byte_count, go_to, put, start, too_many_segments}
+use Rattle.tz_asm.specs.Listing.{ListingValue, PlacesAscend, RefusedAlike, listed, listed_from, listed_turn, listed_with, no_lines, noted, refusal_in, whole}
 use Rattle.tz_asm.specs.Places.{Places}
 use Rattle.tz_asm.specs.Reading.{said}
-use Rattle.tz_asm.specs.Refusals.{◌>>=◌, Refusal, TooLarge}
+use Rattle.tz_asm.specs.Refusals.{◌>>=◌, OrgBackwards, Refusal, TooLarge}
 use Rattle.tz_asm.specs.SourceLines.{LineValue}
 use Rattle.tz_asm.specs.Statements.{StatementValue, Nothing, Org, Align, Data, Equ, Space, Text, Instruction}
 use Rattle.tz_asm.specs.Told.{assembled, second_from, second_turn, written_by}
@@ -132,3 +132,55 @@ same_refusal (Err e) f g h = refl
 pub refused_alike : RefusedAlike
 unfolding listed listed_with assembled
 refused_alike source = same_refusal (first_pass source) _ _ (λ places. from_alike 1 places start no_lines nothing (lines_of source))
+
+-- ---- no place goes back
+
+put-ascends : (line count : ℕ) (l next : Layout) → put line count l ≡ Ok next → l.place ≤ next.place
+unfolding put
+put-ascends line zero l next is =
+    let same : l ≡ next = cc in
+    subst (λ (x : Layout). l.place ≤ x.place) same (omega arith)
+put-ascends line (suc count) l next is =
+    by_tests (nat_lt 4294967296 (l.place + suc count) || nat_lt most_bytes (l.bytes + suc count)) l.inside (nat_lt (l.segments + 1) too_many_segments) is
+  where
+    by_tests : (large inside few : Bool)
+        → (if large then Err (TooLarge line) else if inside then Ok (behind l.segments (suc count) l)
+        else if few then Ok (behind (l.segments + 1) (suc count) l) else Err (TooLarge l.org_line)) ≡ Ok next
+        → l.place ≤ next.place
+    by_tests true inside few h = absurd cc
+    by_tests false true few h =
+        let same : behind l.segments (suc count) l ≡ next = cc in
+        subst (λ (x : Layout). l.place ≤ x.place) same (omega arith)
+    by_tests false false true h =
+        let same : behind (l.segments + 1) (suc count) l ≡ next = cc in
+        subst (λ (x : Layout). l.place ≤ x.place) same (omega arith)
+    by_tests false false false h = absurd cc
+
+go_to-ascends : (line : ℕ) (place : Option ℕ) (l next : Layout) → go_to line place l ≡ Ok next → l.place ≤ next.place
+unfolding go_to
+go_to-ascends line None l next is = absurd cc
+go_to-ascends line (Some place) l next is = by_tests (nat_lt place l.place) refl (place == l.place) is
+  where
+    forth : Layout
+    forth = record { place = place; inside = false; bytes = l.bytes; segments = l.segments; org_line = line }
+
+    by_tests : (back : Bool) → nat_lt place l.place ≡ back → (same : Bool) → (if back then Err (OrgBackwards line) else if same then Ok l else Ok forth) ≡ Ok next
+        → l.place ≤ next.place
+    by_tests true at same h = absurd cc
+    by_tests false at true h =
+        let is : l ≡ next = cc in
+        subst (λ (x : Layout). l.place ≤ x.place) is (omega arith)
+    by_tests false at false h =
+        let is : forth ≡ next = cc in
+        subst (λ (x : Layout). l.place ≤ x.place) is (ltb-false place l.place at)
+
+pub places_ascend : PlacesAscend
+unfolding advance
+places_ascend line (Org number) l next is = go_to-ascends line _ l next is
+places_ascend line Nothing l next is = put-ascends line _ l next is
+places_ascend line (Align multiple) l next is = put-ascends line _ l next is
+places_ascend line (Data size value) l next is = put-ascends line _ l next is
+places_ascend line (Equ name value) l next is = put-ascends line _ l next is
+places_ascend line (Space count) l next is = put-ascends line _ l next is
+places_ascend line (Text text ends) l next is = put-ascends line _ l next is
+places_ascend line (Instruction width mnemonic operands) l next is = put-ascends line _ l next is

@@ -1,5 +1,5 @@
 -- A listing: each line of a source with where its bytes go and what they are, and behind the lines the labels (own).
-use Rattle.std.specs.Prelude.{◌≡◌, ℕ, ◌+◌, ◌/◌, ◌%◌, ◌^◌, ◌==◌, nat_lt, not, ◌&&◌, if◌then◌else◌, List, [], ◌∷◌, ◌++◌, length, take, drop, flat_map, codes, decimal, Option, Some, None, Result, Ok, Err}
+use Rattle.std.specs.Prelude.{◌≡◌, ℕ, ◌+◌, ◌/◌, ◌%◌, ◌^◌, ◌==◌, ◌≤◌, nat_lt, not, ◌&&◌, if◌then◌else◌, List, [], ◌∷◌, ◌++◌, length, take, drop, flat_map, codes, decimal, Option, Some, None, Result, Ok, Err}
 use Rattle.tz_asm.specs.FirstPass.{first_pass}
 use Rattle.tz_asm.specs.Layouts.{advance, start}
 use Rattle.tz_asm.specs.Places.{Places, value_named}
@@ -124,7 +124,7 @@ listed_with source places = listed_from 1 places start no_lines (lines_of source
 unfoldable pub listed : List ℕ → Result (List ℕ) Refusal
 listed source = first_pass source >>= (λ places. listed_with source places)
 
--- ---- the law
+-- ---- laws
 
 -- the refusal that an answer is
 abbrev pub refusal_in : {A : Type 0} → Result A Refusal → Option Refusal
@@ -134,3 +134,7 @@ refusal_in (Err refusal) = Some refusal
 -- a source is listed where it is assembled, and else both are the same refusal
 abbrev pub RefusedAlike : Type 0
 RefusedAlike = (source : List ℕ) → refusal_in (listed source) ≡ refusal_in (assembled source)
+
+-- no statement takes the place back, so labels ascend in the order of their lines
+abbrev pub PlacesAscend : Type 0
+PlacesAscend = (line : ℕ) (statement : StatementValue) (l next : Layout) → advance line statement l ≡ Ok next → l.place ≤ next.place

@@ -30,7 +30,7 @@ mod written;
 pub use code::{Uncoded, code_of, coded_once, coded_width, has_shape, is_label, width_of};
 pub use error::AsmError;
 use first_pass::first_pass;
-pub use listing::{list, listed_as_assembled};
+pub use listing::{list, listed_as_assembled, places_ascend};
 pub use reread::{assembled_reads_back, image_has_its_pairs};
 use second_pass::second_pass;
 use std::alloc::Global;

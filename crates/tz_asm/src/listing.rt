@@ -9,7 +9,7 @@ ghost use Rattle.std.specs.Prelude.{◌≡◌, ◌+◌, ◌*◌, ◌<◌, ◌≤
 ghost use Rattle.arrayvec.specs.ArrayString.{array_string_len};
 ghost use Rattle.tz_asm.specs.Errors.{IsRefusal};
 ghost use Rattle.tz_asm.specs.Layouts.{IsLayout};
-ghost use Rattle.tz_asm.specs.Listing.{code_text, data_text, equ_text, head_text, label_text, line_text, listed, listed_turn, listed_with, listing_view, no_lines, noted, number_text, placed_text, RefusedAlike, value_text, whole};
+ghost use Rattle.tz_asm.specs.Listing.{code_text, data_text, equ_text, head_text, label_text, line_text, listed, listed_turn, listed_with, listing_view, no_lines, noted, number_text, placed_text, PlacesAscend, RefusedAlike, value_text, whole};
 ghost use Rattle.tz_asm.specs.Places.{places_in};
 ghost use Rattle.tz_asm.specs.Views.{line_view, statement_view};
 ghost use Rattle.tz_syntax.specs.Digits.{hex_byte};
@@ -351,4 +351,9 @@ pub fn list(alloc: Global, source: &[u8]) -> Result<Vec<u8>, AsmError>
 /// A source is listed where it is assembled, and else both are the same refusal.
 pub fn listed_as_assembled()
     ensures { RefusedAlike }
+{}
+
+/// No statement takes the place back, so the labels of a listing ascend.
+pub fn places_ascend()
+    ensures { PlacesAscend }
 {}
