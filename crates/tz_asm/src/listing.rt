@@ -137,7 +137,8 @@ fn push_line(lines: &mut Vec<u8>, head: &Head, text: &[u8]) -> Result<(), AllocE
     lines.extend_from_slice(head.as_str().as_bytes())?;
     lines.extend_from_slice(&margin[head.len()..])?;
     lines.extend_from_slice(text)?;
-    lines.push(b'\n')
+    lines.push(b'\n')?;
+    Ok(())
 }
 
 /// Appends a name behind its number and a mark.
@@ -147,7 +148,8 @@ fn push_named(names: &mut Vec<u8>, number: &Head, mark: &str, name: &[u8]) -> Re
     names.extend_from_slice(number.as_str().as_bytes())?;
     names.extend_from_slice(mark.as_bytes())?;
     names.extend_from_slice(name)?;
-    names.push(b'\n')
+    names.push(b'\n')?;
+    Ok(())
 }
 
 /// Appends the label of a line at a place, if it has one.
