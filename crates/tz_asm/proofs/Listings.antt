@@ -1,6 +1,6 @@
 -- A listing, line by line, and which sources have one.
 use Rattle.std.proofs.Common.{◌≡◌, ◌==◌, ◌+◌, ◌≤◌, ℕ, zero, suc, refl, arith, subst, Bool, true, false, ◌||◌, nat_lt, if◌then◌else◌, List, [], ◌∷◌, length, Option, Some, None, Result, Ok, Err}
-use Rattle.std.proofs.lemmas.Bool.{ltb-false}
+use Rattle.std.proofs.lemmas.Bool.{ltb-false, ne_eqb}
 use Rattle.tz_asm.specs.Errors.{IsRefusal, Tells}
 use Rattle.tz_asm.specs.FirstPass.{first_pass}
 use Rattle.tz_asm.specs.Growing.{GrowingValue, grown, nothing}
@@ -25,7 +25,9 @@ use Rattle.tz_asm.proofs.Told.{written_told}
 put-few : (line count : ℕ) (l next : Layout) → put line count l ≡ Ok next → count ≤ most_bytes
 unfolding put
 put-few line zero l next is = omega arith
-put-few line (suc count) l next is = by_tests (nat_lt 4294967296 (l.place + suc count)) (nat_lt most_bytes (l.bytes + suc count)) refl _ is
+put-few line (suc count) l next is =
+    let some : (suc count == 0) ≡ false = ne_eqb (suc count) 0 (λ h. omega arith) in
+    by_tests (nat_lt 4294967296 (l.place + suc count)) (nat_lt most_bytes (l.bytes + suc count)) refl _ (rw some at is)
   where
     by_tests : (past large : Bool) → nat_lt most_bytes (l.bytes + suc count) ≡ large → (rest : Result Layout Refusal)
         → (if past || large then Err (TooLarge line) else rest) ≡ Ok next → suc count ≤ most_bytes
@@ -141,7 +143,8 @@ put-ascends line zero l next is =
     let same : l ≡ next = cc in
     subst (λ (x : Layout). l.place ≤ x.place) same (omega arith)
 put-ascends line (suc count) l next is =
-    by_tests (nat_lt 4294967296 (l.place + suc count) || nat_lt most_bytes (l.bytes + suc count)) l.inside (nat_lt (l.segments + 1) too_many_segments) is
+    let some : (suc count == 0) ≡ false = ne_eqb (suc count) 0 (λ h. omega arith) in
+    by_tests (nat_lt 4294967296 (l.place + suc count) || nat_lt most_bytes (l.bytes + suc count)) l.inside (nat_lt (l.segments + 1) too_many_segments) (rw some at is)
   where
     by_tests : (large inside few : Bool)
         → (if large then Err (TooLarge line) else if inside then Ok (behind l.segments (suc count) l)

@@ -31,14 +31,14 @@ returns-in-Err-write_statement-clause-err c =
     unwritten c.in-Err-write_statement.error c.args.line (places_in c.args.places.now) c.args.layout c.in-Ok-advance.next (listing_view c.args.listing.now) c.args.text.now (line_view c.in-Ok-said_by.said)
     (reads ∙ c.in-Ok-said_by.ensures.ok) c.in-Ok-advance.ensures.ok c.in-Err-write_statement.ensures.err
 
-pub note-requires-few : goal.note-requires-few
-note-requires-few c =
+pub note-requires-clause-few : goal.note-requires-clause-few
+note-requires-clause-few c =
     let few = advance-few c.args.line (statement_view c.in-Ok-said_by.said.statement) c.args.layout c.in-Ok-advance.next c.in-Ok-advance.ensures.ok in
     let count : length c.as_slice-3.result.now ≡ byte_count c.args.layout.place (statement_view c.in-Ok-said_by.said.statement) = ap length c.as_slice-3.ensures.value ∙ c.in_default.ensures.count in
     omega (arith, few, count)
 
-pub note-requires-placed : goal.note-requires-placed
-note-requires-placed c some =
+pub note-requires-clause-placed : goal.note-requires-clause-placed
+note-requires-clause-placed c some =
     let fits = c.in-Ok-advance.ensures.fits in
     let count : length c.as_slice-3.result.now ≡ byte_count c.args.layout.place (statement_view c.in-Ok-said_by.said.statement) = ap length c.as_slice-3.ensures.value ∙ c.in_default.ensures.count in
     omega (arith, fits, count, some)
