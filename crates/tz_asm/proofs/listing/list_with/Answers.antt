@@ -32,8 +32,8 @@ loop-rest-preserved c =
       counted = omega arith;
     }
 
-pub returns-in-Ok-text-clause-ok : goal.returns-in-Ok-text-clause-ok
-returns-in-Ok-text-clause-ok c =
+pub returns-in-Ok-whole-clause-ok : goal.returns-in-Ok-whole-clause-ok
+returns-in-Ok-whole-clause-ok c =
     let none : length c.loop-rest.rest.now ≡ 0 = eqb-true (length c.loop-rest.rest.now) 0 (sym c.is_empty.ensures ∙ c.loop-rest-test.false) in
     c.loop-rest.invariant.read ∙ ends c.loop-rest.line (places_in c.args.places.now) c.loop-rest.layout (listing_view c.loop-rest.listing) c.loop-rest.rest.now none
-    ∙ ap (λ (x : List ℕ). Ok x) (sym c.in-Ok-text.ensures)
+    ∙ ap (λ (x : List ℕ). Ok x) (sym c.in-Ok-whole.ensures)
