@@ -1,4 +1,4 @@
-use Rattle.std.proofs.Common.{◌≡◌, ◌∙◌, ◌+◌, ◌<◌, ◌≤◌, ◌^◌, List, ap, arith, length, sym, ℕ}
+use Rattle.std.proofs.Common.{◌≡◌, ◌∙◌, List, ap, arith, length, ℕ}
 use Rattle.tz_asm.specs.Layouts.{byte_count}
 use Rattle.tz_asm.specs.Listing.{listing_view, noted}
 use Rattle.tz_asm.specs.Places.{places_in}
