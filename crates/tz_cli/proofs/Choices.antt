@@ -22,11 +22,12 @@ names_in (choice ∷ more) = choice.0 ∷ names_in more
 -- another name stands for nothing
 unnamed : {A : Type 0} (choices : List (Text × A)) (name : Text) → is_one_of (names_in choices) name ≡ false → named_in choices name ≡ None
 unnamed [] name h = refl
-unnamed {A} (choice ∷ more) name h = by_test (bytes_eq choice.0 name) refl h
+unnamed {A} (choice ∷ more) name h = by_test (unnamed more name) (bytes_eq choice.0 name) refl h
   where
-    by_test : (b : Bool) → bytes_eq choice.0 name ≡ b → (b || is_one_of (names_in more) name) ≡ false → named_in (choice ∷ more) name ≡ None
-    by_test true e k = absurd cc
-    by_test false e k = rw (bytes_eq-turned name choice.0 ∙ e) (unnamed more name k)
+    by_test : (is_one_of (names_in more) name ≡ false → named_in more name ≡ None)
+        → (b : Bool) → bytes_eq choice.0 name ≡ b → (b || is_one_of (names_in more) name) ≡ false → named_in (choice ∷ more) name ≡ None
+    by_test deeper true e k = absurd cc
+    by_test deeper false e k = rw (bytes_eq-turned name choice.0 ∙ e) (deeper k)
 
 -- what a command is told by a choice and its positional words; without a choice it is told nothing
 module _ {A U : Type 0} (choices : List (Text × A)) (x : A) (told : Option A → List Text → Option U) (untold : (words : List Text) → told None words ≡ None) where
