@@ -17,5 +17,6 @@ pub mod Bytes
 pub mod Segments
 pub mod Passes
 pub mod Told
+pub mod Listings
 pub mod Untested
 pub mod Sound

@@ -22,7 +22,7 @@ after_told : {A B : Type 0} (r : Result A Refusal) (Follows : A → Result B Ref
 after_told (Ok x) Follows f answer h a = h x a
 after_told (Err e) Follows f answer h a = sym a
 
-written_told : (line : ℕ) (places : Places) (place : ℕ) (statement : StatementValue) (answer : Result (List ℕ) Refusal) → Writes line places place statement answer
+pub written_told : (line : ℕ) (places : Places) (place : ℕ) (statement : StatementValue) (answer : Result (List ℕ) Refusal) → Writes line places place statement answer
     → written_by line places place statement ≡ answer
 unfolding Writes InstructionWrites written_by
 written_told line places place Nothing answer h = sym h

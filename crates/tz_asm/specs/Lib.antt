@@ -26,3 +26,4 @@ pub mod Growing
 pub mod SecondPass
 pub mod Assembled
 pub mod Told
+pub mod Listing

@@ -5,7 +5,8 @@
 //! by the module `source`, and what a statement's code is comes from the module `code`. What a source gives,
 //! and which refusal comes first, is said by this crate's definitions.
 //!
-//! Beside `assemble` stand two laws, in the module `reread`: what the files that are written of an image say.
+//! Beside `assemble` stand `list`, which gives a source's listing and is refused alike, and two laws, in the module
+//! `reread`: what the files that are written of an image say.
 #![tactic(auto)]
 
 ghost use Rattle.std.specs.Prelude.{◌≡◌, ◌<◌, ◌^◌, IfErr, IfOk, Ok, length};
@@ -17,6 +18,7 @@ mod error;
 mod first_pass;
 mod growing;
 mod layout;
+mod listing;
 mod places;
 mod reading;
 mod reread;
@@ -28,6 +30,7 @@ mod written;
 pub use code::{Uncoded, code_of, coded_once, coded_width, has_shape, is_label, width_of};
 pub use error::AsmError;
 use first_pass::first_pass;
+pub use listing::{list, listed_as_assembled, places_ascend};
 pub use reread::{assembled_reads_back, image_has_its_pairs};
 use second_pass::second_pass;
 use std::alloc::Global;

@@ -5,7 +5,7 @@ use Rattle.std.proofs.lemmas.Bool.Decides.{nat_tests}
 use Rattle.tz_model.specs.declared.outside.SinkError.{SinkError}
 use Rattle.tz_model.specs.declared.outside.SinkError.TheVariants.{Failed}
 use Rattle.tz_model.specs.Outside.{Held, Rose, Gains, Put}
-use Rattle.tz_model.specs.Image.{ImageValue, SegmentValue}
+use Rattle.tz_model.specs.Image.{ImageValue}
 use Rattle.tz_cli.specs.Run.{RunWords, run_names}
 use Rattle.tz_cli.specs.Pair.{PairWords, pair_names}
 use Rattle.tz_sem.specs.Run.{Events}
@@ -307,18 +307,17 @@ pair_done (Some found) = inr refl
 
 -- ---- the assembly
 
-pub asm_loads : (c : Call) (a : AsmWords) → c.command ≡ Some (Asm a) → c.room ≡ 64 + longest (asm_names a) → Loads c (IsFile a.source AsSource) (source_told c.shelf.held a.source)
+pub asm_loads : (c : Call) (a : AsmWords) → c.command ≡ Some (Asm a) → c.room ≡ 64 + longest (asm_names a) → Loads c (IsFile a.source AsSource) (source_told c.shelf.held a)
 asm_loads c a e room = record {
   command = Asm a;
   is = e;
   read = λ file is. inl (sym is);
   within = λ file is. let name = ap (λ (x : Reading). length x.name) is in omega (arith, name, room);
-  stops = λ stop h. then_stop (source_told c.shelf.held a.source) _ stop h;
+  stops = λ stop h. then_stop (source_told c.shelf.held a) _ stop h;
 }
 
-pub asm_of_segments : (held : List ℕ → Held) (a : AsmWords) (segments : List SegmentValue) → Allows (source_told held a.source) segments
-    → Allows (told held (Some (Asm a))) (asm_task a.form segments)
-asm_of_segments held a segments allowed = then_gives (asm_task a.form) (source_told held a.source) segments allowed
+pub asm_of_file : (held : List ℕ → Held) (a : AsmWords) (file : List ℕ) → Allows (source_told held a) file → Allows (told held (Some (Asm a))) (asm_task file)
+asm_of_file held a file allowed = then_gives asm_task (source_told held a) file allowed
 
 -- ---- the disassembly
 

@@ -227,14 +227,14 @@ absent_limited true readings reading t next never h = absurd h
 absent_limited false readings reading t next never h = never_then t next (never h)
 
 -- the same of an assembly
-absent_source : (held : List ℕ → Held) (name : List ℕ) → held name ≡ Absent → source_told held name ≡ Stops (Unread name)
+absent_source : (held : List ℕ → Held) (a : AsmWords) → held a.source ≡ Absent → source_told held a ≡ Stops (Unread a.source)
 unfolding source_told
-absent_source held name e = rw e refl
+absent_source held a e = rw e refl
 
 absent_assembled : (held : List ℕ → Held) (a : AsmWords) (reading : Reading) → held reading.name ≡ Absent
-    → (record { name = a.source; form = AsSource } ≡ reading) ⊎ IsOneOf [] reading → NeverGives (source_told held a.source)
+    → (record { name = a.source; form = AsSource } ≡ reading) ⊎ IsOneOf [] reading → NeverGives (source_told held a)
 absent_assembled held a reading e (inl h) =
-    never_stops (source_told held a.source) (Unread a.source) (absent_source held a.source (ap held (ap (λ (x : Reading). x.name) h) ∙ e))
+    never_stops (source_told held a) (Unread a.source) (absent_source held a (ap held (ap (λ (x : Reading). x.name) h) ∙ e))
 absent_assembled held a reading e (inr h) = absurd h
 
 -- the same of a disassembly
@@ -258,5 +258,5 @@ absent_task held (Some (Pair p)) name form e h =
     let file : Reading = record { name = name; form = form } in
     never_then (pair_told held p) _ (absent_limited (nat_lt step_limit p.steps) (pair_reads held p) file (pair_start_told held p) _ (absent_pair held p file e) h)
 absent_task held (Some (Asm a)) name form e h =
-    never_then (source_told held a.source) _ (absent_assembled held a (record { name = name; form = form }) e h)
+    never_then (source_told held a) _ (absent_assembled held a (record { name = name; form = form }) e h)
 absent_task held (Some (Dis d)) name form e h = never_then (listed_told held d) _ (absent_listed held d (record { name = name; form = form }) e h)

@@ -9,6 +9,7 @@ use Rattle.tz_model.specs.Outside.{Held, Rose}
 use Rattle.tz_board.specs.Scripts.{Timed}
 use Rattle.tz_cli.specs.Run.{RunWords}
 use Rattle.tz_cli.specs.Pair.{PairWords}
+use Rattle.tz_cli.specs.Asm.{AsmWords}
 use Rattle.tz_cli.specs.Dis.{DisWords}
 use Rattle.tz_cli.specs.declared.stops.LoadError.{LoadError}
 use Rattle.tz_cli.specs.declared.stops.LoadError.TheVariants.{Unread, Long, Board, Image, Script, Source, Memory}
@@ -107,9 +108,9 @@ script_stops : (held : List ℕ → Held) (interrupts : ℕ) (name : List ℕ) �
 unfolding script_told script_file
 script_stops held interrupts name file stop of h = rw file (then_stop (file_with name script_limit (held name)) _ stop h)
 
-source_stops : (held : List ℕ → Held) (name : List ℕ) → StopsAll (file_with name source_limit (held name)) (source_told held name)
+source_stops : (held : List ℕ → Held) (a : AsmWords) → StopsAll (file_with a.source source_limit (held a.source)) (source_told held a)
 unfolding source_told
-source_stops held name stop of h = then_stop (file_with name source_limit (held name)) _ stop h
+source_stops held a stop of h = then_stop (file_with a.source source_limit (held a.source)) _ stop h
 
 module _ (s : Shelved) (name : List ℕ) (e : LoadError) where
   pub unread_board : is_demo name ≡ false → IsFault s (IsFile name AsBoard) (file_with name board_limit (s.held name)) e → IsFault s (IsBoardFile name) (board_told s.held name) e
@@ -123,8 +124,9 @@ module _ (s : Shelved) (name : List ℕ) (e : LoadError) where
   unread_script interrupts file h =
       unread_of s name AsScript script_limit (IsScriptFile name) (script_told s.held interrupts name) e (λ x is. (is, file)) (script_stops s.held interrupts name file) h
 
-  pub unread_source : IsFault s (IsFile name AsSource) (file_with name source_limit (s.held name)) e → IsFault s (IsFile name AsSource) (source_told s.held name) e
-  unread_source h = unread_of s name AsSource source_limit (IsFile name AsSource) (source_told s.held name) e (λ x is. is) (source_stops s.held name) h
+pub unread_source : (s : Shelved) (a : AsmWords) (e : LoadError) → IsFault s (IsFile a.source AsSource) (file_with a.source source_limit (s.held a.source)) e
+    → IsFault s (IsFile a.source AsSource) (source_told s.held a) e
+unread_source s a e h = unread_of s a.source AsSource source_limit (IsFile a.source AsSource) (source_told s.held a) e (λ x is. is) (source_stops s.held a) h
 
 -- ---- the shelf as one file was read is that of the command
 

@@ -1,12 +1,12 @@
 -- What the words behind `asm` mean.
 use Rattle.std.specs.Prelude.{ℕ, List, [], ◌∷◌, Option, Some, None, codes, option_and_then}
-use Rattle.tz_cli.specs.Choices.{named_of, chosen_of}
+use Rattle.tz_cli.specs.Choices.{named_in, chosen_in}
 use Rattle.tz_cli.specs.Parts.{Text, Parts, AnyWord, parts_of}
 use Rattle.tz_cli.specs.declared.words.asm.AsmWords.{AsmWords as ReadWords}
 use Rattle.tz_cli.specs.declared.words.asm.Form.{Form}
-use Rattle.tz_cli.specs.declared.words.asm.Form.TheVariants.{Hex, Elf}
+use Rattle.tz_cli.specs.declared.words.asm.Form.TheVariants.{Hex, Elf, Listing}
 
--- what `asm` is told: the name of a file, and the form of the image
+-- what `asm` is told: the name of a file, and the form of what is written
 pub record AsmWords : Type 0 where
   pub source : List ℕ
   pub form : Form
@@ -15,13 +15,17 @@ pub record AsmWords : Type 0 where
 abbrev pub asm_in : ReadWords → AsmWords
 asm_in w = record { source = w.source.now; form = w.form }
 
+-- the forms by their names
+abbrev pub forms : List (Text × Form)
+forms = (codes "hex", Hex) ∷ (codes "elf", Elf) ∷ (codes "list", Listing) ∷ []
+
 -- the form of a name
 abbrev pub form_named : Text → Option Form
-form_named name = named_of (codes "hex") Hex (codes "elf") Elf name
+form_named name = named_in forms name
 
 -- the form that the option's values choose: one at most, and `hex` where there is none
 abbrev pub form_of : List Text → Option Form
-form_of values = chosen_of (codes "hex") Hex (codes "elf") Elf values
+form_of values = chosen_in Hex forms values
 
 -- one positional word, and a form
 abbrev pub asm_with : Option Form → List Text → Option AsmWords

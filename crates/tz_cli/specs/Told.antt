@@ -4,7 +4,7 @@ use Rattle.std.specs.Str.{bytes_eq}
 use Rattle.tz_table.specs.declared.units.Side.{Side}
 use Rattle.tz_table.specs.declared.units.Side.TheVariants.{Secure, NonSecure}
 use Rattle.tz_model.specs.Board.{BoardValue}
-use Rattle.tz_model.specs.Image.{ImageValue, SegmentValue}
+use Rattle.tz_model.specs.Image.{ImageValue}
 use Rattle.tz_model.specs.Outside.{Held, Untold, Absent, Holds}
 use Rattle.tz_state.specs.State.{State}
 use Rattle.tz_sem.specs.Boot.{boot}
@@ -19,7 +19,8 @@ use Rattle.tz_board.specs.Boards.{BoardRefusal, board_of}
 use Rattle.tz_text.specs.Text.{dis_text}
 use Rattle.tz_elf.specs.PlainImage.{plain_text}
 use Rattle.tz_elf.specs.ElfImage.{elf_bytes}
-use Rattle.tz_asm.specs.Refusals.{Refusal as AsmRefusal}
+use Rattle.tz_asm.specs.Refusals.{◌>>=◌, Refusal as AsmRefusal}
+use Rattle.tz_asm.specs.Listing.{listed}
 use Rattle.tz_asm.specs.Told.{assembled}
 use Rattle.tz_cli.specs.Run.{RunWords}
 use Rattle.tz_cli.specs.Pair.{PairWords}
@@ -28,7 +29,7 @@ use Rattle.tz_cli.specs.Asm.{AsmWords}
 use Rattle.tz_cli.specs.Dis.{DisWords}
 use Rattle.tz_cli.specs.Commands.{Command, Run, Pair, Asm, Dis}
 use Rattle.tz_cli.specs.declared.words.asm.Form.{Form}
-use Rattle.tz_cli.specs.declared.words.asm.Form.TheVariants.{Hex, Elf}
+use Rattle.tz_cli.specs.declared.words.asm.Form.TheVariants.{Hex, Elf, Listing}
 
 -- why a command stops before it begins
 pub data Stop : Type 0 where
@@ -193,9 +194,15 @@ second_state start = boot start.board start.second start.nonsecure
 abbrev pub difference_of : PairJob → Option (ℕ × What)
 difference_of job = difference (events_of job.start.script) 0 (first_state job.start) (second_state job.start) job.words.steps
 
--- the segments of a source
-unfoldable pub source_told : (List ℕ → Held) → List ℕ → Told (List SegmentValue)
-source_told held name = told_then (file_with name source_limit (held name)) (λ bytes. graded (BadSource name) (assembled bytes))
+-- what is written of a source in a form: the image of its segments, or its listing
+unfoldable pub assembly_in : Form → List ℕ → Result (List ℕ) AsmRefusal
+assembly_in Hex source = assembled source >>= (λ segments. Ok (plain_text segments))
+assembly_in Elf source = assembled source >>= (λ segments. Ok (elf_bytes segments))
+assembly_in Listing source = listed source
+
+-- what an assembly writes
+unfoldable pub source_told : (List ℕ → Held) → AsmWords → Told (List ℕ)
+source_told held a = told_then (file_with a.source source_limit (held a.source)) (λ bytes. graded (BadSource a.source) (assembly_in a.form bytes))
 
 -- the image of a disassembly: its board is read first
 abbrev pub listed_told : (List ℕ → Held) → DisWords → Told ImageValue
@@ -216,13 +223,9 @@ run_task job = record { text = trace_of job; status = 0 }
 abbrev pub pair_task : PairJob → Task
 pair_task job = record { text = pair_line job.words.steps (difference_of job); status = pair_status (difference_of job) }
 
--- an assembly writes the image of its segments in a form
-abbrev pub image_bytes : Form → List SegmentValue → List ℕ
-image_bytes Hex segments = plain_text segments
-image_bytes Elf segments = elf_bytes segments
-
-abbrev pub asm_task : Form → List SegmentValue → Task
-asm_task form segments = record { text = image_bytes form segments; status = 0 }
+-- an assembly writes its image or its listing
+abbrev pub asm_task : List ℕ → Task
+asm_task file = record { text = file; status = 0 }
 
 -- a disassembly writes the lines of its image
 abbrev pub dis_task : ImageValue → Task
@@ -233,7 +236,7 @@ abbrev pub told : (List ℕ → Held) → Option Command → Told Task
 told held None = Stops BadWords
 told held (Some (Run r)) = told_then (job_told held r) (λ job. Gives (run_task job))
 told held (Some (Pair p)) = told_then (pair_told held p) (λ job. Gives (pair_task job))
-told held (Some (Asm a)) = told_then (source_told held a.source) (λ segments. Gives (asm_task a.form segments))
+told held (Some (Asm a)) = told_then (source_told held a) (λ file. Gives (asm_task file))
 told held (Some (Dis d)) = told_then (listed_told held d) (λ image. Gives (dis_task image))
 
 -- the statuses of a command whose work is done

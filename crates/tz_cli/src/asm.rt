@@ -1,29 +1,16 @@
-//! The command `asm`: its source, the image in its form, and the status.
+//! The command `asm`: its source, the image in its form or the listing, and the status.
 
-ghost use Rattle.std.specs.Prelude.{◌≡◌, ◌<◌, ◌≤◌, ◌^◌, IfOk, Err, length};
+ghost use Rattle.std.specs.Prelude.{◌≡◌, ◌<◌, ◌≤◌, Err, length};
 ghost use Rattle.tz_model.specs.Outside.{HasCause, Put};
 ghost use Rattle.tz_cli.specs.Asm.{asm_in};
 ghost use Rattle.tz_cli.specs.Commands.{Asm};
-ghost use Rattle.tz_cli.specs.Told.{image_bytes};
 ghost use Rattle.tz_cli.specs.Answer.{CommandAnswer, shelved, sunk};
 
 use crate::files::load_assembled;
-use crate::lines::{refuse, refuse_fault};
+use crate::lines::refuse_fault;
 use crate::words::{AsmWords, Form};
-use std::alloc::{AllocError, Global};
-use tz_elf::{write_image, write_plain};
-use tz_model::{Image, Shelf, Sink, SinkError};
-
-/// The bytes of an image's file in a form.
-fn file_of(alloc: Global, form: Form, image: &Image) -> Result<Vec<u8>, AllocError>
-    requires { length image.now.segments < 65536 }
-    ensures { IfOk result (λ v. v.items ≡ image_bytes form image.now.segments) }
-{
-    match form {
-        Form::Hex => write_plain(alloc, image),
-        Form::Elf => write_image(alloc, image),
-    }
-}
+use std::alloc::Global;
+use tz_model::{Shelf, Sink, SinkError};
 
 /// How many bytes the first line of a text has, with its line feed.
 fn line_length(text: &[u8]) -> usize
@@ -55,13 +42,13 @@ fn put_lines<O: Sink>(text: &[u8], out: &mut O) -> Result<(), SinkError>
     Ok(())
 }
 
-/// Writes an image's file: a plain image line by line, and an ELF file as one put.
+/// Writes a file: a plain image and a listing line by line, and an ELF file as one put.
 fn put_file<O: Sink>(form: Form, file: &[u8], out: &mut O) -> Result<(), SinkError>
     ensures put { Put (O.written out.old) (O.written out.new) (O.space out.old) (O.space out.new) file.now result }
     ensures cause { HasCause (O.faults out.old) (O.faults out.new) (result ≡ Err SinkError.Failed) }
 {
     match form {
-        Form::Hex => put_lines(file, out),
+        Form::Hex | Form::Listing => put_lines(file, out),
         Form::Elf => out.put(file),
     }
 }
@@ -77,12 +64,9 @@ pub fn asm_files<H: Shelf, O: Sink, E: Sink>(
     ensures { CommandAnswer (Asm (asm_in words.now)) (shelved H.held H.sound H.faults shelf.old shelf.new)
         (sunk O.written O.space O.faults out.old out.new) (sunk E.written E.space E.faults err.old err.new) result }
 {
-    let image = match load_assembled(alloc, shelf, words) {
-        Ok(image) => image,
+    let file = match load_assembled(alloc, shelf, words) {
+        Ok(file) => file,
         Err(fault) => return refuse_fault(alloc, fault, err),
-    };
-    let Ok(file) = file_of(alloc, words.form, &image) else {
-        return refuse(err, b"no memory\n", 7);
     };
     match put_file(words.form, &file, out) {
         Ok(()) => 0,

@@ -1,21 +1,23 @@
 //! The files of a command: each is read, then its length, then its form, in the order of the words.
 
-ghost use Rattle.std.specs.Prelude.{◌≡◌, ◌≤◌, ◌<◌, ◌^◌, length, IfOk, IfErr};
+ghost use Rattle.std.specs.Prelude.{◌≡◌, ◌≤◌, ◌<◌, ◌^◌, length, IfOk, IfErr, Ok};
 ghost use Rattle.tz_cli.specs.Run.{run_in};
+ghost use Rattle.tz_asm.specs.Errors.{IsRefusal};
+ghost use Rattle.tz_asm.specs.declared.error.AsmError.TheVariants.{Memory};
 ghost use Rattle.tz_cli.specs.Asm.{asm_in};
 ghost use Rattle.tz_cli.specs.Dis.{dis_in};
 ghost use Rattle.tz_cli.specs.Pair.{pair_in};
-ghost use Rattle.tz_cli.specs.Told.{file_with, board_told, image_told, script_told, source_told, start_told, pair_start_told, listed_told};
+ghost use Rattle.tz_cli.specs.Told.{assembly_in, file_with, board_told, image_told, script_told, source_told, start_told, pair_start_told, listed_told};
 ghost use Rattle.tz_cli.specs.Reads.{Form, AsImage, AsSource, IsOneOf, run_reads, pair_reads, dis_reads};
 ghost use Rattle.tz_cli.specs.Answer.{Allows, shelved};
 ghost use Rattle.tz_cli.specs.Faults.{IsFile, IsBoardFile, IsScriptFile, IsFault, start_in, pair_start_in};
 
 use crate::stops::LoadError;
-use crate::words::{AsmWords, DisWords, PairWords, RunWords};
+use crate::words::{AsmWords, DisWords, Form as AsmForm, PairWords, RunWords};
 use std::alloc::{AllocError, Global};
-use tz_asm::assemble;
+use tz_asm::{AsmError, assemble, list};
 use tz_board::{Script, demo_board, read_board, read_script};
-use tz_elf::read_image;
+use tz_elf::{read_image, write_image, write_plain};
 use tz_model::{Board, Image, Shelf, ShelfError, Side};
 
 /// What the files of a run give.
@@ -246,24 +248,54 @@ pub fn load_listed<'a, H: Shelf>(
     }
 }
 
-/// The image of an assembly.
+/// A file that was written, or want of memory.
+fn or_no_memory(file: Result<Vec<u8>, AllocError>) -> Result<Vec<u8>, AsmError>
+    ensures ok { IfOk result (λ v. file ≡ Ok v) }
+    ensures err { IfErr result (λ e. e ≡ Memory) }
+{
+    match file {
+        Ok(file) => Ok(file),
+        Err(_) => Err(AsmError::Memory),
+    }
+}
+
+/// What is written of a source in a form.
+#[tactic(auto, unfolding(crate::specs::Told::assembly_in))]
+fn assembly_in(alloc: Global, form: AsmForm, source: &[u8]) -> Result<Vec<u8>, AsmError>
+    requires { length source.now < 2 ^ 32 }
+    ensures ok { IfOk result (λ v. assembly_in form source.now ≡ Ok v.items) }
+    ensures err { IfErr result (λ e. IsRefusal e (assembly_in form source.now)) }
+{
+    match form {
+        AsmForm::Hex => match assemble(alloc, source) {
+            Ok(image) => or_no_memory(write_plain(alloc, &image)),
+            Err(error) => Err(error),
+        },
+        AsmForm::Elf => match assemble(alloc, source) {
+            Ok(image) => or_no_memory(write_image(alloc, &image)),
+            Err(error) => Err(error),
+        },
+        AsmForm::Listing => list(alloc, source),
+    }
+}
+
+/// What an assembly writes.
 #[tactic(auto, unfolding(crate::specs::Told::source_told))]
 pub fn load_assembled<'a, H: Shelf>(
     alloc: Global,
     shelf: &mut H,
     words: &AsmWords<'a>,
-) -> Result<Image, LoadError<'a>>
-    ensures ok { IfOk result (λ i. Allows (source_told (H.held shelf.old) (asm_in words.now).source) i.segments) }
-    ensures few { IfOk result (λ i. length i.segments < 65536) }
-    ensures err { IfErr result (λ e. IsFault (shelved H.held H.sound H.faults shelf.old shelf.new) (IsFile (asm_in words.now).source AsSource) (source_told (H.held shelf.old) (asm_in words.now).source) e) }
+) -> Result<Vec<u8>, LoadError<'a>>
+    ensures ok { IfOk result (λ v. Allows (source_told (H.held shelf.old) (asm_in words.now)) v.items) }
+    ensures err { IfErr result (λ e. IsFault (shelved H.held H.sound H.faults shelf.old shelf.new) (IsFile (asm_in words.now).source AsSource) (source_told (H.held shelf.old) (asm_in words.now)) e) }
     ensures later { H.faults shelf.old ≤ H.faults shelf.new }
 {
     let bytes = match read(alloc, shelf, words.source, SOURCE_LIMIT) {
         Ok(bytes) => bytes,
         Err(fault) => return Err(fault),
     };
-    match assemble(alloc, &bytes) {
-        Ok(image) => Ok(image),
+    match assembly_in(alloc, words.form, &bytes) {
+        Ok(file) => Ok(file),
         Err(error) => Err(LoadError::Source(words.source, error)),
     }
 }

@@ -10,15 +10,17 @@ use crate::words::leaf::matches;
 use clap::ArgMatches;
 use std::alloc::{AllocError, Global};
 
-static FORMS: [&str; 2] = ["hex", "elf"];
+static FORMS: [&str; 3] = ["hex", "elf", "list"];
 
-/// The form of an image file.
+/// The form of what is written of a source.
 #[derive(Clone, Copy)]
 pub enum Form {
     /// A plain image.
     Hex,
     /// An ELF32 file.
     Elf,
+    /// A listing.
+    Listing,
 }
 
 /// What `asm` is told.
@@ -26,7 +28,7 @@ pub enum Form {
 pub struct AsmWords<'a> {
     /// The name of the source's file.
     pub source: &'a str,
-    /// The form of the image that is written.
+    /// The form of what is written.
     pub form: Form,
 }
 
@@ -37,6 +39,7 @@ fn form_named(name: &str) -> Option<Form>
     match name {
         "hex" => Some(Form::Hex),
         "elf" => Some(Form::Elf),
+        "list" => Some(Form::Listing),
         _ => None,
     }
 }
@@ -65,7 +68,7 @@ fn asm_found<'a>(found: &ArgMatches<'a>) -> Option<Command<'a>>
     }
 }
 
-/// `SOURCE [--form hex or elf]`, as they stand behind `asm`; `None` where they are refused.
+/// `SOURCE [--form hex, elf or list]`, as they stand behind `asm`; `None` where they are refused.
 pub fn asm_command<'a>(
     alloc: Global,
     words: &'a [String],
