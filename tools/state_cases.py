@@ -1,8 +1,11 @@
-"""The state files of the cases: the words of a state, and behind them the memory that images fill."""
+"""The cases of cases/states.txt: states, as words with the memory that images fill, and runs that go on from them."""
 
+import os
 import struct
 
-from case_rows import address, decimal, hexadecimal, unescaped, Unreadable
+from case_answers import accepted, length, written
+from case_jobs import answered, Check, FILE, files, Job
+from case_rows import address, decimal, hexadecimal, text, unescaped, Unreadable, whole, words_of
 
 # What a board file has for a profile, before its regions.
 PROFILES = {"v8.0": b"", "v8.1": b'profile = "v8.1"\n'}
@@ -64,3 +67,48 @@ class States:
         board, words = self.states[name]
         words = changed(words, values or {})
         return board, struct.pack(f"<{len(words)}I", *words)
+
+
+def states(cases, lists):
+    shelf = {}
+    given = States(whole(lists.pop("board")), words_of_rows(lists.pop("words")))
+
+    def state(_, name, profile, images, values):
+        given.add(name, profile, b"".join(shelf[os.fsdecode(it)] for it in images), values)
+        return []
+
+    def snap(place, name, line):
+        board, file = given.files(name)
+        return [Job({**shelf, "board": board}, line, [Check(place, file, written)])]
+
+    def size(place, wanted, line):
+        return [Job(shelf, line, [Check(place, wanted, length)])]
+
+    def read(place, wanted, board, file):
+        words = ["tzrun", "resume", "board", FILE, "@none", "0"]
+        return Job({"board": board, FILE: file}, words, [Check(place, wanted, accepted)])
+
+    def valued(place, wanted, name, number, values):
+        return [read(f"{place} ({it})", wanted, *given.files(name, {number: int(it, 16)})) for it in values.split()]
+
+    def cut(place, wanted, name, values, count):
+        board, file = given.files(name, values)
+        return [read(place, wanted, board, file[: len(file) - max(count, 0)] + bytes(max(-count, 0)))]
+
+    def long(place, status, count, told):
+        return answered({FILE: b"\n" * count}, place, status, ["tzrun", "resume", "@demo", FILE, "@none", "0"], told)
+
+    def resumed(place, status, name, values, line, told):
+        board, file = given.files(name, values)
+        return answered({**shelf, "board": board, "state": file}, place, status, line, told)
+
+    files(cases, lists, shelf)
+    cases.each(lists.pop("states"), [text, text, words_of, values_of], state)
+    cases.each(lists.pop("snaps"), [text, words_of], snap)
+    cases.each(lists.pop("sizes"), [text, words_of], size)
+    cases.each(lists.pop("values"), [text, text, decimal, text], valued)
+    cases.each(lists.pop("changes"), [text, text, values_of, int], cut)
+    board, file = given.files("T")
+    cases.cuts(lists.pop("cuts"), file, lambda place, wanted, data: [read(place, wanted, board, data)])
+    cases.each(lists.pop("long"), [decimal, decimal, unescaped], long)
+    cases.each(lists.pop("resumes"), [decimal, text, values_of, words_of, unescaped], resumed)
