@@ -86,11 +86,6 @@ def same_bytes(segments):
     return segments if None in told else runs_of((int(it.group(1), 16), it.group(2)) for it in told)
 
 
-def written(run):
-    """What is written at status 0, as bytes; of another status all that the run gives."""
-    return anything(run) if run.status or run.err else run.out
-
-
 def answer(run):
     """What a run writes, on standard output or on standard error."""
     return run.status, run.out, run.err

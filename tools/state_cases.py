@@ -3,12 +3,14 @@
 import os
 import struct
 
-from case_answers import accepted, length, written
+from case_answers import accepted, anything, length
 from case_jobs import answered, Check, FILE, files, Job
 from case_rows import address, decimal, hexadecimal, text, unescaped, Unreadable, whole, words_of
 
 # What a board file has for a profile, before its regions.
 PROFILES = {"v8.0": b"", "v8.1": b'profile = "v8.1"\n'}
+# What is found where a run writes a state, and so what is wanted.
+WRITTEN = "the state"
 # The number of regions among the words of a state; behind it stand four words of each.
 REGIONS = 9
 
@@ -69,6 +71,19 @@ class States:
         return board, struct.pack(f"<{len(words)}I", *words)
 
 
+def state_in(file):
+    """What finds a state in a run, or where its words are others."""
+
+    def found(run):
+        if run.status or run.err or len(run.out) != len(file):
+            return anything(run)
+        pairs = zip(struct.iter_unpack("<I", run.out), struct.iter_unpack("<I", file))
+        others = [f"{at}={one:x} for {other:x}" for at, ((one,), (other,)) in enumerate(pairs) if one != other]
+        return " ".join(others) or WRITTEN
+
+    return found
+
+
 def states(cases, lists):
     shelf = {}
     given = States(whole(lists.pop("board")), words_of_rows(lists.pop("words")))
@@ -79,7 +94,7 @@ def states(cases, lists):
 
     def snap(place, name, line):
         board, file = given.files(name)
-        return [Job({**shelf, "board": board}, line, [Check(place, file, written)])]
+        return [Job({**shelf, "board": board}, line, [Check(place, WRITTEN, state_in(file))])]
 
     def size(place, wanted, line):
         return [Job(shelf, line, [Check(place, wanted, length)])]
