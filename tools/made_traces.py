@@ -57,6 +57,16 @@ AGAIN = """\
 6 s N 10000200 2003 movs r0, #3 r0=00000003
 """
 
+# A run that goes on from a state, in a handler that Secure code was interrupted for. A function that it calls returns,
+# and then the handler.
+LATER = """\
+906 n N 0020018e f000f9d7 bl 0x00200540 lr=00200193
+907 n N 00200540 4770 bx lr
+908 n N 00200192 bf00 nop
+909 n N 00200194 bd10 pop {r4, pc} r0=0020057f r4=00200574 r12=00200577 sp=38000fe0 lr=100001c5
+910 s N 100001da bf00 nop
+"""
+
 # The Non-secure stack pointer has the value of the Secure one, so that the crossing lists none.
 EQUAL_STACKS = """\
 0 s N 10000040 b082 sub sp, sp, #8 sp=20001000

@@ -129,7 +129,8 @@ class Track {
     }
 }
 
-// Where two traces have another line: whether a cell differs, and the next one that does.
+// Where two traces have another line: whether a cell differs, and the next one that does. Before both have begun nothing
+// is compared.
 class Comparison {
     constructor(axis) {
         this.axis = axis;
@@ -137,11 +138,12 @@ class Comparison {
         this.one = one;
         this.other = other;
         this.isMade = axis.tracks.length === 2 && one.trace.showsAll === other.trace.showsAll;
+        this.begin = this.isMade ? axis.cellOfStep(Math.max(one.trace.steps[0], other.trace.steps[0])) : 0;
         this.first = this.isMade ? this.next(-1) : -1;
     }
 
     differs(cell) {
-        if (!this.isMade) return false;
+        if (!this.isMade || cell < this.begin) return false;
         const row = this.one.rows[cell];
         const otherRow = this.other.rows[cell];
         if (row === NO_ROW || otherRow === NO_ROW) return row !== otherRow;

@@ -32,8 +32,9 @@ function stackMoveOfLoad(code, isWide) {
     return isLoadOfPc ? 0 : -1;
 }
 
-// Which of R0 to R12 and LR a load of PC itself may write, as bits.
-function registersOfLoad(code, isWide) {
+// Which of R0 to R12 and LR a branch to a register or a load of PC itself may write, as bits: LR by BLX and BLXNS.
+function registersOfBranch(code, isWide) {
+    if (branchRegister(code, isWide) >= 0) return code & 0x80 ? 1 << 14 : 0;
     if (!isWide) return code & 0xff;
     return ((code >>> 16) & 0xfe00) === 0xe800 ? code & 0x5fff : 0;
 }

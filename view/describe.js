@@ -15,7 +15,7 @@ function activeAt(trace, row) {
 function modeOf(trace, row) {
     const names = activeAt(trace, row).map((taken) => exceptionName(trace.takenNumbers[taken]));
     if (names.length) return `handler of ${names.join(', inside that of ')}`;
-    return trace.showsAll ? 'Thread mode' : 'Thread mode, as far as the trace tells';
+    return trace.showsAll && !trace.beginsLater ? 'Thread mode' : 'Thread mode, as far as the trace tells';
 }
 
 // A sentence on what happened.

@@ -189,7 +189,7 @@ class Reader {
         const from = this.trace.sideOf(row);
         if (isSg(this.code, this.isWide) && from === NONSECURE && next !== NONSECURE) return WAY.SG;
         if (next >= 0 && next !== from) return this.wayAcross(row, from);
-        return this.levels.level && this.isReturnWithin(row) ? WAY.EXCEPTION_RETURN : WAY.NONE;
+        return this.mayBeHandler && this.isReturnWithin(row) ? WAY.EXCEPTION_RETURN : WAY.NONE;
     }
 
     wayAcross(row, from) {
@@ -199,15 +199,23 @@ class Reader {
             return WAY.EXCEPTION_RETURN;
         }
         if (this.branchValue >= EXC_RETURN_LOW) return WAY.EXCEPTION_RETURN;
-        if (this.branchValue >= FNC_RETURN_LOW || !this.levels.level) return WAY.FNC_RETURN;
+        if (this.branchValue >= FNC_RETURN_LOW || !this.mayBeHandler) return WAY.FNC_RETURN;
         return this.listsOthers(row) ? WAY.EXCEPTION_RETURN : WAY.FNC_RETURN;
     }
 
+    // Whether a handler may run: one whose entry was seen, or one that was entered before the trace begins.
+    get mayBeHandler() {
+        return this.levels.level > 0 || this.trace.beginsLater;
+    }
+
     // Whether an instruction of a handler, behind which its side goes on, returned from it: a branch to such a value,
-    // or a load of PC behind which more differs than it writes itself.
+    // or a load of PC behind which more differs than it writes itself. Where no entry was seen, so little is known of
+    // registers that more than it writes has to be listed.
     isReturnWithin(row) {
-        if (branchRegister(this.code, this.isWide) >= 0) return this.branchValue >= EXC_RETURN_LOW;
+        const isBranch = branchRegister(this.code, this.isWide) >= 0;
         const move = stackMoveOfLoad(this.code, this.isWide);
+        if (isBranch && this.branchValue >= 0) return this.branchValue >= EXC_RETURN_LOW;
+        if (!this.levels.level) return (isBranch || move >= 0) && this.listsOthers(row);
         return move >= 0 && (this.movesStackOtherwise(row, move) || this.listsOthers(row));
     }
 
@@ -219,9 +227,9 @@ class Reader {
         return !this.registers.isKnown(place) || value !== (this.registers.values[place] + move) >>> 0;
     }
 
-    // Whether a load of PC lists a register that it doesn't write itself.
+    // Whether a branch to a register or a load of PC lists a register that it doesn't write itself.
     listsOthers(row) {
-        const own = registersOfLoad(this.code, this.isWide);
+        const own = registersOfBranch(this.code, this.isWide);
         let found = false;
         this.trace.eachListed(row, (register) => {
             const bit = register === LR ? 14 : register;

@@ -81,6 +81,11 @@ class Trace {
         return this.bands[row] >= LEVELS ? NONSECURE : SECURE;
     }
 
+    // Whether it goes on from a state: then exceptions may be active that it doesn't show.
+    get beginsLater() {
+        return this.count > 0 && this.steps[0] > 0;
+    }
+
     // The last step of a row.
     lastOf(row) {
         return row + 1 < this.count ? this.steps[row + 1] - 1 : this.lastStep;
