@@ -8,6 +8,7 @@ use Rattle.tz_state.specs.ExceptionNumbers.{nmi, hard_fault, mem_manage, bus_fau
 use Rattle.tz_state.specs.Slots.{ExceptionsValue, at, places, is_place, exception_number, side_at}
 use Rattle.tz_state.specs.Priority.{priority_of}
 use Rattle.tz_state.specs.Execution.{manual_priority}
+use Rattle.tz_state.specs.ControlRegisters.{ccr_value}
 use Rattle.tz_syntax.specs.Digits.{hex_byte}
 use Rattle.tz_show.specs.declared.bits.Named.TheVariants.{Ccr}
 use Rattle.tz_show.specs.Rows.{pair_row, row, where_so, texts_below}
@@ -69,10 +70,11 @@ grouping_text e =
     codes "  PRIGROUP_S " ++ decimal e.prigroup_s ++ codes "  PRIGROUP_NS " ++ decimal e.prigroup_ns ++ where_so e.pris (codes "  PRIS")
     ++ where_so e.bfhfnmins (codes "  BFHFNMINS") ++ codes "\n"
 
--- the vector tables, and what else traps
+-- the vector tables, and what traps, as code reads it
 abbrev pub control_text : Status → List ℕ
 control_text t =
-    pair_row (codes "  VTOR_S ") t.s.vtor (codes "  VTOR_NS ") t.ns.vtor ++ row (codes "  CCR_S  ") t.s.ccr Ccr ++ row (codes "  CCR_NS ") t.ns.ccr Ccr
+    pair_row (codes "  VTOR_S ") t.s.vtor (codes "  VTOR_NS ") t.ns.vtor ++ row (codes "  CCR_S  ") (ccr_value t.s) Ccr
+    ++ row (codes "  CCR_NS ") (ccr_value t.ns) Ccr
 
 abbrev pub exceptions_text : Status → ExceptionsValue → List ℕ
 exceptions_text t e = codes "\nExceptions\n" ++ control_text t ++ grouping_text e ++ texts_below (exception_text e) places

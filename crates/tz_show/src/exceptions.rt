@@ -11,6 +11,7 @@ use crate::rows::{Text, push_pair, push_row, push_signed, push_where};
 use tz_model::Side;
 use tz_nvic::{Exceptions, PLACES};
 use tz_regs::Status;
+use tz_regs::register_bits::CCR_RES1;
 use tz_state::exception::{
     BUS_FAULT, FIRST_INTERRUPT, HARD_FAULT, MEM_MANAGE, NMI, PEND_SV, SECURE_FAULT, SV_CALL,
     USAGE_FAULT, ZERO_PRIORITY,
@@ -169,7 +170,7 @@ fn push_grouping(text: &mut Text, exceptions: &Exceptions)
     text.push_str("\n");
 }
 
-/// The vector tables, and what else traps.
+/// The vector tables, and what traps.
 fn push_control(text: &mut Text, status: &Status)
     requires { array_string_len text.old + 200 ≤ 48000 }
     ensures bytes { text.new.bytes ≡ text.old.bytes ++ control_text status.now }
@@ -182,8 +183,8 @@ fn push_control(text: &mut Text, status: &Status)
         "  VTOR_NS ",
         status.ns.vtor,
     );
-    push_row(text, "  CCR_S  ", status.s.ccr, Named::Ccr);
-    push_row(text, "  CCR_NS ", status.ns.ccr, Named::Ccr);
+    push_row(text, "  CCR_S  ", status.s.ccr | CCR_RES1, Named::Ccr);
+    push_row(text, "  CCR_NS ", status.ns.ccr | CCR_RES1, Named::Ccr);
 }
 
 pub fn push_exceptions(text: &mut Text, status: &Status, exceptions: &Exceptions)

@@ -4,6 +4,7 @@
 ghost use Rattle.std.specs.Prelude.{◌≡◌, ◌≤◌, ◌<◌, ◌+◌, ◌*◌, ◌++◌, length, map, slice_get};
 ghost use Rattle.arrayvec.specs.ArrayString.{array_string_len};
 ghost use Rattle.tz_frames.specs.Leave.{has_callee, returning_by};
+ghost use Rattle.tz_syntax.specs.Names.{or_nothing};
 ghost use Rattle.tz_show.specs.Frames.{shown_word, word_text, stack_word_text, stack_text, frame_label, has_frame, frame_uses_process, frame_pointer, frame_first, frame_count, frame_word_text, frame_by, frame_text};
 ghost use Rattle.tz_show.specs.Rows.{texts_below};
 
@@ -41,17 +42,24 @@ pub static LABELS: [&str; 18] = [
     "  RETPSR",
 ];
 
+/// The label with this number, of these.
+fn label_at(labels: &[&'static str], number: u32) -> &'static str
+    ensures { result.now ≡ or_nothing (slice_get (map (λ label. label.now) labels.now) number) }
+{
+    let place = number as usize;
+    if place < labels.len() {
+        labels[place]
+    } else {
+        ""
+    }
+}
+
 /// What the word of a frame with this number is.
 fn frame_label(number: u32) -> &'static str
     ensures label { result.now ≡ frame_label number }
     ensures short { length result.now ≤ 21 }
 {
-    let place = number as usize;
-    if place < LABELS.len() {
-        LABELS[place]
-    } else {
-        ""
-    }
+    label_at(&LABELS, number)
 }
 
 /// The word at an address, where regions hold all its bytes.
@@ -80,16 +88,24 @@ fn push_word(text: &mut Text, bus: &Bus, addr: u32, label: &str)
     text.push_str("\n");
 }
 
+/// The eight words from a stack pointer up.
+fn push_stack_words(text: &mut Text, bus: &Bus, sp: u32)
+    requires { array_string_len text.old + 168 ≤ 48000 }
+    ensures bytes { text.new.bytes ≡ text.old.bytes ++ texts_below (stack_word_text bus.now sp) 8 }
+    ensures len { array_string_len text.new ≤ array_string_len text.old + 168 }
+{
+    for k in 0..8u32 {
+        push_word(text, bus, sp.wrapping_add(4 * k), "");
+    }
+}
+
 pub fn push_stack(text: &mut Text, core: &Core, bus: &Bus)
     requires { array_string_len text.old + 182 ≤ 48000 }
     ensures bytes { text.new.bytes ≡ text.old.bytes ++ stack_text core.now bus.now }
     ensures len { array_string_len text.new ≤ array_string_len text.old + 182 }
 {
-    let sp = core.pointer();
     text.push_str("\nStack in use\n");
-    for k in 0..8u32 {
-        push_word(text, bus, sp.wrapping_add(4 * k), "");
-    }
+    push_stack_words(text, bus, core.pointer());
 }
 
 /// Whether a handler has an EXC_RETURN value in LR.

@@ -80,6 +80,17 @@ fn push_sau_region(text: &mut Text, sau: &Sau, k: u8)
     }
 }
 
+/// The lines of all regions of the SAU.
+fn push_sau_regions(text: &mut Text, sau: &Sau)
+    requires { array_string_len text.old + 400 ≤ 48000 }
+    ensures bytes { text.new.bytes ≡ text.old.bytes ++ texts_below (sau_region_text sau.now.sau.regions) 8 }
+    ensures len { array_string_len text.new ≤ array_string_len text.old + 400 }
+{
+    for k in 0..8u8 {
+        push_sau_region(text, sau, k);
+    }
+}
+
 pub fn push_sau(text: &mut Text, bus: &Bus)
     requires { array_string_len text.old + 492 ≤ 48000 }
     ensures bytes { text.new.bytes ≡ text.old.bytes ++ sau_text bus.now.sau }
@@ -93,9 +104,7 @@ pub fn push_sau(text: &mut Text, bus: &Bus)
         sau.value(SauRegister::Ctrl),
         Named::SauCtrl,
     );
-    for k in 0..8u8 {
-        push_sau_region(text, sau, k);
-    }
+    push_sau_regions(text, sau);
 }
 
 /// Whether a region of an MPU keeps privileged code from running.
@@ -152,6 +161,17 @@ fn push_mpu_region(text: &mut Text, profile: Profile, mpu: &Mpu, k: u8)
     }
 }
 
+/// The lines of all regions of an MPU.
+fn push_mpu_regions(text: &mut Text, profile: Profile, mpu: &Mpu)
+    requires { array_string_len text.old + 864 ≤ 48000 }
+    ensures bytes { text.new.bytes ≡ text.old.bytes ++ texts_below (mpu_region_text profile mpu.now.mpu.regions) 16 }
+    ensures len { array_string_len text.new ≤ array_string_len text.old + 864 }
+{
+    for k in 0..16u8 {
+        push_mpu_region(text, profile, mpu, k);
+    }
+}
+
 /// An MPU, by what stands before its CTRL.
 fn push_mpu(text: &mut Text, profile: Profile, mpu: &Mpu, head: &str)
     requires { array_string_len text.old + length head.now + 937 ≤ 48000 }
@@ -159,9 +179,7 @@ fn push_mpu(text: &mut Text, profile: Profile, mpu: &Mpu, head: &str)
     ensures len { array_string_len text.new ≤ array_string_len text.old + length head.now + 937 }
 {
     push_row(text, head, mpu.value(MpuRegister::Ctrl), Named::MpuCtrl);
-    for k in 0..16u8 {
-        push_mpu_region(text, profile, mpu, k);
-    }
+    push_mpu_regions(text, profile, mpu);
 }
 
 pub fn push_mpus(text: &mut Text, bus: &Bus)
