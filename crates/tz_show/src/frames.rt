@@ -3,6 +3,7 @@
 
 ghost use Rattle.std.specs.Prelude.{◌≡◌, ◌≤◌, ◌<◌, ◌+◌, ◌*◌, ◌++◌, length, map, slice_get};
 ghost use Rattle.arrayvec.specs.ArrayString.{array_string_len};
+ghost use Rattle.tz_state.specs.Difference.{is_same_flag};
 ghost use Rattle.tz_frames.specs.Leave.{has_callee, returning_by};
 ghost use Rattle.tz_syntax.specs.Names.{or_nothing};
 ghost use Rattle.tz_show.specs.Frames.{shown_word, word_text, stack_word_text, stack_text, frame_label, has_frame, frame_uses_process, frame_pointer, frame_first, frame_count, frame_word_text, frame_by, frame_text};
@@ -133,6 +134,13 @@ fn returning_by(side: Side, value: u32) -> Returning
     }
 }
 
+/// Whether both are set, or both are clear.
+fn is_same_flag(flag: bool, other: bool) -> bool
+    ensures { result ≡ is_same_flag flag other }
+{
+    if flag { other } else { !other }
+}
+
 /// The stack pointer from which a return takes the frame.
 fn frame_pointer(core: &Core, returning: &Returning) -> u32
     ensures { result ≡ frame_pointer core.now returning.now }
@@ -142,7 +150,7 @@ fn frame_pointer(core: &Core, returning: &Returning) -> u32
     } else {
         Side::NonSecure
     };
-    let process = if returning.es == returning.secure {
+    let process = if is_same_flag(returning.es, returning.secure) {
         returning.process
     } else {
         core.stacks(side).spsel
