@@ -31,7 +31,7 @@ abbrev pub shown_character : ℕ → List ℕ
 shown_character c = (if nat_le 32 c && nat_lt c 127 then c else 46) ∷ []
 
 abbrev pub shown_text : Bus → ℕ → List ℕ
-shown_text b a = if is_mapped b.board.regions a then shown_character (byte_at b.memory a) else codes " "
+shown_text b a = if is_mapped b.board.regions a then shown_character (byte_at b.memory a) else codes "."
 
 -- a column of a line; behind the last byte of the range it is empty
 abbrev pub byte_text : Bus → Range → ℕ → ℕ → List ℕ

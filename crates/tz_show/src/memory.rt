@@ -61,7 +61,7 @@ fn push_shown_text(text: &mut Text, bus: &Bus, addr: u32)
 {
     match bus.read(addr, Size::Byte) {
         Ok(byte) => text.push(shown_character(byte)),
-        Err(_) => text.push_str(" "),
+        Err(_) => text.push_str("."),
     }
 }
 
