@@ -15,6 +15,9 @@ texts_more f k = rw add-one refl
 
 -- ---- texts that are appended
 
+pub follows : (a b c x y : List ℕ) → b ≡ a ++ x → c ≡ b ++ y → c ≡ a ++ (x ++ y)
+follows a b c x y p q = q ∙ ap (λ (t : List ℕ). t ++ y) p ∙ append_assoc a x y
+
 pub texts_start : (f : ℕ → List ℕ) (start : List ℕ) → start ≡ start ++ texts_below f 0
 texts_start f start = sym (append-nil start) ∙ ap (λ (x : List ℕ). start ++ x) (sym (texts_none f))
 
@@ -30,6 +33,7 @@ left_behind f k zero = []
 left_behind f k (suc d) = left_behind f k d ++ f (k + 1 + d)
 
 texts_split : (f : ℕ → List ℕ) (k d : ℕ) → texts_below f (k + 1 + d) ≡ texts_below f k ++ (f k ++ left_behind f k d)
+unfolding left_behind
 texts_split f k zero =
     let e : k + 1 + 0 ≡ k + 1 = omega arith in
     rw e (texts_more f k ∙ ap (λ (x : List ℕ). texts_below f k ++ x) (sym (append-nil (f k))))

@@ -1,5 +1,5 @@
 -- Memory as a dump: 16 bytes a line, in hexadecimal and as text, each line with the attribution of its first byte.
-use Rattle.std.specs.Prelude.{ℕ, ◌+◌, ◌*◌, ◌/◌, ◌==◌, nat_le, nat_lt, ◌&&◌, if◌then◌else◌, List, [], ◌∷◌, ◌++◌, codes}
+use Rattle.std.specs.Prelude.{ℕ, ◌+◌, ◌*◌, ◌/◌, ◌%◌, ◌^◌, ◌==◌, nat_le, nat_lt, ◌&&◌, if◌then◌else◌, List, [], ◌∷◌, ◌++◌, codes}
 use Rattle.tz_table.specs.declared.units.Side.TheVariants as sides
 use Rattle.tz_model.specs.declared.board.RegionSide.{RegionSide}
 use Rattle.tz_model.specs.declared.board.RegionSide.TheVariants.{Secure, Nsc, NonSecure}
@@ -13,7 +13,7 @@ use Rattle.tz_show.specs.declared.memory.Range.{Range}
 use Rattle.tz_show.specs.Rows.{where_so, texts_below}
 
 -- Secure, Secure and callable from Non-secure code, Non-secure
-abbrev pub attribution_mark : RegionSide → List ℕ
+unfoldable pub attribution_mark : RegionSide → List ℕ
 attribution_mark Secure = codes "  S    "
 attribution_mark Nsc = codes "  NSC  "
 attribution_mark NonSecure = codes "  NS   "
@@ -22,36 +22,36 @@ attribution_mark NonSecure = codes "  NS   "
 abbrev pub byte_address : Range → ℕ → ℕ
 byte_address r k = wrap (r.first + k)
 
--- two digits, or `--` where no region holds the byte
-abbrev pub shown_byte : Bus → ℕ → List ℕ
-shown_byte b a = if is_mapped b.board.regions a then hex_byte (byte_at b.memory a) else codes "--"
+-- two digits, since a byte has eight bits, or `--` where no region holds it
+unfoldable pub shown_byte : Bus → ℕ → List ℕ
+shown_byte b a = if is_mapped b.board.regions a then hex_byte (byte_at b.memory a % 2 ^ 8) else codes "--"
 
 -- a printable character of ASCII, or a dot
 abbrev pub shown_character : ℕ → List ℕ
 shown_character c = (if nat_le 32 c && nat_lt c 127 then c else 46) ∷ []
 
-abbrev pub shown_text : Bus → ℕ → List ℕ
+unfoldable pub shown_text : Bus → ℕ → List ℕ
 shown_text b a = if is_mapped b.board.regions a then shown_character (byte_at b.memory a) else codes "."
 
 -- a column of a line; behind the last byte of the range it is empty
-abbrev pub byte_text : Bus → Range → ℕ → ℕ → List ℕ
+unfoldable pub byte_text : Bus → Range → ℕ → ℕ → List ℕ
 byte_text b r from k =
     where_so (k == 8) (codes " ") ++ codes " " ++ (if nat_lt (from + k) r.count then shown_byte b (byte_address r (from + k)) else codes "  ")
 
-abbrev pub character_text : Bus → Range → ℕ → ℕ → List ℕ
+unfoldable pub character_text : Bus → Range → ℕ → ℕ → List ℕ
 character_text b r from k = where_so (nat_lt (from + k) r.count) (shown_text b (byte_address r (from + k)))
 
 -- the line of 16 bytes from a number on
-abbrev pub bytes_line : Bus → Range → ℕ → List ℕ
+unfoldable pub bytes_line : Bus → Range → ℕ → List ℕ
 bytes_line b r from =
     attribution_mark (data_attribution (map_in b) sides.Secure (byte_address r from)) ++ hex_word (byte_address r from) ++ codes " "
     ++ texts_below (byte_text b r from) 16 ++ codes "  " ++ texts_below (character_text b r from) 16 ++ codes "\n"
 
-abbrev pub dump_line : Bus → Range → ℕ → List ℕ
+unfoldable pub dump_line : Bus → Range → ℕ → List ℕ
 dump_line b r k = bytes_line b r (16 * k)
 
 -- as many lines as its bytes need
-abbrev pub range_text : Bus → Range → List ℕ
+unfoldable pub range_text : Bus → Range → List ℕ
 range_text b r = codes "\nMemory\n" ++ texts_below (dump_line b r) ((r.count + 15) / 16)
 
 -- all ranges, in order

@@ -18,19 +18,19 @@ use Rattle.tz_show.specs.declared.bits.Named.TheVariants.{ExcReturn}
 use Rattle.tz_show.specs.Rows.{row, texts_below}
 
 -- the word at an address, where regions hold all its bytes
-abbrev pub shown_word : Bus → ℕ → List ℕ
+unfoldable pub shown_word : Bus → ℕ → List ℕ
 shown_word b a = if every (is_mapped b.board.regions) a Word then hex_word (word_at b.memory a) else codes "--------"
 
 -- an address, its word, and what the word is
-abbrev pub word_text : Bus → ℕ → List ℕ → List ℕ
+unfoldable pub word_text : Bus → ℕ → List ℕ → List ℕ
 word_text b a label = codes "  " ++ hex_word a ++ codes "  " ++ shown_word b a ++ label ++ codes "\n"
 
 -- ---- the stack in use
 
-abbrev pub stack_word_text : Bus → ℕ → ℕ → List ℕ
+unfoldable pub stack_word_text : Bus → ℕ → ℕ → List ℕ
 stack_word_text b sp k = word_text b (wrap (sp + 4 * k)) []
 
-abbrev pub stack_text : Core → Bus → List ℕ
+unfoldable pub stack_text : Core → Bus → List ℕ
 stack_text c b = codes "\nStack in use\n" ++ texts_below (stack_word_text b (sp_in c)) 8
 
 -- ---- the frame
@@ -64,13 +64,13 @@ frame_first r = if has_callee r then 0 else 10
 abbrev pub frame_count : Returning → ℕ
 frame_count r = if has_callee r then 18 else 8
 
-abbrev pub frame_word_text : Bus → ℕ → ℕ → ℕ → List ℕ
+unfoldable pub frame_word_text : Bus → ℕ → ℕ → ℕ → List ℕ
 frame_word_text b sp first k = word_text b (wrap (sp + 4 * k)) (frame_label (first + k))
 
-abbrev pub frame_by : Core → Bus → Returning → List ℕ
+unfoldable pub frame_by : Core → Bus → Returning → List ℕ
 frame_by c b r = texts_below (frame_word_text b (frame_pointer c r) (frame_first r)) (frame_count r)
 
-abbrev pub frame_text : Core → Bus → List ℕ
+unfoldable pub frame_text : Core → Bus → List ℕ
 frame_text c b =
     if has_frame c then row (codes "\nFrame of EXC_RETURN ") c.registers.lr ExcReturn ++ frame_by c b (returning_by c.run.side c.registers.lr)
     else []

@@ -5,15 +5,15 @@ use Rattle.tz_show.specs.Bits.{BitName, bits_of}
 use Rattle.tz_show.specs.declared.bits.Named.{Named}
 
 -- a value behind its name
-abbrev pub cell : List ℕ → ℕ → List ℕ
+unfoldable pub cell : List ℕ → ℕ → List ℕ
 cell head value = head ++ hex_word value
 
 -- two of a line
-abbrev pub pair_row : List ℕ → ℕ → List ℕ → ℕ → List ℕ
+unfoldable pub pair_row : List ℕ → ℕ → List ℕ → ℕ → List ℕ
 pair_row head value other second = cell head value ++ cell other second ++ codes "\n"
 
 -- the name of a bit that is set
-abbrev pub bit_text : ℕ → BitName → List ℕ
+unfoldable pub bit_text : ℕ → BitName → List ℕ
 bit_text value b = if bit_and value b.mask == 0 then [] else codes " " ++ b.name
 
 -- the names of all that are
@@ -22,7 +22,7 @@ bits_text value [] = []
 bits_text value (b ∷ bs) = bit_text value b ++ bits_text value bs
 
 -- a value that ends its line, with the bits that are set
-abbrev pub row : List ℕ → ℕ → Named → List ℕ
+unfoldable pub row : List ℕ → ℕ → Named → List ℕ
 row head value named = cell head value ++ bits_text value (bits_of named) ++ codes "\n"
 
 -- a text where something is so

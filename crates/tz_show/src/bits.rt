@@ -310,6 +310,7 @@ pub fn bits_of(named: Named) -> &'static [Bit]
 }
 
 /// The name of a bit, where it is set.
+#[tactic(auto, unfolding(crate::specs::Rows::bit_text))]
 fn push_bit(text: &mut Text, value: u32, bit: &Bit)
     requires { array_string_len text.old + name_most (bit_view bit.now) ≤ 48000 }
     ensures bytes { text.new.bytes ≡ text.old.bytes ++ bit_text value (bit_view bit.now) }

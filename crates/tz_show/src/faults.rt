@@ -9,6 +9,7 @@ use crate::rows::{Text, push_row};
 use tz_regs::Status;
 
 /// Those that each side has.
+#[tactic(auto, unfolding(crate::specs::Faults::banked_faults_text))]
 fn push_banked(text: &mut Text, status: &Status)
     requires { array_string_len text.old + 504 ≤ 48000 }
     ensures bytes { text.new.bytes ≡ text.old.bytes ++ banked_faults_text status.now }
@@ -23,6 +24,7 @@ fn push_banked(text: &mut Text, status: &Status)
 }
 
 /// Those that there are once.
+#[tactic(auto, unfolding(crate::specs::Faults::other_faults_text))]
 fn push_others(text: &mut Text, status: &Status)
     requires { array_string_len text.old + 420 ≤ 48000 }
     ensures bytes { text.new.bytes ≡ text.old.bytes ++ other_faults_text status.now }
@@ -35,6 +37,7 @@ fn push_others(text: &mut Text, status: &Status)
     push_row(text, "  SFAR     ", status.security.sfar, Named::Plain);
 }
 
+#[tactic(auto, unfolding(crate::specs::Faults::faults_text))]
 pub fn push_faults(text: &mut Text, status: &Status)
     requires { array_string_len text.old + 932 ≤ 48000 }
     ensures bytes { text.new.bytes ≡ text.old.bytes ++ faults_text status.now }

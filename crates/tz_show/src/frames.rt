@@ -56,6 +56,7 @@ fn label_at(labels: &[&'static str], number: u32) -> &'static str
 }
 
 /// What the word of a frame with this number is.
+#[tactic(auto, unfolding(crate::specs::Frames::frame_label))]
 fn frame_label(number: u32) -> &'static str
     ensures label { result.now ≡ frame_label number }
     ensures short { length result.now ≤ 21 }
@@ -64,6 +65,7 @@ fn frame_label(number: u32) -> &'static str
 }
 
 /// The word at an address, where regions hold all its bytes.
+#[tactic(auto, unfolding(crate::specs::Frames::shown_word))]
 fn push_shown_word(text: &mut Text, bus: &Bus, addr: u32)
     requires { array_string_len text.old + 8 ≤ 48000 }
     ensures bytes { text.new.bytes ≡ text.old.bytes ++ shown_word bus.now addr }
@@ -76,6 +78,7 @@ fn push_shown_word(text: &mut Text, bus: &Bus, addr: u32)
 }
 
 /// An address, its word, and what the word is.
+#[tactic(auto, unfolding(crate::specs::Frames::word_text))]
 fn push_word(text: &mut Text, bus: &Bus, addr: u32, label: &str)
     requires { array_string_len text.old + length label.now + 21 ≤ 48000 }
     ensures bytes { text.new.bytes ≡ text.old.bytes ++ word_text bus.now addr label.now }
@@ -100,6 +103,7 @@ fn push_stack_words(text: &mut Text, bus: &Bus, sp: u32)
     }
 }
 
+#[tactic(auto, unfolding(crate::specs::Frames::stack_text))]
 pub fn push_stack(text: &mut Text, core: &Core, bus: &Bus)
     requires { array_string_len text.old + 182 ≤ 48000 }
     ensures bytes { text.new.bytes ≡ text.old.bytes ++ stack_text core.now bus.now }
@@ -178,6 +182,7 @@ fn push_words(text: &mut Text, bus: &Bus, sp: u32, first: u32, count: u32)
 }
 
 /// The frame of an EXC_RETURN value.
+#[tactic(auto, unfolding(crate::specs::Frames::frame_by))]
 fn push_frame_by(text: &mut Text, core: &Core, bus: &Bus, returning: &Returning)
     requires { array_string_len text.old + 756 ≤ 48000 }
     ensures bytes { text.new.bytes ≡ text.old.bytes ++ frame_by core.now bus.now returning.now }
@@ -191,6 +196,7 @@ fn push_frame_by(text: &mut Text, core: &Core, bus: &Bus, returning: &Returning)
     }
 }
 
+#[tactic(auto, unfolding(crate::specs::Frames::frame_text))]
 pub fn push_frame(text: &mut Text, core: &Core, bus: &Bus)
     requires { array_string_len text.old + 850 ≤ 48000 }
     ensures bytes { text.new.bytes ≡ text.old.bytes ++ frame_text core.now bus.now }

@@ -29,33 +29,35 @@ use crate::registers::{push_head, push_registers, push_stacks};
 use crate::rows::Text;
 use crate::units::{push_mpus, push_sau, push_timers};
 pub use memory::Range;
+use tz_access::Bus;
 use tz_core::Machine;
 use tz_model::{Sink, SinkError};
+use tz_nvic::Exceptions;
+use tz_regs::Core;
 
 /// The sections about the core.
-fn push_core(text: &mut Text, machine: &Machine, step: u32)
+#[tactic(auto, unfolding(crate::specs::Page::core_text))]
+fn push_core(text: &mut Text, core: &Core, exceptions: &Exceptions, step: u32)
     requires { array_string_len text.old + 2600 ≤ 48000 }
-    ensures bytes { text.new.bytes ≡ text.old.bytes ++ core_text machine.now step }
+    ensures bytes { text.new.bytes ≡ text.old.bytes ++ core_text core.now exceptions.now step }
     ensures len { array_string_len text.new ≤ array_string_len text.old + 2600 }
 {
-    let core = machine.core();
-    push_head(text, machine, step);
+    push_head(text, exceptions, core, step);
     push_registers(text, core);
     push_stacks(text, core);
-    push_masks(text, machine.exceptions(), &core.masks);
+    push_masks(text, exceptions, &core.masks);
     push_faults(text, &core.status);
 }
 
 /// The sections about what stands around it.
-fn push_rest(text: &mut Text, machine: &Machine)
-    requires { array_string_len text.old + 33000 ≤ 48000 }
-    ensures bytes { text.new.bytes ≡ text.old.bytes ++ rest_text machine.now }
-    ensures len { array_string_len text.new ≤ array_string_len text.old + 33000 }
+#[tactic(auto, unfolding(crate::specs::Page::rest_text))]
+fn push_rest(text: &mut Text, core: &Core, exceptions: &Exceptions, bus: &Bus)
+    requires { array_string_len text.old + 38000 ≤ 48000 }
+    ensures bytes { text.new.bytes ≡ text.old.bytes ++ rest_text core.now exceptions.now bus.now }
+    ensures len { array_string_len text.new ≤ array_string_len text.old + 38000 }
 {
-    let core = machine.core();
-    let bus = machine.bus();
-    push_exceptions(text, &core.status, machine.exceptions());
-    push_timers(text, machine.exceptions());
+    push_exceptions(text, &core.status, exceptions);
+    push_timers(text, exceptions);
     push_sau(text, bus);
     push_mpus(text, bus);
     push_stack(text, core, bus);
@@ -68,8 +70,10 @@ fn put_state<O: Sink>(machine: &Machine, step: u32, out: &mut O) -> Result<(), S
     ensures cause { HasCause (O.faults out.old) (O.faults out.new) (result ≡ Err SinkError.Failed) }
 {
     let mut text = Text::new();
-    push_core(&mut text, machine, step);
-    push_rest(&mut text, machine);
+    let core = machine.core();
+    let exceptions = machine.exceptions();
+    push_core(&mut text, core, exceptions, step);
+    push_rest(&mut text, core, exceptions, machine.bus());
     out.put(text.as_str().as_bytes())
 }
 

@@ -3,7 +3,7 @@
 ghost use Rattle.std.specs.Prelude.{◌≡◌, ◌≤◌, ◌+◌, ◌++◌, length};
 ghost use Rattle.arrayvec.specs.ArrayString.{array_string_len};
 ghost use Rattle.tz_state.specs.Execution.{manual_priority, basepri_priority, primask_priority, faultmask_set, faultmask_priority};
-ghost use Rattle.tz_show.specs.Masks.{mask_row, side_masks_text, masks_text};
+ghost use Rattle.tz_show.specs.Masks.{mask_row, primask_row, basepri_row, faultmask_row, side_masks_text, masks_text};
 
 use crate::rows::{Text, push_cell, push_signed};
 use tz_model::Side;
@@ -60,6 +60,7 @@ fn faultmask_priority(exceptions: &Exceptions, side: Side, set: bool) -> u32
 }
 
 /// A mask, and what it counts as where it is set.
+#[tactic(auto, unfolding(crate::specs::Masks::mask_row))]
 fn push_mask(text: &mut Text, head: &str, value: u32, priority: u32)
     requires small { priority ≤ 260 }
     requires room { array_string_len text.old + length head.now + 31 ≤ 48000 }
@@ -74,7 +75,50 @@ fn push_mask(text: &mut Text, head: &str, value: u32, priority: u32)
     text.push_str("\n");
 }
 
+#[tactic(auto, unfolding(crate::specs::Masks::primask_row))]
+fn push_primask(text: &mut Text, exceptions: &Exceptions, side: Side, set: bool, head: &str)
+    requires { array_string_len text.old + length head.now + 31 ≤ 48000 }
+    ensures bytes { text.new.bytes ≡ text.old.bytes ++ primask_row exceptions.now side set head.now }
+    ensures len { array_string_len text.new ≤ array_string_len text.old + length head.now + 31 }
+{
+    push_mask(
+        text,
+        head,
+        u32::from(set),
+        primask_priority(exceptions, side, set),
+    );
+}
+
+#[tactic(auto, unfolding(crate::specs::Masks::basepri_row))]
+fn push_basepri(text: &mut Text, exceptions: &Exceptions, side: Side, byte: u8, head: &str)
+    requires { array_string_len text.old + length head.now + 31 ≤ 48000 }
+    ensures bytes { text.new.bytes ≡ text.old.bytes ++ basepri_row exceptions.now side byte head.now }
+    ensures len { array_string_len text.new ≤ array_string_len text.old + length head.now + 31 }
+{
+    push_mask(
+        text,
+        head,
+        u32::from(byte),
+        basepri_priority(exceptions, side, byte),
+    );
+}
+
+#[tactic(auto, unfolding(crate::specs::Masks::faultmask_row))]
+fn push_faultmask(text: &mut Text, exceptions: &Exceptions, side: Side, set: bool, head: &str)
+    requires { array_string_len text.old + length head.now + 31 ≤ 48000 }
+    ensures bytes { text.new.bytes ≡ text.old.bytes ++ faultmask_row exceptions.now side set head.now }
+    ensures len { array_string_len text.new ≤ array_string_len text.old + length head.now + 31 }
+{
+    push_mask(
+        text,
+        head,
+        u32::from(set),
+        faultmask_priority(exceptions, side, set),
+    );
+}
+
 /// The masks of a side, by what stands before each.
+#[tactic(auto, unfolding(crate::specs::Masks::side_masks_text))]
 fn push_side_masks(
     text: &mut Text,
     exceptions: &Exceptions,
@@ -88,14 +132,12 @@ fn push_side_masks(
     ensures bytes { text.new.bytes ≡ text.old.bytes ++ side_masks_text exceptions.now side masks.now primask.now basepri.now faultmask.now }
     ensures len { array_string_len text.new ≤ array_string_len text.old + length primask.now + length basepri.now + length faultmask.now + 93 }
 {
-    let prime = primask_priority(exceptions, side, masks.primask);
-    let base = basepri_priority(exceptions, side, masks.basepri);
-    let fault = faultmask_priority(exceptions, side, masks.faultmask);
-    push_mask(text, primask, u32::from(masks.primask), prime);
-    push_mask(text, basepri, u32::from(masks.basepri), base);
-    push_mask(text, faultmask, u32::from(masks.faultmask), fault);
+    push_primask(text, exceptions, side, masks.primask, primask);
+    push_basepri(text, exceptions, side, masks.basepri, basepri);
+    push_faultmask(text, exceptions, side, masks.faultmask, faultmask);
 }
 
+#[tactic(auto, unfolding(crate::specs::Masks::masks_text))]
 pub fn push_masks(text: &mut Text, exceptions: &Exceptions, masks: &Masks)
     requires { array_string_len text.old + 284 ≤ 48000 }
     ensures bytes { text.new.bytes ≡ text.old.bytes ++ masks_text exceptions.now masks.now }

@@ -18,6 +18,7 @@ pub struct Range {
     pub count: u32,
 }
 
+#[tactic(auto, unfolding(crate::specs::Dump::attribution_mark))]
 fn attribution_mark(side: RegionSide) -> &'static str
     ensures mark { result.now ≡ attribution_mark side }
     ensures short { length result.now ≡ 7 }
@@ -30,13 +31,14 @@ fn attribution_mark(side: RegionSide) -> &'static str
 }
 
 /// The byte at an address in two digits, where a region holds it.
+#[tactic(auto, unfolding(crate::specs::Dump::shown_byte))]
 fn push_shown_byte(text: &mut Text, bus: &Bus, addr: u32)
     requires { array_string_len text.old + 2 ≤ 48000 }
     ensures bytes { text.new.bytes ≡ text.old.bytes ++ shown_byte bus.now addr }
     ensures len { array_string_len text.new ≡ array_string_len text.old + 2 }
 {
     match bus.read(addr, Size::Byte) {
-        Ok(byte) => push_hex_byte(text, byte as u8),
+        Ok(byte) => push_hex_byte(text, (byte % 256) as u8),
         Err(_) => text.push_str("--"),
     }
 }
@@ -54,6 +56,7 @@ fn shown_character(byte: u32) -> char
 }
 
 /// The byte at an address as a character, where a region holds it.
+#[tactic(auto, unfolding(crate::specs::Dump::shown_text))]
 fn push_shown_text(text: &mut Text, bus: &Bus, addr: u32)
     requires { array_string_len text.old + 1 ≤ 48000 }
     ensures bytes { text.new.bytes ≡ text.old.bytes ++ shown_text bus.now addr }
@@ -74,6 +77,7 @@ fn has_more(range: &Range, from: u32, k: u32) -> bool
 }
 
 /// A column of a line.
+#[tactic(auto, unfolding(crate::specs::Dump::byte_text))]
 fn push_byte(text: &mut Text, bus: &Bus, range: &Range, from: u32, k: u32)
     requires below { k < 16 }
     requires room { array_string_len text.old + 4 ≤ 48000 }
@@ -90,6 +94,7 @@ fn push_byte(text: &mut Text, bus: &Bus, range: &Range, from: u32, k: u32)
 }
 
 /// A character behind the columns.
+#[tactic(auto, unfolding(crate::specs::Dump::character_text))]
 fn push_character(text: &mut Text, bus: &Bus, range: &Range, from: u32, k: u32)
     requires below { k < 16 }
     requires room { array_string_len text.old + 1 ≤ 48000 }
@@ -124,6 +129,7 @@ fn push_characters(text: &mut Text, bus: &Bus, range: &Range, from: u32)
 }
 
 /// The line of 16 bytes from a number on.
+#[tactic(auto, unfolding(crate::specs::Dump::bytes_line))]
 fn push_line(text: &mut Text, bus: &Bus, range: &Range, from: u32)
     requires { array_string_len text.old + 99 ≤ 48000 }
     ensures bytes { text.new.bytes ≡ text.old.bytes ++ bytes_line bus.now range.now from }

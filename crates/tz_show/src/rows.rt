@@ -37,6 +37,7 @@ pub fn push_where(text: &mut Text, so: bool, words: &str)
 }
 
 /// A value behind its name.
+#[tactic(auto, unfolding(crate::specs::Rows::cell))]
 pub fn push_cell(text: &mut Text, head: &str, value: u32)
     requires { array_string_len text.old + length head.now + 8 ≤ 48000 }
     ensures bytes { text.new.bytes ≡ text.old.bytes ++ cell head.now value }
@@ -47,6 +48,7 @@ pub fn push_cell(text: &mut Text, head: &str, value: u32)
 }
 
 /// Two values on a line.
+#[tactic(auto, unfolding(crate::specs::Rows::pair_row))]
 pub fn push_pair(text: &mut Text, head: &str, value: u32, other: &str, second: u32)
     requires { array_string_len text.old + length head.now + length other.now + 17 ≤ 48000 }
     ensures bytes { text.new.bytes ≡ text.old.bytes ++ pair_row head.now value other.now second }
@@ -58,6 +60,7 @@ pub fn push_pair(text: &mut Text, head: &str, value: u32, other: &str, second: u
 }
 
 /// A value that ends its line, with the bits that are set.
+#[tactic(auto, unfolding(crate::specs::Rows::row))]
 pub fn push_row(text: &mut Text, head: &str, value: u32, named: Named)
     requires { array_string_len text.old + length head.now + 73 ≤ 48000 }
     ensures bytes { text.new.bytes ≡ text.old.bytes ++ row head.now value named }

@@ -1,6 +1,6 @@
 use Rattle.std.proofs.Common.{◌∙◌, ◌≡◌, ◌≤◌, length, ℕ, List, subst, sym}
 use Rattle.tz_show.specs.Frames.{frame_label}
-use Rattle.tz_show.proofs.Tables.{label_is, labels_are, frame_label_fits}
+use Rattle.tz_show.proofs.Labels.{label_is, labels_are, frame_label_fits}
 use Rattle.tz_show.proofs.frames.frame_label.Goals as goal
 
 fits_along : (t : List ℕ) (k : ℕ) → t ≡ frame_label k → length t ≤ 21
