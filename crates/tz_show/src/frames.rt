@@ -92,6 +92,17 @@ fn push_word(text: &mut Text, bus: &Bus, addr: u32, label: &str)
     text.push_str("\n");
 }
 
+/// A word of a stack by its number.
+#[tactic(auto, unfolding(crate::specs::Frames::stack_word_text))]
+fn push_stack_word(text: &mut Text, bus: &Bus, sp: u32, k: u32)
+    requires below { k < 8 }
+    requires room { array_string_len text.old + 21 ≤ 48000 }
+    ensures bytes { text.new.bytes ≡ text.old.bytes ++ stack_word_text bus.now sp k }
+    ensures len { array_string_len text.new ≤ array_string_len text.old + 21 }
+{
+    push_word(text, bus, sp.wrapping_add(4 * k), "");
+}
+
 /// The eight words from a stack pointer up.
 fn push_stack_words(text: &mut Text, bus: &Bus, sp: u32)
     requires { array_string_len text.old + 168 ≤ 48000 }
@@ -99,7 +110,7 @@ fn push_stack_words(text: &mut Text, bus: &Bus, sp: u32)
     ensures len { array_string_len text.new ≤ array_string_len text.old + 168 }
 {
     for k in 0..8u32 {
-        push_word(text, bus, sp.wrapping_add(4 * k), "");
+        push_stack_word(text, bus, sp, k);
     }
 }
 
@@ -169,6 +180,17 @@ fn has_callee(returning: &Returning) -> bool
     returning.secure && (!returning.es || !returning.dcrs)
 }
 
+/// A word of a frame by its number, with its label.
+#[tactic(auto, unfolding(crate::specs::Frames::frame_word_text))]
+fn push_frame_word(text: &mut Text, bus: &Bus, sp: u32, first: u32, k: u32)
+    requires below { first + k < 18 }
+    requires room { array_string_len text.old + 42 ≤ 48000 }
+    ensures bytes { text.new.bytes ≡ text.old.bytes ++ frame_word_text bus.now sp first k }
+    ensures len { array_string_len text.new ≤ array_string_len text.old + 42 }
+{
+    push_word(text, bus, sp.wrapping_add(4 * k), frame_label(first + k));
+}
+
 /// The words of a frame from a stack pointer up, the first of which has this number.
 fn push_words(text: &mut Text, bus: &Bus, sp: u32, first: u32, count: u32)
     requires few { first + count ≤ 18 }
@@ -177,7 +199,7 @@ fn push_words(text: &mut Text, bus: &Bus, sp: u32, first: u32, count: u32)
     ensures len { array_string_len text.new ≤ array_string_len text.old + 756 }
 {
     for k in 0..count {
-        push_word(text, bus, sp.wrapping_add(4 * k), frame_label(first + k));
+        push_frame_word(text, bus, sp, first, k);
     }
 }
 

@@ -92,8 +92,9 @@ fn push_sau_region(text: &mut Text, sau: &Sau, k: u8)
     ensures bytes { text.new.bytes ≡ text.old.bytes ++ sau_region_text sau.now.sau.regions k }
     ensures len { array_string_len text.new ≤ array_string_len text.old + 50 }
 {
-    if let Some((rbar, rlar)) = sau.region(k) {
-        push_sau_line(text, k, &Bounds { rbar, rlar });
+    match sau.region(k) {
+        None => {}
+        Some((rbar, rlar)) => push_sau_line(text, k, &Bounds { rbar, rlar }),
     }
 }
 
@@ -186,8 +187,9 @@ fn push_mpu_region(text: &mut Text, profile: Profile, mpu: &Mpu, k: u8)
     ensures bytes { text.new.bytes ≡ text.old.bytes ++ mpu_region_text profile mpu.now.mpu.regions k }
     ensures len { array_string_len text.new ≤ array_string_len text.old + 54 }
 {
-    if let Some((rbar, rlar)) = mpu.region(k) {
-        push_mpu_line(text, profile, k, &Bounds { rbar, rlar });
+    match mpu.region(k) {
+        None => {}
+        Some((rbar, rlar)) => push_mpu_line(text, profile, k, &Bounds { rbar, rlar }),
     }
 }
 

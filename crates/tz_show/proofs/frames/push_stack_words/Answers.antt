@@ -7,6 +7,6 @@ loop-k-init c = record { bytes = texts_start _ _; len = omega arith }
 
 pub loop-k-preserved : goal.loop-k-preserved
 loop-k-preserved c = record {
-  bytes = texts_step _ _ _ _ _ c.loop-k.invariant.bytes c.push_word.ensures.bytes;
-  len = let l = c.push_word.ensures.len in omega (arith, l, c.loop-k.invariant.len);
+  bytes = texts_step _ _ _ _ _ c.loop-k.invariant.bytes c.push_stack_word.ensures.bytes;
+  len = let l = c.push_stack_word.ensures.len in omega (arith, l, c.loop-k.invariant.len);
 }
