@@ -1,7 +1,7 @@
 -- Where what gates rest upon stays, each entry is at a gate.
 use Rattle.std.proofs.Common.{◌≡◌, ℕ, zero, suc, ◌+◌, ◌%◌, ◌<◌, Bool, true, false, ◌&&◌, cond, List, Option, Some, None, refl, sym, ap, ◌∙◌, arith, inl, inr}
 use Rattle.std.specs.Prelude.{◌==◌, nat_le, not}
-use Rattle.std.proofs.lemmas.Bool.{and_parts, and_from, not-true, eq-eqb}
+use Rattle.std.proofs.lemmas.Bool.{and_parts, and_from, not-true, eqb-true}
 use Rattle.std.proofs.lemmas.Bool.Decides.{nat_tests}
 use Rattle.std.proofs.lemmas.List.Sums.{sum_by-append}
 use Rattle.tz_table.specs.declared.units.Side.TheVariants.{NonSecure}
@@ -24,12 +24,10 @@ use Rattle.tz_sem.specs.Ended.{Ended, kind_without, told_by, ran_in, report_of}
 use Rattle.tz_sem.specs.Run.{Events, state_after}
 use Rattle.tz_sem.specs.Step.{ended, started, step}
 use Rattle.tz_twin.specs.Integrity.{IsGatewayHalf, Came, ByException, ByReturn, ByUnstacking, WayIn}
-use Rattle.tz_twin.specs.EvenPc.{HasEvenPc}
-use Rattle.tz_twin.proofs.EvenPc.{step_even}
 use Rattle.tz_twin.proofs.Unharmed.{enters_secure}
 use Rattle.tz_gates.specs.Gates.{is_gate_half, is_gate, gates_of}
 use Rattle.tz_gates.specs.Entries.{is_sg, sg_place, goes_in, entry_of, listed, entered, is_among, count_elsewhere, other_entries}
-use Rattle.tz_gates.specs.Stays.{KeepsGates, KeepsGatesFor}
+use Rattle.tz_gates.specs.Stays.{KeepsGates, KeepsGatesFor, HasEvenPcFor}
 use Rattle.tz_gates.proofs.Listed.{gate_among}
 use Rattle.tz_gates.proofs.Finding.{gate_back}
 use Rattle.tz_gates.proofs.Entering.{goes_ended}
@@ -100,17 +98,18 @@ half_of_gate s t a is even k h =
     let low : a < 0xE0000000 = entry_low (map_of t) a entry in
     gate_back s t a is even (omega arith) k entry h.mapped h.half
 
-gate_from : (s t : State) (a : ℕ) → are_regions s.bus.board.regions ≡ true → a % 2 ≡ 0 → KeepsGates s t → IsGatewayHalf t a → IsGatewayHalf t (wrap (a + 2)) → is_gate s a ≡ true
+gate_from : (s t : State) (a : ℕ) → are_regions s.bus.board.regions ≡ true → is_multiple 2 a ≡ true → KeepsGates s t → IsGatewayHalf t a → IsGatewayHalf t (wrap (a + 2)) → is_gate s a ≡ true
 unfolding is_gate
 gate_from s t a is even k p q =
+    let two : a % 2 ≡ 0 = eqb-true (a % 2) 0 even in
     let next : wrap (a + 2) % 2 ≡ 0 = omega arith in
-    and_from (a % 2 == 0) (is_gate_half s a && is_gate_half s (wrap (a + 2))) (eq-eqb (a % 2) 0 even)
-    (and_from (is_gate_half s a) (is_gate_half s (wrap (a + 2))) (half_of_gate s t a is even k p) (half_of_gate s t (wrap (a + 2)) is next k q))
+    and_from (a % 2 == 0) (is_gate_half s a && is_gate_half s (wrap (a + 2))) even
+    (and_from (is_gate_half s a) (is_gate_half s (wrap (a + 2))) (half_of_gate s t a is two k p) (half_of_gate s t (wrap (a + 2)) is next k q))
 
 keeps_started : (s t : State) (events : List ScriptEvent) → KeepsGates s t → KeepsGates s (started t events)
 keeps_started s t events k = record { board = k.board; ctrl = k.ctrl; regions = k.regions; bytes = k.bytes }
 
-entry_at_gate : (s t : State) (events : List ScriptEvent) (p : ℕ) → are_regions s.bus.board.regions ≡ true → KeepsGates s t → HasEvenPc t → entry_of (step t events).report ≡ Some p
+entry_at_gate : (s t : State) (events : List ScriptEvent) (p : ℕ) → are_regions s.bus.board.regions ≡ true → KeepsGates s t → is_multiple 2 t.core.registers.pc ≡ true → entry_of (step t events).report ≡ Some p
     → is_among (gates_of s) p ≡ true
 entry_at_gate s t events p is k even told =
     let h = entry_told (before_in t.core) (ended (started t events)) p told in
@@ -130,22 +129,22 @@ one_listed gates None h = refl
 one_listed gates (Some p) h = rw (h p refl) refl
 
 none_elsewhere : (s : State) (events : Events) (n k : ℕ) (t : State) → are_regions s.bus.board.regions ≡ true → ((j : ℕ) → j < n → KeepsGates s (state_after events k t j))
-    → HasEvenPc t → count_elsewhere (entered events k t n) (gates_of s) ≡ 0
+    → ((j : ℕ) → j < n → is_multiple 2 (state_after events k t j).core.registers.pc ≡ true) → count_elsewhere (entered events k t n) (gates_of s) ≡ 0
 unfolding entered
 none_elsewhere s events zero k t is keeps even = refl
 none_elsewhere s events (suc n) k t is keeps even =
     let r = step t (events k) in
     let first : count_elsewhere (listed (entry_of r.report)) (gates_of s) ≡ 0 =
-    one_listed (gates_of s) (entry_of r.report) (λ p told. entry_at_gate s t (events k) p is (keeps 0 (omega arith)) even told) in
+    one_listed (gates_of s) (entry_of r.report) (λ p told. entry_at_gate s t (events k) p is (keeps 0 (omega arith)) (even 0 (omega arith)) told) in
     let rest : count_elsewhere (entered events (k + 1) r.state n) (gates_of s) ≡ 0 =
-    none_elsewhere s events n (k + 1) r.state is (λ j l. keeps (suc j) (omega arith)) (step_even t (events k) even) in
+    none_elsewhere s events n (k + 1) r.state is (λ j l. keeps (suc j) (omega arith)) (λ j l. even (suc j) (omega arith)) in
     sum_by-append (λ p. cond (not (is_among (gates_of s) p)) 1 0) (listed (entry_of r.report)) (entered events (k + 1) r.state n) ∙ rw (first, rest) refl
 
 nothing_entered : (events : Events) (k : ℕ) (t : State) (gates : List ℕ) → other_entries events k t 0 gates ≡ 0
 unfolding entered
 nothing_entered events k t gates = refl
 
-pub no_others : (s : State) (gates : List ℕ) (events : Events) (t : State) (n : ℕ) → are_regions t.bus.board.regions ≡ true → gates ≡ gates_of s → KeepsGatesFor s events t n → HasEvenPc t
+pub no_others : (s : State) (gates : List ℕ) (events : Events) (t : State) (n : ℕ) → are_regions t.bus.board.regions ≡ true → gates ≡ gates_of s → KeepsGatesFor s events t n → HasEvenPcFor events t n
     → other_entries events 0 t n gates ≡ 0
 no_others s gates events t zero is all keeps even = nothing_entered events 0 t gates
 no_others s gates events t (suc n) is all keeps even =

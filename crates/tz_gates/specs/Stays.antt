@@ -38,3 +38,7 @@ FindsGates s gates = (t : State) (f : Fetcher) (a : ℕ) → KeepsGates s t → 
 -- in each state before one of n steps
 abbrev pub KeepsGatesFor : State → Events → State → ℕ → Type 0
 KeepsGatesFor old events s n = (k : ℕ) → k < n → KeepsGates old (state_after events 0 s k)
+
+-- PC is even in each of them, as all that sets it leaves it
+abbrev pub HasEvenPcFor : Events → State → ℕ → Type 0
+HasEvenPcFor events s n = (k : ℕ) → k < n → is_multiple 2 (state_after events 0 s k).core.registers.pc ≡ true
