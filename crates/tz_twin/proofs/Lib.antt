@@ -33,9 +33,3 @@ pub mod Secured
 pub mod TwoRuns
 pub mod Unharmed
 pub mod WaysOut
-pub mod Evens
-pub mod EvenOffsets
-pub mod EvenRows
-pub mod EvenInstructions
-pub mod EvenFrames
-pub mod EvenPc

@@ -2,4 +2,3 @@ pub mod Seen
 pub mod Trace
 pub mod Integrity
 pub mod Ways
-pub mod EvenPc

@@ -17,7 +17,6 @@ ghost use Rattle.tz_twin.specs.Seen.{Agree};
 ghost use Rattle.tz_twin.specs.Trace.{text_from};
 ghost use Rattle.tz_twin.specs.Integrity.{LeavesSecure, EntersSecure};
 ghost use Rattle.tz_twin.specs.Ways.{TellsWay};
-ghost use Rattle.tz_twin.specs.EvenPc.{HasEvenPc};
 
 /// Isolation: two runs of a board, a Non-secure image and a script, with any two Secure images, that
 /// agree in what crosses out of Secure state print the same for Non-secure code.
@@ -39,11 +38,4 @@ pub fn integrity()
 /// Non-secure.
 pub fn ways()
     ensures { (s : State) (events : List ScriptEvent) → TellsWay (step s events) }
-{}
-
-/// PC is even as a machine starts, and a step leaves it even: what branches go by, what frames and vectors give,
-/// and the offsets of all instructions.
-pub fn pc_stays_even()
-    ensures boot { (b : BoardValue) (secure nonsecure : ImageValue) → HasEvenPc (boot b secure nonsecure) }
-    ensures step { (s : State) (events : List ScriptEvent) → HasEvenPc s → HasEvenPc (step s events).state }
 {}
