@@ -1,7 +1,7 @@
 -- Where what gates rest upon stays, each entry is at a gate.
 use Rattle.std.proofs.Common.{◌≡◌, ℕ, zero, suc, ◌+◌, ◌%◌, ◌<◌, Bool, true, false, ◌&&◌, cond, List, Option, Some, None, refl, sym, ap, ◌∙◌, arith, inl, inr}
 use Rattle.std.specs.Prelude.{◌==◌, nat_le, not}
-use Rattle.std.proofs.lemmas.Bool.{and_parts, and_from, not-true, eqb-true}
+use Rattle.std.proofs.lemmas.Bool.{and_parts, and_from, not-true, eqb-true, eq-eqb}
 use Rattle.std.proofs.lemmas.Bool.Decides.{nat_tests}
 use Rattle.std.proofs.lemmas.List.Sums.{sum_by-append}
 use Rattle.tz_table.specs.declared.units.Side.TheVariants.{NonSecure}
@@ -27,10 +27,12 @@ use Rattle.tz_twin.specs.Integrity.{IsGatewayHalf, Came, ByException, ByReturn, 
 use Rattle.tz_twin.proofs.Unharmed.{enters_secure}
 use Rattle.tz_gates.specs.Gates.{is_gate_half, is_gate, gates_of}
 use Rattle.tz_gates.specs.Entries.{is_sg, sg_place, goes_in, entry_of, listed, entered, is_among, count_elsewhere, other_entries}
-use Rattle.tz_gates.specs.Stays.{KeepsGates, KeepsGatesFor, HasEvenPcFor}
+use Rattle.tz_gates.specs.Stays.{KeepsGates, KeepsGatesFor, HasEvenPc}
 use Rattle.tz_gates.proofs.Listed.{gate_among}
 use Rattle.tz_gates.proofs.Finding.{gate_back}
 use Rattle.tz_gates.proofs.Entering.{goes_ended}
+use Rattle.tz_gates.proofs.EvenTaken.{Even}
+use Rattle.tz_gates.proofs.EvenStep.{even_after}
 
 -- ---- what a report of an entry tells
 
@@ -124,6 +126,9 @@ entry_at_gate s t events p is k even told =
 
 -- ---- runs
 
+even_multiple : {n : ℕ} → Even n → is_multiple 2 n ≡ true
+even_multiple {n} h = eq-eqb (n % 2) 0 h.even
+
 one_listed : (gates : List ℕ) (o : Option ℕ) → ((p : ℕ) → o ≡ Some p → is_among gates p ≡ true) → count_elsewhere (listed o) gates ≡ 0
 one_listed gates None h = refl
 one_listed gates (Some p) h = rw (h p refl) refl
@@ -144,10 +149,11 @@ nothing_entered : (events : Events) (k : ℕ) (t : State) (gates : List ℕ) →
 unfolding entered
 nothing_entered events k t gates = refl
 
-pub no_others : (s : State) (gates : List ℕ) (events : Events) (t : State) (n : ℕ) → are_regions t.bus.board.regions ≡ true → gates ≡ gates_of s → KeepsGatesFor s events t n → HasEvenPcFor events t n
+pub no_others : (s : State) (gates : List ℕ) (events : Events) (t : State) (n : ℕ) → are_regions t.bus.board.regions ≡ true → gates ≡ gates_of s → KeepsGatesFor s events t n → HasEvenPc t
     → other_entries events 0 t n gates ≡ 0
 no_others s gates events t zero is all keeps even = nothing_entered events 0 t gates
 no_others s gates events t (suc n) is all keeps even =
     let k = keeps 0 (omega arith) in
     let regions : are_regions s.bus.board.regions ≡ true = ap (λ (b : BoardValue). are_regions b.regions) (sym k.board) ∙ is in
-    ap (other_entries events 0 t (suc n)) all ∙ none_elsewhere s events (suc n) 0 t regions keeps even
+    let start : Even t.core.registers.pc = record { even = eqb-true (t.core.registers.pc % 2) 0 even } in
+    ap (other_entries events 0 t (suc n)) all ∙ none_elsewhere s events (suc n) 0 t regions keeps (λ j l. even_multiple (even_after events j 0 t start))

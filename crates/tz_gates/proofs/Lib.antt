@@ -7,3 +7,8 @@ pub mod Entering
 pub mod Exact
 pub mod Counting
 pub mod Lines
+pub mod EvenTaken
+pub mod EvenOffsets
+pub mod EvenExecuted
+pub mod EvenStep
+pub mod Starting

@@ -39,6 +39,6 @@ FindsGates s gates = (t : State) (f : Fetcher) (a : ℕ) → KeepsGates s t → 
 abbrev pub KeepsGatesFor : State → Events → State → ℕ → Type 0
 KeepsGatesFor old events s n = (k : ℕ) → k < n → KeepsGates old (state_after events 0 s k)
 
--- PC is even in each of them, as all that sets it leaves it
-abbrev pub HasEvenPcFor : Events → State → ℕ → Type 0
-HasEvenPcFor events s n = (k : ℕ) → k < n → is_multiple 2 (state_after events 0 s k).core.registers.pc ≡ true
+-- bit 0 of PC is clear, as it is from the start on
+abbrev pub HasEvenPc : State → Type 0
+HasEvenPc s = is_multiple 2 s.core.registers.pc ≡ true

@@ -6,12 +6,14 @@
 //! both as lines.
 #![tactic(auto)]
 
+mod laws;
 mod listing;
 mod scan;
 mod spans;
 mod tally;
 mod text;
 
+pub use laws::gates_hold;
 pub use listing::list;
 pub use tally::count;
 pub use text::put_gates;

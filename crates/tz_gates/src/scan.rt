@@ -1,6 +1,6 @@
 //! The search for gates, from one address on to the next.
 
-ghost use Rattle.std.specs.Prelude.{◌≡◌, ◌+◌, ◌≤◌, ◌<◌, ◌%◌, ◌^◌, true, false, OnOk};
+ghost use Rattle.std.specs.Prelude.{◌≡◌, ◌+◌, ◌≤◌, ◌<◌, ◌%◌, ◌^◌, true, false, ◌&&◌, OnOk};
 ghost use Rattle.tz_model.specs.Board.{are_regions};
 ghost use Rattle.tz_state.specs.State.{map_of};
 ghost use Rattle.tz_state.specs.Fetch.{is_entry};
@@ -72,6 +72,13 @@ impl Scan {
         }
     }
 
+    /// Whether a halfword ends a gate that the one before it begins.
+    fn ends_gate(&self, half: bool) -> bool
+        ensures { result ≡ (half && self.now.half) }
+    {
+        half && self.half
+    }
+
     /// Goes on over one halfword that Non-secure code may call.
     fn read_half(&mut self, machine: &Machine, addr: u32) -> Result<(), AllocError>
         requires scanned { Scanned machine.now addr self.old.gates.items self.old.half }
@@ -80,7 +87,7 @@ impl Scan {
         ensures { OnOk result (Scanned machine.now (addr + 2) self.new.gates.items self.new.half) }
     {
         let half = is_gate_half(machine, addr);
-        if half && self.half {
+        if self.ends_gate(half) {
             self.gates.push(addr - 2)?;
         }
         self.half = half;

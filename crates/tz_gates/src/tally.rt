@@ -7,7 +7,7 @@ ghost use Rattle.tz_sem.specs.Run.{state_after};
 ghost use Rattle.tz_run.specs.Events.{events_of};
 ghost use Rattle.tz_gates.specs.Entries.{is_sg, sg_place, entry_of, is_among, entries_at, other_entries};
 ghost use Rattle.tz_gates.specs.Gates.{gates_of};
-ghost use Rattle.tz_gates.specs.Stays.{KeepsGatesFor, HasEvenPcFor};
+ghost use Rattle.tz_gates.specs.Stays.{KeepsGatesFor, HasEvenPc};
 
 use crate::scan::know_regions;
 use std::marker::Brand;
@@ -67,7 +67,8 @@ fn note_entry(gates: &[u32], hits: &mut [u32], others: u32, entry: u32) -> u32
 /// enter at each gate, and tells how many enter elsewhere.
 ///
 /// None does where the gates are all gates of a state, and the board, CTRL and the regions of the SAU, and the
-/// bytes that Non-secure code might call stay as in that state.
+/// bytes that Non-secure code might call stay as in that state. Bit 0 of PC has to be clear, which it is where the
+/// machine starts.
 pub fn count(
     machine: &mut Machine,
     gates: &[u32],
@@ -80,7 +81,7 @@ pub fn count(
     ensures state { machine.new ≡ state_after (events_of script.now) 0 machine.old steps }
     ensures hits { hits.new ≡ map (entries_at (events_of script.now) 0 machine.old steps) gates.now }
     ensures others { result ≡ other_entries (events_of script.now) 0 machine.old steps gates.now }
-    ensures exact { (s : State) → gates.now ≡ gates_of s → KeepsGatesFor s (events_of script.now) machine.old steps → HasEvenPcFor (events_of script.now) machine.old steps → result ≡ 0 }
+    ensures exact { (s : State) → gates.now ≡ gates_of s → KeepsGatesFor s (events_of script.now) machine.old steps → HasEvenPc machine.old → result ≡ 0 }
 {
     count_counted::<Brand>(Blank::new(1), machine, gates, hits, script, steps)
 }
@@ -102,7 +103,7 @@ fn count_counted<L: Ledger>(
     ensures state { machine.new ≡ state_after (events_of script.now) 0 machine.old steps }
     ensures hits { hits.new ≡ map (entries_at (events_of script.now) 0 machine.old steps) gates.now }
     ensures others { result ≡ other_entries (events_of script.now) 0 machine.old steps gates.now }
-    ensures exact { (s : State) → gates.now ≡ gates_of s → KeepsGatesFor s (events_of script.now) machine.old steps → HasEvenPcFor (events_of script.now) machine.old steps → result ≡ 0 }
+    ensures exact { (s : State) → gates.now ≡ gates_of s → KeepsGatesFor s (events_of script.now) machine.old steps → HasEvenPc machine.old → result ≡ 0 }
 {
     know_regions(machine);
     let mut looks = Steps::<L>::start(blank);
