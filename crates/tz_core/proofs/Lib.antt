@@ -1,3 +1,4 @@
 mod Alone
 mod Named
+mod Order
 mod Private

@@ -81,8 +81,9 @@ impl Machine {
         ensures { self.new ≡ running_written self.old (running.General k) word }
     {
         let k = usize::from(k);
-        if k < self.core.registers.general.len() {
-            self.core.registers.general[k] = word;
+        let general: &mut [u32] = &mut self.core.registers.general;
+        if k < general.len() {
+            general[k] = word;
         }
     }
 

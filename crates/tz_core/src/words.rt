@@ -100,6 +100,7 @@ fn running_field(index: usize) -> RunningField
 }
 
 /// What a side with so many regions of its MPU has at an index.
+#[tactic(auto, using(crate::proofs::Order::banked_before, crate::proofs::Order::banked_region, crate::proofs::Order::banked_behind, crate::proofs::Order::mpu_rbar_at, crate::proofs::Order::mpu_rlar_at))]
 fn banked_field(index: usize, regions: u8) -> BankedField
     requires { index < 21 + 2 * regions }
     ensures { slice_get (banked_fields regions) index ≡ Some result }
@@ -121,6 +122,7 @@ fn banked_field(index: usize, regions: u8) -> BankedField
 }
 
 /// What both sides share at an index, with so many regions of the SAU.
+#[tactic(auto, using(crate::proofs::Order::shared_before, crate::proofs::Order::shared_region, crate::proofs::Order::shared_behind, crate::proofs::Order::sau_rbar_at, crate::proofs::Order::sau_rlar_at))]
 fn shared_field(index: usize, regions: u8) -> SharedField
     requires { index < 9 + 2 * regions }
     ensures { slice_get (shared_fields regions) index ≡ Some result }
@@ -159,6 +161,7 @@ pub(crate) fn field_count(board: &Board) -> usize
 }
 
 /// The field of an index.
+#[tactic(auto, using(crate::proofs::Order::running_here, crate::proofs::Order::secure_here, crate::proofs::Order::nonsecure_here, crate::proofs::Order::shared_here))]
 pub(crate) fn field_at(board: &Board, index: usize) -> Field
     requires { index < field_count board.now }
     ensures { slice_get (fields board.now) index ≡ Some result }
@@ -187,6 +190,7 @@ pub(crate) fn slot_count(board: &Board) -> usize
 }
 
 /// The place of a slot by its index among those that there are.
+#[tactic(auto, using(crate::proofs::Order::system_here, crate::proofs::Order::interrupt_here))]
 pub(crate) fn slot_place(board: &Board, index: usize) -> usize
     requires { index < slot_count board.now }
     ensures is { slice_get (slot_places board.now.interrupts) index ≡ Some result }
