@@ -2,3 +2,4 @@ mod Alone
 mod Named
 mod Order
 mod Private
+mod Words

@@ -92,38 +92,46 @@ sau_rlar_at k (suc n) (suc i) (suc (suc j)) r e l f = sau_rlar_at (k + 1) n i j 
 -- ---- what a side has, and what both share
 
 pub banked_before : (n i : ℕ) (f : BankedField) → slice_get banked_first i ≡ Some f → slice_get (banked_fields n) i ≡ Some f
+unfolding banked_fields
 banked_before n i f e = at_left banked_first (mpu_region_fields 0 n ++ banked_last) i f e
 
 pub banked_region : (n i j : ℕ) (f : BankedField) → i ≡ 18 + j → slice_get (mpu_region_fields 0 n) j ≡ Some f → slice_get (banked_fields n) i ≡ Some f
+unfolding banked_fields
 banked_region n i j f e g =
     at_right banked_first (mpu_region_fields 0 n ++ banked_last) i j e ∙ at_left (mpu_region_fields 0 n) banked_last j f g
 
 pub banked_behind : (n i j : ℕ) (f : BankedField) → i ≡ 18 + 2 * n + j → slice_get banked_last j ≡ Some f → slice_get (banked_fields n) i ≡ Some f
+unfolding banked_fields
 banked_behind n i j f e g =
     let size = length_mpu 0 n in
     at_right banked_first (mpu_region_fields 0 n ++ banked_last) i (2 * n + j) (omega arith)
     ∙ at_right (mpu_region_fields 0 n) banked_last (2 * n + j) j (omega (arith, size)) ∙ g
 
 pub shared_before : (n i : ℕ) (f : SharedField) → slice_get shared_first i ≡ Some f → slice_get (shared_fields n) i ≡ Some f
+unfolding shared_fields
 shared_before n i f e = at_left shared_first (sau_region_fields 0 n ++ shared_last) i f e
 
 pub shared_region : (n i j : ℕ) (f : SharedField) → i ≡ 2 + j → slice_get (sau_region_fields 0 n) j ≡ Some f → slice_get (shared_fields n) i ≡ Some f
+unfolding shared_fields
 shared_region n i j f e g =
     at_right shared_first (sau_region_fields 0 n ++ shared_last) i j e ∙ at_left (sau_region_fields 0 n) shared_last j f g
 
 pub shared_behind : (n i j : ℕ) (f : SharedField) → i ≡ 2 + 2 * n + j → slice_get shared_last j ≡ Some f → slice_get (shared_fields n) i ≡ Some f
+unfolding shared_fields
 shared_behind n i j f e g =
     let size = length_sau 0 n in
     at_right shared_first (sau_region_fields 0 n ++ shared_last) i (2 * n + j) (omega arith)
     ∙ at_right (sau_region_fields 0 n) shared_last (2 * n + j) j (omega (arith, size)) ∙ g
 
 pub length_banked : (n : ℕ) → length (banked_fields n) ≡ 21 + 2 * n
+unfolding banked_fields
 length_banked n =
     let size = length_mpu 0 n in
     let both : length (mpu_region_fields 0 n ++ banked_last) ≡ 2 * n + 3 = length-append (mpu_region_fields 0 n) banked_last ∙ omega (arith, size) in
     omega (arith, both)
 
 pub length_shared : (n : ℕ) → length (shared_fields n) ≡ 9 + 2 * n
+unfolding shared_fields
 length_shared n =
     let size = length_sau 0 n in
     let both : length (sau_region_fields 0 n ++ shared_last) ≡ 2 * n + 7 = length-append (sau_region_fields 0 n) shared_last ∙ omega (arith, size) in
@@ -138,15 +146,15 @@ behind_running : BoardValue → List Field
 behind_running b = map (Banked Secure) (banked_fields b.mpu_secure) ++ behind_secure b
 
 size_banked : (side : Side) (n : ℕ) → length (map (Banked side) (banked_fields n)) ≡ 21 + 2 * n
-size_banked side n = length-map (Banked side) (banked_fields n) ∙ length_banked n
+size_banked side n = length-map (banked_fields n) (Banked side) ∙ length_banked n
 
 pub running_here : (b : BoardValue) (i : ℕ) (f : RunningField) → slice_get running_fields i ≡ Some f → slice_get (fields b) i ≡ Some (Running f)
-unfolding fields
-running_here b i f e = at_left (map Running running_fields) _ i (Running f) (at_mapped Running running_fields i f e)
+unfolding fields behind_running behind_secure
+running_here b i f e = at_left (map Running running_fields) (behind_running b) i (Running f) (at_mapped Running running_fields i f e)
 
 past_running : (b : BoardValue) (i j : ℕ) → i ≡ 22 + j → slice_get (fields b) i ≡ slice_get (behind_running b) j
 unfolding fields behind_running behind_secure
-past_running b i j e = at_right (map Running running_fields) _ i j e
+past_running b i j e = at_right (map Running running_fields) (behind_running b) i j e
 
 past_secure : (b : BoardValue) (i j : ℕ) → i ≡ 43 + 2 * b.mpu_secure + j → slice_get (fields b) i ≡ slice_get (behind_secure b) j
 unfolding behind_running
@@ -181,7 +189,7 @@ unfolding fields
 length_fields b =
     let s = size_banked Secure b.mpu_secure in
     let ns = size_banked NonSecure b.mpu_nonsecure in
-    let both : length (map Shared (shared_fields b.sau_regions)) ≡ 9 + 2 * b.sau_regions = length-map Shared (shared_fields b.sau_regions) ∙ length_shared b.sau_regions in
+    let both : length (map Shared (shared_fields b.sau_regions)) ≡ 9 + 2 * b.sau_regions = length-map (shared_fields b.sau_regions) Shared ∙ length_shared b.sau_regions in
     let behind = length-append (map (Banked NonSecure) (banked_fields b.mpu_nonsecure)) (map Shared (shared_fields b.sau_regions)) in
     let more = length-append (map (Banked Secure) (banked_fields b.mpu_secure)) (map (Banked NonSecure) (banked_fields b.mpu_nonsecure) ++ map Shared (shared_fields b.sau_regions)) in
     omega (arith, s, ns, both, behind, more)

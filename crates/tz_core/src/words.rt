@@ -400,6 +400,7 @@ impl Machine {
     }
 
     /// A word of memory by its index among those of all regions.
+    #[tactic(auto, using(crate::proofs::Words::memory_here, crate::proofs::Words::memory_past))]
     fn memory_word(&self, index: u32) -> Option<u32>
         ensures { result ≡ slice_get (memory_words self.now.bus.memory self.now.bus.board.regions) index }
     {
@@ -416,6 +417,7 @@ impl Machine {
 
     /// The word of an index, of those that tell all of the machine: fields, slots, memory. None exactly past
     /// their count.
+    #[tactic(auto, using(crate::proofs::Words::field_told, crate::proofs::Words::slot_told, crate::proofs::Words::memory_told))]
     pub fn word(&self, index: u32) -> Option<u32>
         ensures { result ≡ slice_get (state_words self.now) index }
     {
