@@ -27,6 +27,7 @@ pub enum WordsError {
 }
 
 /// The word of an index, with its low byte first.
+#[tactic(auto, using(crate::proofs::Reading::word_read))]
 fn word_at(bytes: &[u8], index: usize) -> u32
     requires { 4 * index + 4 ≤ length bytes.now }
     ensures { slice_get (words_of bytes.now) index ≡ Some result }

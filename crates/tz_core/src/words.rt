@@ -2,7 +2,7 @@
 
 ghost use Rattle.std.specs.Prelude.{◌≡◌, ◌<◌, ◌+◌, ◌*◌, ◌/◌, ◌^◌, ℕ, true, Some, slice_get};
 ghost use Rattle.tz_frames.specs.Registers.{psr_word};
-ghost use Rattle.tz_model.specs.Board.{in_region};
+ghost use Rattle.tz_model.specs.Board.{in_region, are_regions};
 ghost use Rattle.tz_state.specs.Access.{is_mapped};
 ghost use Rattle.tz_state.specs.Memory.{word_at};
 ghost use Rattle.tz_state.specs.State.{mpu_of};
@@ -152,7 +152,8 @@ fn banked_count(regions: u8) -> usize
 
 /// How many fields have words.
 pub(crate) fn field_count(board: &Board) -> usize
-    ensures { result ≡ field_count board.now }
+    ensures is { result ≡ field_count board.now }
+    ensures few { result < 256 }
 {
     73 + 2
         * (usize::from(board.mpu_secure)
@@ -399,13 +400,14 @@ impl Machine {
         }
     }
 
-    /// A word of memory by its index among those of all regions.
-    #[tactic(auto, using(crate::proofs::Words::memory_here, crate::proofs::Words::memory_past))]
-    fn memory_word(&self, index: u32) -> Option<u32>
-        ensures { result ≡ slice_get (memory_words self.now.bus.memory self.now.bus.board.regions) index }
+    /// A word of memory by its index among those of the board's regions.
+    fn memory_word(&self, regions: &[Region], index: u32) -> Option<u32>
+        requires board { regions.now ≡ self.now.bus.board.regions }
+        requires blocks { are_regions regions.now ≡ true }
+        ensures { result ≡ slice_get (memory_words self.now.bus.memory regions.now) index }
     {
         let mut left = index;
-        for region in &self.bus.board().regions {
+        for region in regions {
             let count = region.size / 4;
             if left < count {
                 return Some(self.region_word(region, left));
@@ -417,7 +419,7 @@ impl Machine {
 
     /// The word of an index, of those that tell all of the machine: fields, slots, memory. None exactly past
     /// their count.
-    #[tactic(auto, using(crate::proofs::Words::field_told, crate::proofs::Words::slot_told, crate::proofs::Words::memory_told))]
+    #[tactic(auto, using(crate::proofs::Indexed::field_told, crate::proofs::Indexed::slot_told, crate::proofs::Indexed::memory_told))]
     pub fn word(&self, index: u32) -> Option<u32>
         ensures { result ≡ slice_get (state_words self.now) index }
     {
@@ -430,6 +432,6 @@ impl Machine {
         if index - fields < slots {
             return Some(self.slot_word(slot_place(board, (index - fields) as usize)));
         }
-        self.memory_word(index - fields - slots)
+        self.memory_word(&board.regions, index - fields - slots)
     }
 }

@@ -1,7 +1,8 @@
 -- The word of an index among all words: of a field, of a slot, of memory.
-use Rattle.std.proofs.Common.{◌≡◌, ℕ, zero, suc, ◌+◌, ◌-◌, ◌*◌, ◌/◌, ◌%◌, ◌^◌, ◌<◌, ◌≤◌, Bool, true, false, List, [], ◌∷◌, ◌++◌, length, drop, take, Option, Some, None, slice_get, refl, sym, ap, ◌∙◌, subst, arith}
+use Rattle.std.proofs.Common.{◌≡◌, ℕ, zero, suc, ◌+◌, ◌-◌, ◌*◌, ◌/◌, ◌%◌, ◌^◌, ◌<◌, ◌≤◌, Bool, true, false, List, [], ◌∷◌, ◌++◌, length, get_or, drop, take, Option, Some, None, slice_get, refl, sym, ap, ◌∙◌, subst, arith}
 use Rattle.std.specs.Prelude.{map, sum_by}
 use Rattle.std.proofs.lemmas.List.{length-append, length-map}
+use Rattle.std.proofs.lemmas.List.Sums.{sum_by-cons, sum_by-take-le, sum_by_more_le}
 use Rattle.std.proofs.lemmas.Bool.Decides.{nat_tests}
 use Rattle.tz_model.specs.declared.board.Region.{Region}
 use Rattle.tz_model.specs.Board.{BoardValue, in_region, is_region, are_regions, bytes_of}
@@ -73,6 +74,18 @@ memory_past m (q ∷ rs) zero k j r e l =
     at_right (words_from m q.base (q.size / 4)) (memory_words m rs) k j (omega (arith, size))
 memory_past m (q ∷ rs) (suc i) k j r e l = memory_past m rs i k j r e l
 
+pub memory_next_region : (m : Memory) (rs : List Region) (i n k j : ℕ) (r : Region) → slice_get rs i ≡ Some r → n ≡ i + 1 → k ≡ r.size / 4 + j → slice_get (memory_words m (drop i rs)) k ≡ slice_get (memory_words m (drop n rs)) j
+memory_next_region m rs i n k j r e at l =
+    let next : suc i ≡ n = omega arith in
+    memory_past m rs i k j r e l ∙ ap (λ x. slice_get (memory_words m (drop x rs)) j) next
+
+pub memory_end : (m : Memory) (rs : List Region) (i k : ℕ) → length rs ≤ i → slice_get (memory_words m (drop i rs)) k ≡ None
+unfolding memory_words
+memory_end m [] zero k l = refl
+memory_end m [] (suc i) k l = refl
+memory_end m (r ∷ rs) zero k l = absurd (omega arith)
+memory_end m (r ∷ rs) (suc i) k l = memory_end m rs i k (omega arith)
+
 -- ---- regions
 
 pub mapped_in : (rs : List Region) (i a : ℕ) (r : Region) → slice_get rs i ≡ Some r → in_region r a ≡ true → is_mapped rs a ≡ true
@@ -103,4 +116,21 @@ block_in (q ∷ rs) (suc i) r is e = block_in rs i r (grind (arith, nat_tests)) 
 
 pub memory_small : (rs : List Region) → memory_count rs ≤ bytes_of rs
 memory_small [] = omega arith
-memory_small (r ∷ rs) = let h = memory_small rs in omega (arith, h)
+memory_small (r ∷ rs) =
+    let h = memory_small rs in
+    let words = sum_by-cons (λ (x : Region). x.size / 4) r rs in
+    let bytes = sum_by-cons (λ (x : Region). x.size) r rs in
+    omega (arith, h, words, bytes)
+
+-- so far, and with the next region
+pub memory_next : (rs : List Region) (i : ℕ) (d : Region) → i < length rs → bytes_of rs ≤ 4194304 → memory_count (take i rs) + (get_or rs i d).size / 4 ≤ 4194304
+memory_next rs i d l small =
+    let more = sum_by_more_le (λ (x : Region). x.size / 4) rs i d l in
+    let all = memory_small rs in
+    omega (arith, more, all, small)
+
+pub memory_whole : (rs : List Region) (i : ℕ) → bytes_of rs ≤ 4194304 → memory_count (take i rs) ≤ 4194304
+memory_whole rs i small =
+    let part = sum_by-take-le (λ (x : Region). x.size / 4) rs i in
+    let all = memory_small rs in
+    omega (arith, part, all, small)
