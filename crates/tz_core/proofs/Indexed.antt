@@ -96,9 +96,9 @@ mapped_in (q ∷ rs) zero a r e is =
     let holds : in_region q a ≡ true = ap (λ (x : Region). in_region x a) same ∙ is in
     rw holds refl
 mapped_in (q ∷ rs) (suc i) a r e is = elim (in_region q a) as (λ b. in_region q a ≡ b → is_mapped (q ∷ rs) a ≡ true) [
-      | true ↦ λ h. rw h refl
-      | false ↦ λ h. rw h (mapped_in rs i a r e is)
-    ] refl
+  | true ↦ λ h. rw h refl
+  | false ↦ λ h. rw h (mapped_in rs i a r e is)
+] refl
 
 -- what a region of a board meets
 pub record IsBlock (r : Region) : Type 0 where
