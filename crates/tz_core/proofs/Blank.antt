@@ -30,7 +30,7 @@ pub is_blank : (b : BoardValue) (bs : List ℕ) (f s : ℕ) (m : State) → f �
     m ≡ blank b (with_regions (zero_memory b.regions) b.regions (drop (field_count b + slot_count b) (words_of bs)))
 is_blank b bs f s m ef es l is =
     let last : words_of (take (length bs - 4 * (f + s)) (drop (4 * (f + s)) bs)) ≡ drop (f + s) (words_of bs) =
-        ap words_of (rest_of bs (4 * (f + s))) ∙ drop_words (f + s) (4 * (f + s)) bs refl (omega (arith, ef, es, l))
+    ap words_of (rest_of bs (4 * (f + s))) ∙ drop_words (f + s) (4 * (f + s)) bs refl (omega (arith, ef, es, l))
     in
     let count : f + s ≡ field_count b + slot_count b = omega (arith, ef, es) in
     is ∙ ap (λ ws. blank b (with_regions (zero_memory b.regions) b.regions ws)) (last ∙ ap (λ n. drop n (words_of bs)) count)

@@ -9,7 +9,7 @@ use Rattle.tz_model.specs.Words.{wrap}
 use Rattle.tz_state.specs.Memory.{Memory, with_byte, with_word, with_bytes}
 use Rattle.tz_state.specs.State.{State}
 use Rattle.tz_core.specs.declared.fields.Field.{Field}
-use Rattle.tz_core.specs.ReadWords.{written, slot_written, fits, slot_fits, read_fields, read_slots, with_words, with_regions, words_of}
+use Rattle.tz_core.specs.ReadWords.{written, slot_written, fits, slot_fits, read_fields, read_slots, with_words, with_regions, words_of, AreWords}
 use Rattle.tz_core.specs.StateWords.{memory_count}
 use Rattle.tz_core.proofs.Indexed.{IsBlock}
 
@@ -183,3 +183,20 @@ region_read m rs i n at end r bs e is block f l h =
 pub regions_end : (m : Memory) (rs : List Region) (i : ℕ) (ws : List ℕ) → length rs ≤ i → with_regions m (drop i rs) ws ≡ m
 unfolding with_regions
 regions_end m rs i ws l = rw (dropped_all rs i l) refl
+
+-- ---- words of bytes are numbers of 32 bits
+
+word_small : (p q r t : ℕ) → p < 256 → q < 256 → r < 256 → t < 256 → from_le_bytes w32 (p ∷ q ∷ r ∷ t ∷ []) < 2 ^ 32
+word_small p q r t hp hq hr ht = omega arith
+
+pub words_small : (bs : List ℕ) → ((k x : ℕ) → slice_get bs k ≡ Some x → x < 256) → AreWords (words_of bs)
+unfolding words_of
+words_small [] h k w e = absurd cc
+words_small (p ∷ []) h k w e = absurd cc
+words_small (p ∷ q ∷ []) h k w e = absurd cc
+words_small (p ∷ q ∷ r ∷ []) h k w e = absurd cc
+words_small (p ∷ q ∷ r ∷ t ∷ bs) h zero w e =
+    let small = word_small p q r t (h 0 p refl) (h 1 q refl) (h 2 r refl) (h 3 t refl) in
+    let same : from_le_bytes w32 (p ∷ q ∷ r ∷ t ∷ []) ≡ w = cc in
+    subst (λ x. x < 2 ^ 32) same small
+words_small (p ∷ q ∷ r ∷ t ∷ bs) h (suc k) w e = words_small bs (λ j x g. h (suc (suc (suc (suc j)))) x g) k w e

@@ -42,7 +42,7 @@ loop-region-preserved c =
     let block = block_in rs i r c.requires.blocks at in
     let fits = region_fits rs i (i + 1) from (length bs) r refl at block c.loop-region.invariant.left in
     let put : c.put_region.new.bus ≡ with_memory c.loop-region.bus (with_bytes c.loop-region.bus.memory r.base (take r.size (drop from bs))) =
-        c.in_ok-put_region.ensures ∙ ap (λ (ys : List ℕ). with_memory c.loop-region.bus (with_bytes c.loop-region.bus.memory r.base (take r.size ys))) (rest_of bs from)
+    c.in_ok-put_region.ensures ∙ ap (λ (ys : List ℕ). with_memory c.loop-region.bus (with_bytes c.loop-region.bus.memory r.base (take r.size ys))) (rest_of bs from)
     in
     let read = region_read c.loop-region.bus.memory rs i (i + 1) from (from + r.size) r bs refl at block refl (omega (arith, fits)) (λ j. omega (arith, c.type_inv.bytes j)) in
     record {
