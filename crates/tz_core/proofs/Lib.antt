@@ -1,3 +1,7 @@
 mod Alone
+mod Blank
+mod Indexed
 mod Named
+mod Order
 mod Private
+mod Reading
