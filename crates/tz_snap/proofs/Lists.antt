@@ -1,0 +1,82 @@
+-- Elements of lists by their index.
+use Rattle.std.proofs.Common.{◌≡◌, ◌≢◌, ℕ, zero, suc, ◌+◌, ◌-◌, ◌<◌, ◌≤◌, ◌==◌, Bool, true, false, ◌&&◌, List, [], ◌∷◌, ◌++◌, length, drop, Option, Some, None, refl, sym, ap, ◌∙◌, subst, arith}
+use Rattle.std.specs.Prelude.{slice_get}
+use Rattle.std.proofs.lemmas.Bool.{eqb-true, eq-eqb}
+use Rattle.tz_snap.specs.StateFile.{begins_with}
+
+pub get_left : (xs ys : List ℕ) (i : ℕ) → i < length xs → slice_get (xs ++ ys) i ≡ slice_get xs i
+get_left [] ys i l = absurd (omega arith)
+get_left (x ∷ xs) ys zero l = refl
+get_left (x ∷ xs) ys (suc i) l = get_left xs ys i (omega arith)
+
+pub get_right : (xs ys : List ℕ) (i : ℕ) → length xs ≤ i → slice_get (xs ++ ys) i ≡ slice_get ys (i - length xs)
+get_right [] ys i l = ap (slice_get ys) (omega arith)
+get_right (x ∷ xs) ys zero l = absurd (omega arith)
+get_right (x ∷ xs) ys (suc i) l = get_right xs ys i (omega arith) ∙ ap (slice_get ys) (omega arith)
+
+-- what is left from an index on
+pub drop_some : (xs : List ℕ) (i w : ℕ) → slice_get xs i ≡ Some w → drop i xs ≡ w ∷ drop (i + 1) xs
+drop_some [] i w e = cc
+drop_some (x ∷ xs) zero w e = cc
+drop_some (x ∷ xs) (suc i) w e = drop_some xs i w e ∙ ap (λ (k : ℕ). w ∷ drop k (x ∷ xs)) (omega arith)
+
+pub drop_none : (xs : List ℕ) (i : ℕ) → slice_get xs i ≡ None → drop i xs ≡ []
+drop_none [] zero e = refl
+drop_none [] (suc i) e = refl
+drop_none (x ∷ xs) zero e = cc
+drop_none (x ∷ xs) (suc i) e = drop_none xs i e
+
+pub get_drop : (n : ℕ) (xs : List ℕ) (i : ℕ) → slice_get (drop n xs) i ≡ slice_get xs (n + i)
+get_drop zero xs i = ap (slice_get xs) (omega arith)
+get_drop (suc n) [] i = refl
+get_drop (suc n) (x ∷ xs) i = get_drop n xs i ∙ ap (slice_get (x ∷ xs)) (omega arith)
+
+-- ---- a list at the front of another
+
+pub same_front : (w : ℕ) (ws xs : List ℕ) → begins_with (w ∷ ws) (w ∷ xs) ≡ begins_with ws xs
+same_front w ws xs = ap (λ (b : Bool). b && begins_with ws xs) (eq-eqb w w refl)
+
+-- one word of both on, and the words are the same
+pub front_more : (ws xs : List ℕ) (i w : ℕ) → slice_get ws i ≡ Some w → slice_get xs i ≡ Some w → begins_with (drop i ws) (drop i xs) ≡ begins_with (drop (i + 1) ws) (drop (i + 1) xs)
+front_more ws xs i w e f =
+    ap (λ (l : List ℕ). begins_with l (drop i xs)) (drop_some ws i w e)
+    ∙ ap (begins_with (w ∷ drop (i + 1) ws)) (drop_some xs i w f)
+    ∙ same_front w (drop (i + 1) ws) (drop (i + 1) xs)
+
+by_test : (b : Bool) → (b ≡ true → ⊥) → b ≡ false
+by_test true h = absurd (h refl)
+by_test false h = refl
+
+differ : (w x : ℕ) → Some x ≢ Some w → (w == x) ≡ false
+differ w x n = by_test (w == x) (λ e. n (ap Some (sym (eqb-true w x e))))
+
+-- a word that isn't there, or is another
+other_word : (w : ℕ) (ws xs : List ℕ) → slice_get xs 0 ≢ Some w → begins_with (w ∷ ws) xs ≡ false
+other_word w ws [] n = refl
+other_word w ws (x ∷ xs) n = ap (λ (b : Bool). b && begins_with ws xs) (differ w x n)
+
+pub front_other : (ws xs : List ℕ) (i w : ℕ) → slice_get ws i ≡ Some w → slice_get xs i ≢ Some w → begins_with (drop i ws) (drop i xs) ≡ false
+front_other ws xs i w e n =
+    ap (λ (l : List ℕ). begins_with l (drop i xs)) (drop_some ws i w e)
+    ∙ other_word w (drop (i + 1) ws) (drop i xs) (λ f. n (ap (slice_get xs) (omega arith) ∙ sym (get_drop i xs 0) ∙ f))
+
+pub front_end : (ws xs : List ℕ) (i : ℕ) → slice_get ws i ≡ None → begins_with (drop i ws) (drop i xs) ≡ true
+front_end ws xs i e = ap (λ (l : List ℕ). begins_with l (drop i xs)) (drop_none ws i e)
+
+pub front_of_both : (ws xs : List ℕ) → begins_with ws (ws ++ xs) ≡ true
+front_of_both [] xs = refl
+front_of_both (w ∷ ws) xs = same_front w ws (ws ++ xs) ∙ front_of_both ws xs
+
+false_is_true : false ≡ true → ⊥
+false_is_true e = cc
+
+and_parts : (a b : Bool) → (a && b) ≡ true → (a ≡ true) × (b ≡ true)
+and_parts true b e = (refl, e)
+and_parts false b e = absurd (false_is_true e)
+
+pub front_split : (ws xs : List ℕ) → begins_with ws xs ≡ true → xs ≡ ws ++ drop (length ws) xs
+front_split [] xs e = refl
+front_split (w ∷ ws) [] e = absurd (false_is_true e)
+front_split (w ∷ ws) (x ∷ xs) e =
+    let parts = and_parts (w == x) (begins_with ws xs) e in
+    ap (λ (l : List ℕ). x ∷ l) (front_split ws xs parts.1) ∙ ap (λ (n : ℕ). n ∷ (ws ++ drop (length ws) xs)) (sym (eqb-true w x parts.0))
