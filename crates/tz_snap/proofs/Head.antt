@@ -1,9 +1,9 @@
 -- The words before those of the state, by their index.
-use Rattle.std.proofs.Common.{◌≡◌, ℕ, zero, suc, ◌+◌, ◌-◌, ◌*◌, ◌/◌, ◌%◌, ◌^◌, ◌<◌, ◌≤◌, List, [], ◌∷◌, ◌++◌, length, Option, Some, None, refl, sym, ap, ◌∙◌, subst, arith, get_or}
+use Rattle.std.proofs.Common.{◌≡◌, ℕ, zero, suc, ◌+◌, ◌-◌, ◌*◌, ◌/◌, ◌%◌, ◌^◌, ◌<◌, ◌≤◌, ◌==◌, if◌then◌else◌, List, [], ◌∷◌, ◌++◌, length, Option, Some, None, refl, sym, ap, ◌∙◌, subst, arith, get_or}
 use Rattle.std.specs.Prelude.{slice_get, option_map, IsTrue}
 use Rattle.tz_model.specs.declared.board.Region.{Region}
 use Rattle.tz_model.specs.Board.{BoardValue}
-use Rattle.tz_snap.specs.StateFile.{kind_number, side_number, region_words, board_words, head_words, head_count}
+use Rattle.tz_snap.specs.StateFile.{kind_number, side_number, region_words, board_words, head_words, head_count, step_in, magic}
 
 pub length_regions : (rs : List Region) → length (region_words rs) ≡ 4 * length rs
 length_regions [] = refl
@@ -46,3 +46,22 @@ pub board_at : (b : BoardValue) (n i : ℕ) → 2 ≤ i → slice_get (head_word
 board_at b n i l =
     let e : i ≡ suc (suc (i - 2)) = omega arith in
     ap (slice_get (head_words b n)) e
+
+-- ---- the first two words
+
+pub no_first : (ws : List ℕ) → slice_get ws 0 ≡ None → step_in ws ≡ None
+no_first [] e = refl
+no_first (w ∷ ws) e = cc
+
+pub no_second : (ws : List ℕ) → slice_get ws 1 ≡ None → step_in ws ≡ None
+no_second [] e = refl
+no_second (w ∷ []) e = refl
+no_second (w ∷ n ∷ ws) e = cc
+
+pub both_first : (ws : List ℕ) (w n : ℕ) → slice_get ws 0 ≡ Some w → slice_get ws 1 ≡ Some n → step_in ws ≡ (if w == magic then Some n else None)
+both_first [] w n e f = cc
+both_first (x ∷ []) w n e f = cc
+both_first (x ∷ m ∷ ws) w n e f =
+    let one : x ≡ w = cc in
+    let two : m ≡ n = cc in
+    ap (λ (y : ℕ). if y == magic then Some m else None) one ∙ ap (λ (y : ℕ). if w == magic then Some y else None) two

@@ -2,3 +2,5 @@ pub mod Words
 pub mod Lists
 pub mod Passed
 pub mod Head
+pub mod Fits
+pub mod Files

@@ -1,7 +1,7 @@
 -- Elements of lists by their index.
 use Rattle.std.proofs.Common.{◌≡◌, ◌≢◌, ℕ, zero, suc, ◌+◌, ◌-◌, ◌<◌, ◌≤◌, ◌==◌, Bool, true, false, ◌&&◌, List, [], ◌∷◌, ◌++◌, length, drop, Option, Some, None, refl, sym, ap, ◌∙◌, subst, arith}
 use Rattle.std.specs.Prelude.{slice_get}
-use Rattle.std.proofs.lemmas.Bool.{eqb-true, eq-eqb}
+use Rattle.std.proofs.lemmas.Bool.{and_parts, eqb-true, eq-eqb}
 use Rattle.tz_snap.specs.StateFile.{begins_with}
 
 pub get_left : (xs ys : List ℕ) (i : ℕ) → i < length xs → slice_get (xs ++ ys) i ≡ slice_get xs i
@@ -67,16 +67,9 @@ pub front_of_both : (ws xs : List ℕ) → begins_with ws (ws ++ xs) ≡ true
 front_of_both [] xs = refl
 front_of_both (w ∷ ws) xs = same_front w ws (ws ++ xs) ∙ front_of_both ws xs
 
-false_is_true : false ≡ true → ⊥
-false_is_true e = cc
-
-and_parts : (a b : Bool) → (a && b) ≡ true → (a ≡ true) × (b ≡ true)
-and_parts true b e = (refl, e)
-and_parts false b e = absurd (false_is_true e)
-
 pub front_split : (ws xs : List ℕ) → begins_with ws xs ≡ true → xs ≡ ws ++ drop (length ws) xs
 front_split [] xs e = refl
-front_split (w ∷ ws) [] e = absurd (false_is_true e)
+front_split (w ∷ ws) [] e = cc
 front_split (w ∷ ws) (x ∷ xs) e =
     let parts = and_parts (w == x) (begins_with ws xs) e in
     ap (λ (l : List ℕ). x ∷ l) (front_split ws xs parts.1) ∙ ap (λ (n : ℕ). n ∷ (ws ++ drop (length ws) xs)) (sym (eqb-true w x parts.0))

@@ -10,8 +10,9 @@ use Rattle.tz_model.specs.declared.board.RegionKind.TheVariants.{Rom, Ram}
 use Rattle.tz_model.specs.declared.board.RegionSide.{RegionSide}
 use Rattle.tz_model.specs.declared.board.RegionSide.TheVariants.{Secure, Nsc, NonSecure}
 use Rattle.tz_state.specs.State.{State}
-use Rattle.tz_core.specs.StateWords.{state_words, word_count, read_words}
-use Rattle.tz_snap.specs.FileWords.{bytes_of_words, words_in}
+use Rattle.tz_core.specs.StateWords.{state_words, word_count}
+use Rattle.tz_core.specs.ReadWords.{read_words, words_of}
+use Rattle.tz_snap.specs.FileWords.{bytes_of_words}
 
 -- the word that a state file begins with
 abbrev pub magic : ℕ
@@ -109,10 +110,10 @@ values_of b n words =
 abbrev pub saved_by : BoardValue → List ℕ → Option ℕ → Result SavedState Refusal
 saved_by b bytes None = Err Magic
 saved_by b bytes (Some n) =
-    if not (begins_with (board_words b) (drop 2 (words_in bytes))) then Err Board
+    if not (begins_with (board_words b) (drop 2 (words_of bytes))) then Err Board
     else if not (length bytes == file_length b) then Err Length
-    else values_of b n (words_in bytes)
+    else values_of b n (words_of bytes)
 
 -- what a file holds, or the first reason to refuse it
 unfoldable pub saved_of : BoardValue → List ℕ → Result SavedState Refusal
-saved_of b bytes = saved_by b bytes (step_in (words_in bytes))
+saved_of b bytes = saved_by b bytes (step_in (words_of bytes))

@@ -3,7 +3,7 @@
 ghost use Rattle.std.specs.Prelude.{◌≡◌, ◌≤◌, ◌<◌, ℕ, List, slice_index, Ok};
 ghost use Rattle.tz_model.specs.Board.{BoardValue, IsBoard};
 ghost use Rattle.tz_state.specs.State.{State};
-ghost use Rattle.tz_core.specs.StateWords.{IsState};
+ghost use Rattle.tz_core.specs.ReadWords.{IsState};
 ghost use Rattle.tz_snap.specs.StateFile.{SavedState, file_of, most_steps, saved_of};
 
 /// The file of a state of a board is accepted, and holds this state and the number of steps.

@@ -1,7 +1,7 @@
 //! A state file as it is read: its first word, its board, its length, and each word of the state.
 
 ghost use Rattle.std.specs.Prelude.{◌≡◌, length, drop, slice_get, Ok, IfOk, IfErr};
-ghost use Rattle.tz_snap.specs.FileWords.{words_in};
+ghost use Rattle.tz_core.specs.ReadWords.{words_of};
 ghost use Rattle.tz_snap.specs.StateFile.{board_words, begins_with, step_in, file_length, values_of, saved_of};
 ghost use Rattle.tz_snap.specs.Refusals.{IsStateRefusal};
 
@@ -20,7 +20,7 @@ pub struct Saved {
 
 /// The word at an index of a file.
 fn word_at(bytes: &[u8], index: u32) -> Option<u32>
-    ensures { result ≡ slice_get (words_in bytes.now) index }
+    ensures { result ≡ slice_get (words_of bytes.now) index }
 {
     let place = 4 * index as usize;
     if bytes.len() < place + 4 {
@@ -36,7 +36,7 @@ fn word_at(bytes: &[u8], index: u32) -> Option<u32>
 
 /// Whether the words of a file from the third on begin with those of a board.
 fn has_board(board: &Board, bytes: &[u8]) -> bool
-    ensures { result ≡ begins_with (board_words board.now) (drop 2 (words_in bytes.now)) }
+    ensures { result ≡ begins_with (board_words board.now) (drop 2 (words_of bytes.now)) }
 {
     let mut index = 0;
     while let Some(word) = board_word(board, index) {
@@ -50,7 +50,7 @@ fn has_board(board: &Board, bytes: &[u8]) -> bool
 
 /// The number of steps in a file that begins as a state file.
 fn step_of(bytes: &[u8]) -> Option<u32>
-    ensures { result ≡ step_in (words_in bytes.now) }
+    ensures { result ≡ step_in (words_of bytes.now) }
 {
     let first = word_at(bytes, 0)?;
     let step = word_at(bytes, 1)?;
@@ -60,8 +60,8 @@ fn step_of(bytes: &[u8]) -> Option<u32>
 /// Reads the state of a file whose board and length were tested, behind so many steps.
 fn read_state(alloc: Global, board: &Board, step: u32, bytes: &[u8]) -> Result<Saved, SnapError>
     requires { length bytes.now ≡ file_length board.now }
-    ensures ok { IfOk result (λ x. values_of board.now step (words_in bytes.now) ≡ Ok (record { state = x.machine; step = x.step })) }
-    ensures err { IfErr result (λ e. IsStateRefusal e (values_of board.now step (words_in bytes.now))) }
+    ensures ok { IfOk result (λ x. values_of board.now step (words_of bytes.now) ≡ Ok (record { state = x.machine; step = x.step })) }
+    ensures err { IfErr result (λ e. IsStateRefusal e (values_of board.now step (words_of bytes.now))) }
 {
     if MOST_STEPS < step {
         return Err(SnapError::Value(1));
