@@ -4,3 +4,5 @@ pub mod Passed
 pub mod Head
 pub mod Fits
 pub mod Files
+pub mod Bounds
+pub mod StateFits

@@ -8,7 +8,7 @@ ghost use Rattle.tz_snap.specs.Refusals.{IsStateRefusal};
 use crate::error::SnapError;
 use crate::head::{MAGIC, MOST_STEPS, board_word, head_count};
 use std::alloc::Global;
-use tz_core::{Machine, WordsError};
+use tz_core::{Machine, WordsError, word_count};
 use tz_model::Board;
 
 /// A machine as a file has it, and how many steps led to its state.
@@ -55,6 +55,13 @@ fn step_of(bytes: &[u8]) -> Option<u32>
     let first = word_at(bytes, 0)?;
     let step = word_at(bytes, 1)?;
     if first == MAGIC { Some(step) } else { None }
+}
+
+/// How many bytes the files of a board have.
+fn file_length(board: &Board) -> usize
+    ensures { result ≡ file_length board.now }
+{
+    4 * (head_count(board) as usize + word_count(board) as usize)
 }
 
 /// Reads the state of a file whose board and length were tested, behind so many steps.
