@@ -6,3 +6,5 @@ pub mod Fits
 pub mod Files
 pub mod Bounds
 pub mod StateFits
+pub mod Counts
+pub mod Laws

@@ -52,6 +52,15 @@ pub length_bytes : (ws : List ℕ) → length (bytes_of_words ws) ≡ 4 * length
 length_bytes [] = refl
 length_bytes (w ∷ ws) = let e = length_bytes ws in omega arith
 
+pub length_words : (bytes : List ℕ) (n : ℕ) → length bytes ≡ 4 * n → length (words_of bytes) ≡ n
+unfolding words_of
+length_words [] n e = omega arith
+length_words (a ∷ []) n e = absurd (omega arith)
+length_words (a ∷ b ∷ []) n e = absurd (omega arith)
+length_words (a ∷ b ∷ c ∷ []) n e = absurd (omega arith)
+length_words (a ∷ b ∷ c ∷ d ∷ bytes) zero e = absurd (omega arith)
+length_words (a ∷ b ∷ c ∷ d ∷ bytes) (suc n) e = let more = length_words bytes n (omega arith) in omega arith
+
 four_more : (n : ℕ) → 4 * suc n ≡ suc (suc (suc (suc (4 * n))))
 four_more n = omega arith
 
