@@ -35,8 +35,7 @@ text_more view events k n s s' r l e =
     let m : n - k ≡ suc (n - (k + 1)) = omega arith in
     rw m (ap (λ (x : Stepped). line view k x.report ++ text_from view events (k + 1) x.state (n - (k + 1))) e)
 
--- a step more of those up to step n
-pub state_more : (events : Events) (k n : ℕ) (s s' : State) (r : Report) → k < n → step s (events k) ≡ record { state = s'; report = r } → state_after events k s (n - k) ≡ state_after events (k + 1) s' (n - (k + 1))
+state_more : (events : Events) (k n : ℕ) (s s' : State) (r : Report) → k < n → step s (events k) ≡ record { state = s'; report = r } → state_after events k s (n - k) ≡ state_after events (k + 1) s' (n - (k + 1))
 state_more events k n s s' r l e =
     let m : n - k ≡ suc (n - (k + 1)) = omega arith in
     rw m (ap (λ (x : Stepped). state_after events (k + 1) x.state (n - (k + 1))) e)
@@ -72,12 +71,20 @@ so_far_failed view events w0 w w' r0 r r' s0 s s' first k n report error l e h p
 
 -- ---- steps without their lines
 
-pub no_steps_yet : (events : Events) (s : State) (n : ℕ) → state_after events 0 s (n - 0) ≡ state_after events 0 s n
-no_steps_yet events s n =
-    let e : n - 0 ≡ n = omega arith in
-    ap (state_after events 0 s) e
+-- after k of n steps from s0 the machine is at s: what is left of the steps is what s gives
+pub record Reached (events : Events) (s0 s : State) (k n : ℕ) : Type 0 where
+  pub state : state_after events k s (n - k) ≡ state_after events 0 s0 n
 
-pub no_steps_left : (events : Events) (s0 s : State) (k n : ℕ) → n ≤ k → state_after events k s (n - k) ≡ state_after events 0 s0 n → s ≡ state_after events 0 s0 n
-no_steps_left events s0 s k n l h =
+pub reached_start : (events : Events) (s : State) (n : ℕ) → Reached events s s 0 n
+reached_start events s n =
+    let e : n - 0 ≡ n = omega arith in
+    record { state = ap (state_after events 0 s) e }
+
+pub reached_step : (events : Events) (s0 s s' : State) (k n : ℕ) (report : Report) →
+    k < n → step s (events k) ≡ record { state = s'; report = report } → Reached events s0 s k n → Reached events s0 s' (k + 1) n
+reached_step events s0 s s' k n report l e h = record { state = sym (state_more events k n s s' report l e) ∙ h.state }
+
+pub reached_end : (events : Events) (s0 s : State) (k n : ℕ) → n ≤ k → Reached events s0 s k n → s ≡ state_after events 0 s0 n
+reached_end events s0 s k n l h =
     let m : n - k ≡ 0 = omega arith in
-    ap (state_after events k s) (sym m) ∙ h
+    ap (state_after events k s) (sym m) ∙ h.state

@@ -1,8 +1,6 @@
-use Rattle.std.proofs.Common.{◌≡◌, ◌-◌}
-use Rattle.tz_sem.specs.Run.{state_after}
 use Rattle.tz_run.specs.Events.{events_of}
+use Rattle.tz_run.proofs.Lines.{Reached}
 use Rattle.tz_run.proofs.make_counted.Given as goal
 
--- what is left of the steps gives what all of them give
 abbrev pub invariant-loop-step : goal.invariant-loop-step
-invariant-loop-step g l = state_after (events_of l.script) l.step l.machine (l.steps - l.step) ≡ state_after (events_of l.script) 0 l.fn.machine l.steps
+invariant-loop-step g l = Reached (events_of l.script) l.fn.machine l.machine l.step l.steps
