@@ -1,9 +1,10 @@
 -- How many words a state has.
-use Rattle.std.proofs.Common.{◌≡◌, ℕ, zero, suc, ◌+◌, ◌*◌, ◌/◌, ◌<◌, ◌≤◌, ◌&&◌, nat_le, ◌^◌, List, [], ◌∷◌, ◌++◌, length, map, Some, refl, sym, ap, ◌∙◌, arith, length-append, length-map}
+use Rattle.std.proofs.Common.{◌≡◌, ℕ, zero, suc, ◌+◌, ◌*◌, ◌/◌, ◌<◌, ◌≤◌, ◌&&◌, nat_le, ◌^◌, List, [], ◌∷◌, ◌++◌, length, map, Some, refl, sym, ap, ◌∙◌, arith, length-append}
 use Rattle.std.specs.Prelude.{slice_get, sum_by}
 use Rattle.std.specs.List.{range_with_len}
 use Rattle.std.proofs.lemmas.Bool.{and_parts, leb-true}
 use Rattle.std.proofs.lemmas.Option.{slice_get_within}
+use Rattle.std.proofs.lemmas.List.{length-map}
 use Rattle.std.proofs.lemmas.List.FromFn.{length-range_with_len}
 use Rattle.tz_table.specs.declared.units.Side.TheVariants.{Secure, NonSecure}
 use Rattle.tz_model.specs.declared.board.Region.{Region}
@@ -15,7 +16,7 @@ use Rattle.tz_core.specs.declared.fields.Field.TheVariants.{Running, Banked, Sha
 use Rattle.tz_core.specs.Fields.{fields, slot_places, system_places, running_fields, banked_fields, banked_first, banked_last, shared_fields, shared_first, shared_last, mpu_region_fields, sau_region_fields}
 use Rattle.tz_core.specs.StateWords.{word_of, slot_word, words_from, memory_words, state_words, field_count, slot_count, memory_count, word_count}
 use Rattle.tz_snap.specs.StateFile.{file_words, head_words, head_count}
-use Rattle.tz_snap.proofs.Head.{length_head}
+use Rattle.tz_snap.proofs.HeadWords.{length_head}
 
 -- ---- the words of a state are as many as its board says
 

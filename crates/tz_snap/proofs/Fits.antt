@@ -41,10 +41,13 @@ regions_fit [] h = no_words
 regions_fit (r ∷ rs) h =
     let parts = and_parts (is_region r) (are_regions rs) h in
     let fits = region_fits r parts.0 in
-    one_more_word r.base _ (omega arith)
-    (one_more_word r.size _ (omega arith)
-    (one_more_word (kind_number r.kind) _ (kind_fits r.kind)
-    (one_more_word (side_number r.side) (region_words rs) (side_fits r.side) (regions_fit rs parts.1))))
+    let rest = region_words rs in
+    let sides = side_number r.side ∷ rest in
+    let kinds = kind_number r.kind ∷ sides in
+    one_more_word r.base (r.size ∷ kinds) (omega arith)
+    (one_more_word r.size kinds (omega arith)
+    (one_more_word (kind_number r.kind) sides (kind_fits r.kind)
+    (one_more_word (side_number r.side) rest (side_fits r.side) (regions_fit rs parts.1))))
 
 -- the words of a board
 pub board_fits : (b : BoardValue) → IsBoard b → AreWords (board_words b)
@@ -58,15 +61,22 @@ board_fits b h =
     let secure : b.mpu_secure ≤ 16 = leb-true b.mpu_secure 16 three.0 in
     let nonsecure : b.mpu_nonsecure ≤ 16 = leb-true b.mpu_nonsecure 16 three.1 in
     let count : length b.regions ≤ 32 = leb-true (length b.regions) 32 (and_parts (nat_le 1 (length b.regions)) (nat_le (length b.regions) 32) h.some_regions).1 in
-    one_more_word b.secure_vtor _ (vtor_fits b.secure_vtor vtors.0)
-    (one_more_word b.nonsecure_vtor _ (vtor_fits b.nonsecure_vtor vtors.1)
-    (one_more_word b.interrupts _ (omega arith)
-    (one_more_word b.sau_regions _ (omega arith)
-    (one_more_word b.mpu_secure _ (omega arith)
-    (one_more_word b.mpu_nonsecure _ (omega arith)
-    (one_more_word (profile_number b.profile) _ (profile_fits b.profile)
-    (one_more_word (length b.regions) (region_words b.regions) (omega arith) (regions_fit b.regions h.regions))))))))
+    let eight = region_words b.regions in
+    let seven = length b.regions ∷ eight in
+    let six = profile_number b.profile ∷ seven in
+    let five = b.mpu_nonsecure ∷ six in
+    let four = b.mpu_secure ∷ five in
+    let third = b.sau_regions ∷ four in
+    let second = b.interrupts ∷ third in
+    one_more_word b.secure_vtor (b.nonsecure_vtor ∷ second) (vtor_fits b.secure_vtor vtors.0)
+    (one_more_word b.nonsecure_vtor second (vtor_fits b.nonsecure_vtor vtors.1)
+    (one_more_word b.interrupts third (omega arith)
+    (one_more_word b.sau_regions four (omega arith)
+    (one_more_word b.mpu_secure five (omega arith)
+    (one_more_word b.mpu_nonsecure six (omega arith)
+    (one_more_word (profile_number b.profile) seven (profile_fits b.profile)
+    (one_more_word (length b.regions) eight (omega arith) (regions_fit b.regions h.regions))))))))
 
 -- the words before those of the state
 pub head_fits : (b : BoardValue) (n : ℕ) → IsBoard b → n ≤ most_steps → AreWords (head_words b n)
-head_fits b n h l = one_more_word magic _ (omega arith) (one_more_word n (board_words b) (omega arith) (board_fits b h))
+head_fits b n h l = one_more_word magic (n ∷ board_words b) (omega arith) (one_more_word n (board_words b) (omega arith) (board_fits b h))

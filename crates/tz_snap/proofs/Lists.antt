@@ -10,15 +10,18 @@ get_left (x ∷ xs) ys zero l = refl
 get_left (x ∷ xs) ys (suc i) l = get_left xs ys i (omega arith)
 
 pub get_right : (xs ys : List ℕ) (i : ℕ) → length xs ≤ i → slice_get (xs ++ ys) i ≡ slice_get ys (i - length xs)
-get_right [] ys i l = ap (slice_get ys) (omega arith)
+get_right [] ys i l = let e : i ≡ i - 0 = omega arith in ap (slice_get ys) e
 get_right (x ∷ xs) ys zero l = absurd (omega arith)
-get_right (x ∷ xs) ys (suc i) l = get_right xs ys i (omega arith) ∙ ap (slice_get ys) (omega arith)
+get_right (x ∷ xs) ys (suc i) l = let e : i - length xs ≡ suc i - suc (length xs) = omega arith in get_right xs ys i (omega arith) ∙ ap (slice_get ys) e
 
 -- what is left from an index on
 pub drop_some : (xs : List ℕ) (i w : ℕ) → slice_get xs i ≡ Some w → drop i xs ≡ w ∷ drop (i + 1) xs
 drop_some [] i w e = cc
-drop_some (x ∷ xs) zero w e = cc
-drop_some (x ∷ xs) (suc i) w e = drop_some xs i w e ∙ ap (λ (k : ℕ). w ∷ drop k (x ∷ xs)) (omega arith)
+drop_some (x ∷ xs) zero w e = let same : x ≡ w = cc in ap (λ (y : ℕ). y ∷ xs) same
+drop_some (x ∷ xs) (suc i) w e =
+    let k : suc (i + 1) ≡ suc i + 1 = omega arith in
+    let front : drop i xs ≡ w ∷ drop (i + 1) xs = drop_some xs i w e in
+    front ∙ ap (λ (n : ℕ). w ∷ drop n (x ∷ xs)) k
 
 pub drop_none : (xs : List ℕ) (i : ℕ) → slice_get xs i ≡ None → drop i xs ≡ []
 drop_none [] zero e = refl
@@ -27,9 +30,9 @@ drop_none (x ∷ xs) zero e = cc
 drop_none (x ∷ xs) (suc i) e = drop_none xs i e
 
 pub get_drop : (n : ℕ) (xs : List ℕ) (i : ℕ) → slice_get (drop n xs) i ≡ slice_get xs (n + i)
-get_drop zero xs i = ap (slice_get xs) (omega arith)
+get_drop zero xs i = let e : i ≡ 0 + i = omega arith in ap (slice_get xs) e
 get_drop (suc n) [] i = refl
-get_drop (suc n) (x ∷ xs) i = get_drop n xs i ∙ ap (slice_get (x ∷ xs)) (omega arith)
+get_drop (suc n) (x ∷ xs) i = let e : suc (n + i) ≡ suc n + i = omega arith in get_drop n xs i ∙ ap (slice_get (x ∷ xs)) e
 
 -- ---- a list at the front of another
 
@@ -58,7 +61,7 @@ other_word w ws (x ∷ xs) n = ap (λ (b : Bool). b && begins_with ws xs) (diffe
 pub front_other : (ws xs : List ℕ) (i w : ℕ) → slice_get ws i ≡ Some w → slice_get xs i ≢ Some w → begins_with (drop i ws) (drop i xs) ≡ false
 front_other ws xs i w e n =
     ap (λ (l : List ℕ). begins_with l (drop i xs)) (drop_some ws i w e)
-    ∙ other_word w (drop (i + 1) ws) (drop i xs) (λ f. n (ap (slice_get xs) (omega arith) ∙ sym (get_drop i xs 0) ∙ f))
+    ∙ other_word w (drop (i + 1) ws) (drop i xs) (λ f. let k : i ≡ i + 0 = omega arith in n (ap (slice_get xs) k ∙ sym (get_drop i xs 0) ∙ f))
 
 pub front_end : (ws xs : List ℕ) (i : ℕ) → slice_get ws i ≡ None → begins_with (drop i ws) (drop i xs) ≡ true
 front_end ws xs i e = ap (λ (l : List ℕ). begins_with l (drop i xs)) (drop_none ws i e)

@@ -60,6 +60,7 @@ fn region_word(regions: &[Region], index: u32) -> Option<u32>
 }
 
 /// The word at an index among those of a board.
+#[tactic(auto, using(crate::proofs::HeadWords::regions_at))]
 pub fn board_word(board: &Board, index: u32) -> Option<u32>
     ensures { result ≡ slice_get (board_words board.now) index }
 {
@@ -77,6 +78,7 @@ pub fn board_word(board: &Board, index: u32) -> Option<u32>
 }
 
 /// The word at an index among those before the state's, of a file of so many steps.
+#[tactic(auto, using(crate::proofs::HeadWords::board_at))]
 pub fn head_word(board: &Board, step: u32, index: u32) -> Option<u32>
     ensures { result ≡ slice_get (head_words board.now step) index }
 {
@@ -88,6 +90,7 @@ pub fn head_word(board: &Board, step: u32, index: u32) -> Option<u32>
 }
 
 /// How many words stand before those of the state.
+#[tactic(auto, using(crate::proofs::HeadWords::length_head))]
 pub fn head_count(board: &Board) -> u32
     ensures { result ≡ head_count board.now }
 {

@@ -9,10 +9,10 @@
 mod error;
 mod head;
 mod laws;
-mod load;
-mod save;
+mod reading;
+mod writing;
 
 pub use error::SnapError;
 pub use laws::{file_reads_back, only_files_are_read};
-pub use load::{Saved, load};
-pub use save::save;
+pub use reading::{Saved, load};
+pub use writing::save;

@@ -1,4 +1,4 @@
-use Rattle.tz_snap.proofs.Laws.{reads_back}
+use Rattle.tz_snap.proofs.BothLaws.{reads_back}
 use Rattle.tz_snap.proofs.laws.file_reads_back.Goals as goal
 
 pub returns : goal.returns

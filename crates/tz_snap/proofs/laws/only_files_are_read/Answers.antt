@@ -1,4 +1,4 @@
-use Rattle.tz_snap.proofs.Laws.{read_only}
+use Rattle.tz_snap.proofs.BothLaws.{read_only}
 use Rattle.tz_snap.proofs.laws.only_files_are_read.Goals as goal
 
 pub returns : goal.returns

@@ -19,9 +19,10 @@ type Held = ArrayVec<u8, 512>;
 fn file_word(machine: &Machine, step: u32, index: u32) -> Option<u32>
     ensures { result ≡ slice_get (file_words machine.now step) index }
 {
-    let head = head_count(machine.board());
+    let board = machine.board();
+    let head = head_count(board);
     if index < head {
-        head_word(machine.board(), step, index)
+        head_word(board, step, index)
     } else {
         machine.word(index - head)
     }
