@@ -14,6 +14,7 @@ use Rattle.tz_snap.proofs.StateFits.{state_fits}
 use Rattle.tz_snap.proofs.Files.{Accepted, accepted, tests_of, same_bytes}
 
 pub reads_back : (b : BoardValue) (s : State) (n : ℕ) → IsBoard b → IsState b s → n ≤ most_steps → read_words b (state_words s) ≡ Ok s → saved_of b (file_of s n) ≡ Ok (record { state = s; step = n })
+unfolding file_of file_words
 reads_back b s n board h few read =
     ap (λ (x : BoardValue). saved_of b (bytes_of_words (head_words x n ++ state_words s))) h.board
     ∙ accepted b n (state_words s) s board few (state_fits b s h) (state_count s ∙ ap word_count h.board) read
@@ -32,6 +33,7 @@ pub read_only : (b : BoardValue) (bytes : List ℕ) (x : SavedState) → AreByte
     → ((ws : List ℕ) (s : State) → AreWords ws → length ws ≡ word_count b → read_words b ws ≡ Ok s → (state_words s ≡ ws) × IsState b s)
     → (((k w : ℕ) → slice_get bytes k ≡ Some w → w < 256) → AreWords (words_of bytes))
     → (bytes ≡ file_of x.state x.step) × IsState b x.state × (x.step ≤ most_steps)
+unfolding file_of file_words
 read_only b bytes x all e tells words =
     let a = tests_of b bytes x e in
     let behind = drop (head_count b) (words_of bytes) in

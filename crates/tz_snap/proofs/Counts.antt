@@ -1,10 +1,11 @@
 -- How many words a state has.
-use Rattle.std.proofs.Common.{◌≡◌, ℕ, zero, suc, ◌+◌, ◌*◌, ◌/◌, ◌<◌, ◌≤◌, ◌&&◌, nat_le, ◌^◌, List, [], ◌∷◌, ◌++◌, length, map, Some, refl, sym, ap, ◌∙◌, arith, length-append}
+use Rattle.std.proofs.Common.{◌≡◌, ℕ, zero, suc, ◌+◌, ◌*◌, ◌/◌, ◌<◌, ◌≤◌, ◌&&◌, nat_le, ◌^◌, List, [], ◌∷◌, ◌++◌, length, map, Some, None, get_or, refl, sym, ap, ◌∙◌, arith, length-append}
 use Rattle.std.specs.Prelude.{slice_get, sum_by}
 use Rattle.std.specs.List.{range_with_len}
 use Rattle.std.proofs.lemmas.Bool.{and_parts, leb-true}
-use Rattle.std.proofs.lemmas.Option.{slice_get_within}
+use Rattle.std.proofs.lemmas.Option.{none-some, slice_get-get_or, slice_get_past}
 use Rattle.std.proofs.lemmas.List.{length-map}
+use Rattle.std.proofs.lemmas.List.Sums.{sum_by-cons}
 use Rattle.std.proofs.lemmas.List.FromFn.{length-range_with_len}
 use Rattle.tz_table.specs.declared.units.Side.TheVariants.{Secure, NonSecure}
 use Rattle.tz_model.specs.declared.board.Region.{Region}
@@ -76,6 +77,7 @@ memory_words_count : (m : Memory) (rs : List Region) → length (memory_words m 
 unfolding memory_words
 memory_words_count m [] = refl
 memory_words_count m (r ∷ rs) =
+    let apart = sum_by-cons (λ (q : Region). q.size / 4) r rs in
     let both = length-append (words_from m r.base (r.size / 4)) (memory_words m rs) in
     let here = from_count m r.base (r.size / 4) in
     let more = memory_words_count m rs in
@@ -102,7 +104,11 @@ state_count s =
 -- words of memory are no more than its bytes
 memory_small : (rs : List Region) → memory_count rs ≤ bytes_of rs
 memory_small [] = omega arith
-memory_small (r ∷ rs) = let rest = memory_small rs in omega arith
+memory_small (r ∷ rs) =
+    let rest = memory_small rs in
+    let words = sum_by-cons (λ (q : Region). q.size / 4) r rs in
+    let bytes = sum_by-cons (λ (q : Region). q.size) r rs in
+    omega arith
 
 -- a board's words of a state and the head before them are few
 pub few_words : (b : BoardValue) → IsBoard b → head_count b + word_count b < 2 ^ 24
@@ -120,13 +126,27 @@ few_words b h =
     let head = length_head b in
     omega arith
 
--- an index at which a file has a word is small
-pub small_index : (b : BoardValue) (s : State) (n i w : ℕ) → IsBoard b → s.bus.board ≡ b → slice_get (file_words s n) i ≡ Some w → i < 2 ^ 24
-small_index b s n i w h e f =
-    let all = state_count s in
-    let within = slice_get_within (file_words s n) i w f in
-    let both = length-append (head_words s.bus.board n) (state_words s) in
-    let few = few_words b h in
-    let head : head_count s.bus.board ≡ head_count b = ap head_count e in
-    let words : word_count s.bus.board ≡ word_count b = ap word_count e in
+-- ---- the words of a file
+
+file_words_count : (s : State) (n : ℕ) → length (file_words s n) ≡ head_count s.bus.board + word_count s.bus.board
+unfolding file_words
+file_words_count s n =
+    let all = length-append (head_words s.bus.board n) (state_words s) in
+    let state = state_count s in
     omega arith
+
+-- below their number a word is there, and from it on none is
+pub word_is_there : (b : BoardValue) (s : State) (n i : ℕ) → b ≡ s.bus.board → i < head_count b + word_count b → slice_get (file_words s n) i ≡ None → ⊥
+word_is_there b s n i e l none =
+    let count = file_words_count s n in
+    let head : head_count b ≡ head_count s.bus.board = ap head_count e in
+    let words : word_count b ≡ word_count s.bus.board = ap word_count e in
+    let some = slice_get-get_or (file_words s n) i 0 (omega arith) in
+    none-some (get_or (file_words s n) i 0) (sym none ∙ some)
+
+pub no_word_is_there : (b : BoardValue) (s : State) (n i : ℕ) → b ≡ s.bus.board → head_count b + word_count b ≤ i → slice_get (file_words s n) i ≡ None
+no_word_is_there b s n i e l =
+    let count = file_words_count s n in
+    let head : head_count b ≡ head_count s.bus.board = ap head_count e in
+    let words : word_count b ≡ word_count s.bus.board = ap word_count e in
+    slice_get_past (file_words s n) i (omega arith)

@@ -1,17 +1,18 @@
 -- The file of a state is accepted, and what is accepted is the file of a state.
-use Rattle.std.proofs.Common.{◌≡◌, ℕ, suc, ◌+◌, ◌*◌, ◌^◌, ◌<◌, ◌≤◌, ◌==◌, Bool, true, false, not, ◌&&◌, if◌then◌else◌, nat_lt, List, [], ◌∷◌, ◌++◌, length, drop, Option, Some, None, Result, Ok, Err, refl, sym, ap, ◌∙◌, subst, arith, length-append, length-drop}
+use Rattle.std.proofs.Common.{◌≡◌, ℕ, suc, ◌+◌, ◌-◌, ◌*◌, ◌^◌, ◌<◌, ◌≤◌, ◌==◌, Bool, true, false, not, ◌&&◌, if◌then◌else◌, nat_lt, List, [], ◌∷◌, ◌++◌, length, drop, take, Option, Some, None, Result, Ok, Err, refl, sym, ap, ◌∙◌, subst, arith, length-append, length-drop}
 use Rattle.std.proofs.lemmas.Bool.{eqb-true, eq-eqb, le-ltb, ltb-false}
 use Rattle.std.proofs.lemmas.Option.{cond_some}
-use Rattle.std.proofs.lemmas.List.{drop_at}
+use Rattle.std.proofs.lemmas.List.{drop_at, take_rest}
 use Rattle.tz_model.specs.Board.{BoardValue, IsBoard}
 use Rattle.tz_state.specs.State.{State}
 use Rattle.tz_core.specs.StateWords.{state_words, word_count}
-use Rattle.tz_core.specs.ReadWords.{read_words, words_of, AreWords, IsState}
+use Rattle.tz_core.specs.ReadWords.{read_words, words_of, AreWords, IsState, IsWordsRefusal}
+use Rattle.tz_core.specs.declared.from_words.WordsError.{WordsError}
+use Rattle.tz_core.specs.declared.from_words.WordsError.TheVariants as WordsErrors
 use Rattle.tz_snap.specs.FileWords.{bytes_of_words}
 use Rattle.tz_snap.specs.StateFile.{SavedState, Refusal, Magic, Board, Length, Value, board_words, head_words, file_words, file_of, begins_with, step_in, head_count, file_length, behind_head, values_of, saved_by, saved_of, most_steps, magic}
 use Rattle.tz_snap.proofs.Words.{AreBytes, both_words, words_of_bytes, bytes_of_words_of, length_bytes, drop_words, length_words}
 use Rattle.tz_snap.proofs.Bounds.{among_words}
-use Rattle.tz_snap.proofs.Counts.{few_words}
 use Rattle.tz_snap.proofs.Lists.{front_of_both, front_split, same_front}
 use Rattle.tz_snap.proofs.Fits.{head_fits}
 
@@ -56,30 +57,33 @@ accepted b n words s board l fits count e =
     ∙ ap (λ (ws : List ℕ). behind_head (head_count b) n (read_words b ws)) (behind b n words)
     ∙ ap (behind_head (head_count b) n) e
 
+-- a refusal that names its word
+pub refused : (e : WordsError) (i : ℕ) (r : Result State ℕ) → e ≡ WordsErrors.Value i → IsWordsRefusal e r → r ≡ Err i
+refused e i r is h = subst (λ (x : WordsError). IsWordsRefusal x r) is h
+
 -- the words behind a head of h words were read, or not
-pub read_ok : (b : BoardValue) (n h : ℕ) (bytes : List ℕ) (s : State) → h ≡ head_count b → n ≤ most_steps → read_words b (words_of (drop (4 * h) bytes)) ≡ Ok s
+pub read_ok : (b : BoardValue) (n h : ℕ) (bytes : List ℕ) (s : State) → h ≡ head_count b → n ≤ most_steps → read_words b (words_of (take (length bytes - 4 * h) (drop (4 * h) bytes))) ≡ Ok s
     → values_of b n (words_of bytes) ≡ Ok (record { state = s; step = n })
 read_ok b n h bytes s e l read =
     by_state b n (words_of bytes) l
     ∙ ap (λ (k : ℕ). behind_head (head_count b) n (read_words b (drop k (words_of bytes)))) (sym e)
-    ∙ ap (λ (ws : List ℕ). behind_head (head_count b) n (read_words b ws)) (sym (drop_words h bytes))
+    ∙ ap (λ (ws : List ℕ). behind_head (head_count b) n (read_words b ws)) (sym (drop_words h bytes) ∙ ap words_of (sym (take_rest bytes (4 * h))))
     ∙ ap (behind_head (head_count b) n) read
 
-pub read_err : (b : BoardValue) (n h : ℕ) (bytes : List ℕ) (i : ℕ) → h ≡ head_count b → n ≤ most_steps → read_words b (words_of (drop (4 * h) bytes)) ≡ Err i
+pub read_err : (b : BoardValue) (n h : ℕ) (bytes : List ℕ) (i : ℕ) → h ≡ head_count b → n ≤ most_steps → read_words b (words_of (take (length bytes - 4 * h) (drop (4 * h) bytes))) ≡ Err i
     → values_of b n (words_of bytes) ≡ Err (Value (h + i))
 read_err b n h bytes i e l read =
     by_state b n (words_of bytes) l
     ∙ ap (λ (k : ℕ). behind_head k n (read_words b (drop k (words_of bytes)))) (sym e)
-    ∙ ap (λ (ws : List ℕ). behind_head h n (read_words b ws)) (sym (drop_words h bytes))
+    ∙ ap (λ (ws : List ℕ). behind_head h n (read_words b ws)) (sym (drop_words h bytes) ∙ ap words_of (sym (take_rest bytes (4 * h))))
     ∙ ap (behind_head h n) read
 
 -- the place of a word out of range is small
-pub place_small : (b : BoardValue) (h : ℕ) (bytes : List ℕ) (i : ℕ) → IsBoard b → h ≡ head_count b → length bytes ≡ file_length b → read_words b (words_of (drop (4 * h) bytes)) ≡ Err i → h + i < 2 ^ 24
-place_small b h bytes i board e l read =
+pub place_small : (b : BoardValue) (h : ℕ) (bytes : List ℕ) (i : ℕ) → h ≡ head_count b → length bytes ≡ file_length b → length bytes < 2 ^ 26 → read_words b (words_of (take (length bytes - 4 * h) (drop (4 * h) bytes))) ≡ Err i → h + i < 2 ^ 24
+place_small b h bytes i e l small read =
     let left = length-drop (4 * h) bytes in
     let count = length_words (drop (4 * h) bytes) (word_count b) (omega arith) in
-    let below = among_words b (words_of (drop (4 * h) bytes)) i count read in
-    let few = few_words b board in
+    let below = among_words b (words_of (drop (4 * h) bytes)) i count (ap (λ (l : List ℕ). read_words b (words_of l)) (sym (take_rest bytes (4 * h))) ∙ read) in
     omega arith
 
 -- ---- what is accepted was written

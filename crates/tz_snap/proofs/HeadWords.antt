@@ -76,11 +76,13 @@ board_at b n i l =
 
 -- a word of the head, and one of the state
 pub in_head : (b : BoardValue) (s : State) (n i : ℕ) → b ≡ s.bus.board → i < head_count b → slice_get (head_words b n) i ≡ slice_get (file_words s n) i
+unfolding file_words
 in_head b s n i e l =
     let same : head_count b ≡ head_count s.bus.board = ap head_count e in
     ap (λ (x : BoardValue). slice_get (head_words x n) i) e ∙ sym (get_left (head_words s.bus.board n) (state_words s) i (omega arith))
 
 pub in_state : (b : BoardValue) (s : State) (n i : ℕ) → b ≡ s.bus.board → head_count b ≤ i → slice_get (state_words s) (i - head_count b) ≡ slice_get (file_words s n) i
+unfolding file_words
 in_state b s n i e l =
     let same : head_count b ≡ head_count s.bus.board = ap head_count e in
     let behind : i - head_count b ≡ i - length (head_words s.bus.board n) = omega arith in

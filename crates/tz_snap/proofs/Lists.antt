@@ -1,7 +1,9 @@
 -- Elements of lists by their index.
-use Rattle.std.proofs.Common.{◌≡◌, ◌≢◌, ℕ, zero, suc, ◌+◌, ◌-◌, ◌<◌, ◌≤◌, ◌==◌, Bool, true, false, ◌&&◌, List, [], ◌∷◌, ◌++◌, length, drop, Option, Some, None, refl, sym, ap, ◌∙◌, subst, arith}
+use Rattle.std.proofs.Common.{◌≡◌, ◌≢◌, ℕ, zero, suc, ◌+◌, ◌-◌, ◌<◌, ◌≤◌, ◌==◌, Bool, true, false, not, ◌&&◌, eqb, get_or, List, [], ◌∷◌, ◌++◌, length, drop, Option, Some, None, refl, sym, ap, ◌∙◌, subst, arith}
 use Rattle.std.specs.Prelude.{slice_get}
-use Rattle.std.proofs.lemmas.Bool.{and_parts, eqb-true, eq-eqb}
+use Rattle.std.specs.Option.{option_eq}
+use Rattle.std.proofs.lemmas.Bool.{and_parts, eqb-true, eq-eqb, not-false, not-true, true≢false}
+use Rattle.std.proofs.lemmas.Option.{slice_get-get_or}
 use Rattle.tz_snap.specs.StateFile.{begins_with}
 
 pub get_left : (xs ys : List ℕ) (i : ℕ) → i < length xs → slice_get (xs ++ ys) i ≡ slice_get xs i
@@ -62,6 +64,39 @@ pub front_other : (ws xs : List ℕ) (i w : ℕ) → slice_get ws i ≡ Some w �
 front_other ws xs i w e n =
     ap (λ (l : List ℕ). begins_with l (drop i xs)) (drop_some ws i w e)
     ∙ other_word w (drop (i + 1) ws) (drop i xs) (λ f. let k : i ≡ i + 0 = omega arith in n (ap (slice_get xs) k ∙ sym (get_drop i xs 0) ∙ f))
+
+-- what a comparison of two words by their indices tells
+same_option : (a b : Option ℕ) → option_eq eqb a b ≡ true → a ≡ b
+same_option None None e = refl
+same_option None (Some w) e = cc
+same_option (Some x) None e = cc
+same_option (Some x) (Some w) e = ap Some (eqb-true x w e)
+
+equal_option : (a : Option ℕ) → option_eq eqb a a ≡ true
+equal_option None = refl
+equal_option (Some w) = eq-eqb w w refl
+
+-- the words of a list and those of another behind its first two are the same at an index
+pub compared_same : (ws words : List ℕ) (i : ℕ) (a b : Option ℕ) (t : Bool) → i < length ws → a ≡ slice_get words (i + 2) → b ≡ slice_get ws i → t ≡ not (option_eq eqb a b) → t ≡ false
+    → begins_with (drop i ws) (drop i (drop 2 words)) ≡ begins_with (drop (i + 1) ws) (drop (i + 1) (drop 2 words))
+compared_same ws words i a b t l at here test false' =
+    let w = get_or ws i 0 in
+    let some : slice_get ws i ≡ Some w = slice_get-get_or ws i 0 l in
+    let same : a ≡ b = same_option a b (not-false (option_eq eqb a b) (sym test ∙ false')) in
+    let place : 2 + i ≡ i + 2 = omega arith in
+    front_more ws (drop 2 words) i w some (get_drop 2 words i ∙ ap (slice_get words) place ∙ sym at ∙ same ∙ here ∙ some)
+
+-- or another
+pub compared_other : (ws words : List ℕ) (i : ℕ) (a b : Option ℕ) (t : Bool) → i < length ws → a ≡ slice_get words (i + 2) → b ≡ slice_get ws i → t ≡ not (option_eq eqb a b) → t ≡ true
+    → begins_with (drop i ws) (drop i (drop 2 words)) ≡ false
+compared_other ws words i a b t l at here test true' =
+    let w = get_or ws i 0 in
+    let some : slice_get ws i ≡ Some w = slice_get-get_or ws i 0 l in
+    let place : i + 2 ≡ 2 + i = omega arith in
+    let differ' : option_eq eqb a b ≡ false = not-true (option_eq eqb a b) (sym test ∙ true') in
+    front_other ws (drop 2 words) i w some (λ f.
+    let same : a ≡ b = at ∙ ap (slice_get words) place ∙ sym (get_drop 2 words i) ∙ f ∙ sym some ∙ sym here in
+    true≢false (sym (equal_option a) ∙ ap (option_eq eqb a) same ∙ differ'))
 
 pub front_end : (ws xs : List ℕ) (i : ℕ) → slice_get ws i ≡ None → begins_with (drop i ws) (drop i xs) ≡ true
 front_end ws xs i e = ap (λ (l : List ℕ). begins_with l (drop i xs)) (drop_none ws i e)

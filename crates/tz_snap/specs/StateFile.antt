@@ -54,11 +54,11 @@ abbrev pub head_words : BoardValue → ℕ → List ℕ
 head_words b n = magic ∷ n ∷ board_words b
 
 -- the words of a state after n steps
-abbrev pub file_words : State → ℕ → List ℕ
+unfoldable pub file_words : State → ℕ → List ℕ
 file_words s n = head_words s.bus.board n ++ state_words s
 
 -- the file of a state after n steps
-abbrev pub file_of : State → ℕ → List ℕ
+unfoldable pub file_of : State → ℕ → List ℕ
 file_of s n = bytes_of_words (file_words s n)
 
 -- ---- reading

@@ -3,9 +3,11 @@
 //! Each word is told by its index. What is written goes by that, and so does what is compared where a file is
 //! read.
 
-ghost use Rattle.std.specs.Prelude.{◌≡◌, ◌+◌, length, slice_get};
+ghost use Rattle.std.specs.Prelude.{◌≡◌, ◌+◌, ◌^◌, ◌<◌, length, slice_get};
+ghost use Rattle.tz_core.specs.StateWords.{word_count};
 ghost use Rattle.tz_snap.specs.StateFile.{profile_number, kind_number, side_number, region_words, board_words, head_words, head_count};
 
+use tz_core::word_count;
 use tz_model::{Board, Profile, Region, RegionKind, RegionSide};
 
 /// The word that a state file begins with.
@@ -95,4 +97,14 @@ pub fn head_count(board: &Board) -> u32
     ensures { result ≡ head_count board.now }
 {
     10 + 4 * board.regions.len() as u32
+}
+
+/// How many words the files of a board have.
+pub fn file_count(board: &Board) -> u32
+    ensures is { result ≡ head_count board.now + word_count board.now }
+    ensures few { result < 2 ^ 24 }
+{
+    // (what every board meets is known where one of its fields is read)
+    let _regions = board.regions.len();
+    head_count(board) + word_count(board)
 }

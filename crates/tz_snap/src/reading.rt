@@ -1,14 +1,14 @@
 //! A state file as it is read: its first word, its board, its length, and each word of the state.
 
-ghost use Rattle.std.specs.Prelude.{◌≡◌, length, drop, slice_get, Ok, IfOk, IfErr};
+ghost use Rattle.std.specs.Prelude.{◌≡◌, ◌^◌, ◌<◌, length, drop, slice_get, Ok, IfOk, IfErr};
 ghost use Rattle.tz_core.specs.ReadWords.{words_of};
 ghost use Rattle.tz_snap.specs.StateFile.{board_words, begins_with, step_in, file_length, values_of, saved_of};
 ghost use Rattle.tz_snap.specs.Refusals.{IsStateRefusal};
 
 use crate::error::SnapError;
-use crate::head::{MAGIC, MOST_STEPS, board_word, head_count};
+use crate::head::{MAGIC, MOST_STEPS, board_word, file_count, head_count};
 use std::alloc::Global;
-use tz_core::{Machine, WordsError, word_count};
+use tz_core::{Machine, WordsError};
 use tz_model::Board;
 
 /// A machine as a file has it, and how many steps led to its state.
@@ -38,12 +38,10 @@ fn word_at(bytes: &[u8], index: u32) -> Option<u32>
 fn has_board(board: &Board, bytes: &[u8]) -> bool
     ensures { result ≡ begins_with (board_words board.now) (drop 2 (words_of bytes.now)) }
 {
-    let mut index = 0;
-    while let Some(word) = board_word(board, index) {
-        if word_at(bytes, index + 2) != Some(word) {
+    for index in 0..head_count(board) - 2 {
+        if word_at(bytes, index + 2) != board_word(board, index) {
             return false;
         }
-        index += 1;
     }
     true
 }
@@ -59,14 +57,16 @@ fn step_of(bytes: &[u8]) -> Option<u32>
 
 /// How many bytes the files of a board have.
 fn file_length(board: &Board) -> usize
-    ensures { result ≡ file_length board.now }
+    ensures is { result ≡ file_length board.now }
+    ensures few { result < 2 ^ 26 }
 {
-    4 * (head_count(board) as usize + word_count(board) as usize)
+    4 * file_count(board) as usize
 }
 
 /// Reads the state of a file whose board and length were tested, behind so many steps.
 fn read_state(alloc: Global, board: &Board, step: u32, bytes: &[u8]) -> Result<Saved, SnapError>
-    requires { length bytes.now ≡ file_length board.now }
+    requires whole { length bytes.now ≡ file_length board.now }
+    requires few { length bytes.now < 2 ^ 26 }
     ensures ok { IfOk result (λ x. values_of board.now step (words_of bytes.now) ≡ Ok (record { state = x.machine; step = x.step })) }
     ensures err { IfErr result (λ e. IsStateRefusal e (values_of board.now step (words_of bytes.now))) }
 {
@@ -84,7 +84,7 @@ fn read_state(alloc: Global, board: &Board, step: u32, bytes: &[u8]) -> Result<S
 /// Reads a state file of a board.
 ///
 /// The error is the first refusal, in the order of the variants; `Memory` comes only where memory runs out.
-#[tactic(auto, unfolding(tz_snap::specs::StateFile::saved_of))]
+#[tactic(auto, unfolding(crate::specs::StateFile::saved_of))]
 pub fn load(alloc: Global, board: &Board, bytes: &[u8]) -> Result<Saved, SnapError>
     ensures ok { IfOk result (λ x. saved_of board.now bytes.now ≡ Ok (record { state = x.machine; step = x.step })) }
     ensures err { IfErr result (λ e. IsStateRefusal e (saved_of board.now bytes.now)) }

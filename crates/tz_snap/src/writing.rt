@@ -7,7 +7,7 @@ ghost use Rattle.tz_model.specs.Outside.{HasCause, Put};
 ghost use Rattle.tz_snap.specs.StateFile.{file_of, file_words, most_steps};
 ghost use Rattle.tz_snap.specs.Passing.{Passes};
 
-use crate::head::{head_count, head_word};
+use crate::head::{file_count, head_count, head_word};
 use arrayvec::ArrayVec;
 use tz_core::Machine;
 use tz_model::{Sink, SinkError};
@@ -64,12 +64,12 @@ pub fn save<O: Sink>(machine: &Machine, step: u32, out: &mut O) -> Result<(), Si
     ensures cause { HasCause (O.faults out.old) (O.faults out.new) (result ≡ Err SinkError.Failed) }
 {
     let mut held = Held::new();
-    let mut index = 0;
-    while let Some(word) = file_word(machine, step, index) {
-        if let Err(error) = push_word(&mut held, word, out) {
-            return Err(error);
+    for index in 0..file_count(machine.board()) {
+        if let Some(word) = file_word(machine, step, index) {
+            if let Err(error) = push_word(&mut held, word, out) {
+                return Err(error);
+            }
         }
-        index += 1;
     }
     out.put(held.as_slice())
 }

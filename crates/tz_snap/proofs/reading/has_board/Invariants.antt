@@ -1,14 +1,9 @@
-use Rattle.std.proofs.Common.{◌≡◌, ◌-◌, ◌≤◌, drop, length}
+use Rattle.std.proofs.Common.{◌≡◌, drop}
 use Rattle.tz_core.specs.ReadWords.{words_of}
 use Rattle.tz_snap.specs.StateFile.{board_words, begins_with}
 use Rattle.tz_snap.proofs.reading.has_board.Given as goal
 
 -- what is left of both decides
-abbrev pub invariant-loop-word : goal.invariant-loop-word
-invariant-loop-word l = record {
-  left : begins_with (drop l.index (board_words l.board)) (drop l.index (drop 2 (words_of l.bytes))) ≡ begins_with (board_words l.board) (drop 2 (words_of l.bytes));
-  within : l.index ≤ length (board_words l.board);
-}
-
-abbrev pub decreases-loop-word : goal.decreases-loop-word
-decreases-loop-word l = length (board_words l.board) - l.index
+abbrev pub invariant-loop-index : goal.invariant-loop-index
+invariant-loop-index l =
+    begins_with (drop l.index (board_words l.board)) (drop l.index (drop 2 (words_of l.bytes))) ≡ begins_with (board_words l.board) (drop 2 (words_of l.bytes))
