@@ -41,7 +41,7 @@ abbrev pub banked_last : List BankedField
 banked_last = SystCsr ∷ SystRvr ∷ SystCvr ∷ []
 
 -- what a side has, with so many regions of its MPU
-abbrev pub banked_fields : ℕ → List BankedField
+unfoldable pub banked_fields : ℕ → List BankedField
 banked_fields regions = banked_first ++ (mpu_region_fields 0 regions ++ banked_last)
 
 abbrev pub shared_first : List SharedField
@@ -51,7 +51,7 @@ abbrev pub shared_last : List SharedField
 shared_last = Sfsr ∷ Sfar ∷ Bfsr ∷ Bfar ∷ Hfsr ∷ Pris ∷ Bfhfnmins ∷ []
 
 -- what both sides share, with so many regions of the SAU
-abbrev pub shared_fields : ℕ → List SharedField
+unfoldable pub shared_fields : ℕ → List SharedField
 shared_fields regions = shared_first ++ (sau_region_fields 0 regions ++ shared_last)
 
 -- all of them

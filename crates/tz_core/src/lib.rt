@@ -16,6 +16,7 @@ mod from_words;
 mod it_rules;
 mod laws;
 mod port;
+mod put;
 mod running;
 mod start;
 mod taking;

@@ -2,7 +2,7 @@
 
 ghost use Rattle.std.specs.Prelude.{◌≡◌, ◌<◌, ◌+◌, ◌*◌, ◌/◌, ◌^◌, ℕ, true, Some, slice_get};
 ghost use Rattle.tz_frames.specs.Registers.{psr_word};
-ghost use Rattle.tz_model.specs.Board.{in_region};
+ghost use Rattle.tz_model.specs.Board.{in_region, are_regions};
 ghost use Rattle.tz_state.specs.Access.{is_mapped};
 ghost use Rattle.tz_state.specs.Memory.{word_at};
 ghost use Rattle.tz_state.specs.State.{mpu_of};
@@ -100,6 +100,7 @@ fn running_field(index: usize) -> RunningField
 }
 
 /// What a side with so many regions of its MPU has at an index.
+#[tactic(auto, using(crate::proofs::Order::banked_before, crate::proofs::Order::banked_region, crate::proofs::Order::banked_behind, crate::proofs::Order::mpu_rbar_at, crate::proofs::Order::mpu_rlar_at))]
 fn banked_field(index: usize, regions: u8) -> BankedField
     requires { index < 21 + 2 * regions }
     ensures { slice_get (banked_fields regions) index ≡ Some result }
@@ -121,6 +122,7 @@ fn banked_field(index: usize, regions: u8) -> BankedField
 }
 
 /// What both sides share at an index, with so many regions of the SAU.
+#[tactic(auto, using(crate::proofs::Order::shared_before, crate::proofs::Order::shared_region, crate::proofs::Order::shared_behind, crate::proofs::Order::sau_rbar_at, crate::proofs::Order::sau_rlar_at))]
 fn shared_field(index: usize, regions: u8) -> SharedField
     requires { index < 9 + 2 * regions }
     ensures { slice_get (shared_fields regions) index ≡ Some result }
@@ -150,7 +152,8 @@ fn banked_count(regions: u8) -> usize
 
 /// How many fields have words.
 pub(crate) fn field_count(board: &Board) -> usize
-    ensures { result ≡ field_count board.now }
+    ensures is { result ≡ field_count board.now }
+    ensures few { result < 256 }
 {
     73 + 2
         * (usize::from(board.mpu_secure)
@@ -159,6 +162,7 @@ pub(crate) fn field_count(board: &Board) -> usize
 }
 
 /// The field of an index.
+#[tactic(auto, using(crate::proofs::Order::running_here, crate::proofs::Order::secure_here, crate::proofs::Order::nonsecure_here, crate::proofs::Order::shared_here))]
 pub(crate) fn field_at(board: &Board, index: usize) -> Field
     requires { index < field_count board.now }
     ensures { slice_get (fields board.now) index ≡ Some result }
@@ -187,6 +191,7 @@ pub(crate) fn slot_count(board: &Board) -> usize
 }
 
 /// The place of a slot by its index among those that there are.
+#[tactic(auto, using(crate::proofs::Order::system_here, crate::proofs::Order::interrupt_here))]
 pub(crate) fn slot_place(board: &Board, index: usize) -> usize
     requires { index < slot_count board.now }
     ensures is { slice_get (slot_places board.now.interrupts) index ≡ Some result }
@@ -395,12 +400,14 @@ impl Machine {
         }
     }
 
-    /// A word of memory by its index among those of all regions.
-    fn memory_word(&self, index: u32) -> Option<u32>
-        ensures { result ≡ slice_get (memory_words self.now.bus.memory self.now.bus.board.regions) index }
+    /// A word of memory by its index among those of the board's regions.
+    fn memory_word(&self, regions: &[Region], index: u32) -> Option<u32>
+        requires board { regions.now ≡ self.now.bus.board.regions }
+        requires blocks { are_regions regions.now ≡ true }
+        ensures { result ≡ slice_get (memory_words self.now.bus.memory regions.now) index }
     {
         let mut left = index;
-        for region in &self.bus.board().regions {
+        for region in regions {
             let count = region.size / 4;
             if left < count {
                 return Some(self.region_word(region, left));
@@ -412,6 +419,7 @@ impl Machine {
 
     /// The word of an index, of those that tell all of the machine: fields, slots, memory. None exactly past
     /// their count.
+    #[tactic(auto, using(crate::proofs::Indexed::field_told, crate::proofs::Indexed::slot_told, crate::proofs::Indexed::memory_told))]
     pub fn word(&self, index: u32) -> Option<u32>
         ensures { result ≡ slice_get (state_words self.now) index }
     {
@@ -424,6 +432,6 @@ impl Machine {
         if index - fields < slots {
             return Some(self.slot_word(slot_place(board, (index - fields) as usize)));
         }
-        self.memory_word(index - fields - slots)
+        self.memory_word(&board.regions, index - fields - slots)
     }
 }
