@@ -1,5 +1,5 @@
 -- Texts by number, as a loop appends or puts them one after the other, and texts that went out one after the other.
-use Rattle.std.proofs.Common.{◌≡◌, ℕ, zero, suc, ◌+◌, ◌-◌, ◌<◌, ◌≤◌, List, [], ◌++◌, Option, Ok, Err, sym, ap, ◌∙◌, subst, arith, add-one, append_assoc, append-nil, refl}
+use Rattle.std.proofs.Common.{◌≡◌, ℕ, zero, suc, ◌+◌, ◌-◌, ◌<◌, List, [], ◌++◌, Option, Ok, Err, sym, ap, ◌∙◌, subst, arith, add-one, append_assoc, append-nil, refl}
 use Rattle.tz_model.specs.declared.outside.SinkError.{SinkError}
 use Rattle.tz_model.specs.Outside.{Put}
 use Rattle.tz_model.proofs.Puts.{put_nothing, put_then, put_failed}

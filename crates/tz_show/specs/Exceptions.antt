@@ -6,7 +6,7 @@ use Rattle.tz_table.specs.declared.units.Side.TheVariants.{Secure, NonSecure}
 use Rattle.tz_model.specs.declared.report.Slot.{Slot}
 use Rattle.tz_regs.specs.declared.parts.Status.{Status}
 use Rattle.tz_state.specs.declared.slot.SlotState.{SlotState}
-use Rattle.tz_state.specs.ExceptionNumbers.{nmi, hard_fault, mem_manage, bus_fault, usage_fault, secure_fault, sv_call, pend_sv, sys_tick, first_interrupt}
+use Rattle.tz_state.specs.ExceptionNumbers.{nmi, hard_fault, mem_manage, bus_fault, usage_fault, secure_fault, sv_call, pend_sv, first_interrupt}
 use Rattle.tz_state.specs.Slots.{ExceptionsValue, at, places, is_place, slot_at}
 use Rattle.tz_state.specs.Priority.{priority_of}
 use Rattle.tz_state.specs.Execution.{manual_priority}

@@ -8,4 +8,6 @@ returns-in-Err-clause-put g c = put_failed _ _ _ _ _ _ c.in-Err.error c.in-Err.e
 
 pub returns-clause-put : goal.returns-clause-put
 unfolding page
-returns-clause-put g c = put_then _ _ _ _ _ _ _ _ _ c.in_default.ensures.put c.put_ranges.ensures.put
+returns-clause-put g c =
+    let ranges = rw c.bus.ensures at c.put_ranges.ensures.put in
+    put_then _ _ _ _ _ _ _ _ _ c.in_default.ensures.put ranges

@@ -1,4 +1,4 @@
-use Rattle.std.proofs.Common.{◌≡◌, arith, subst, sym, ap, ◌∙◌, ℕ, Ok, Err}
+use Rattle.std.proofs.Common.{◌≡◌, arith, subst, ◌∙◌, ℕ, Ok, Err}
 use Rattle.tz_model.specs.Outside.{Put}
 use Rattle.tz_show.specs.Dump.{dump_line}
 use Rattle.tz_show.specs.Rows.{texts_below}
