@@ -11,8 +11,10 @@ use Rattle.tz_run.specs.Events.{events_of}
 use Rattle.tz_twin.proofs.TwoRuns.{isolated}
 use Rattle.tz_cli.specs.Run.{RunWords}
 use Rattle.tz_cli.specs.Commands.{Command, Run, Pair, Asm, Dis, command_of}
-use Rattle.tz_cli.specs.Told.{Stop, BadWords, TooManySteps, Unread, TooLong, BadBoard, BadImage, BadScript, BadSource, Told, Unknown, Stops, Gives, told_then, Job, Task, run_task, told, IsDone, job_told, trace_of, state_of}
-use Rattle.tz_cli.specs.Reads.{reads_of, TellsOf}
+use Rattle.tz_cli.specs.Told.{Stop, BadWords, TooManySteps, Unread, TooLong, BadBoard, BadImage, BadScript, BadSource, Told, Unknown, Stops, Gives, told_then}
+use Rattle.tz_cli.specs.Reads.{TellsOf}
+use Rattle.tz_cli.specs.Starts.{state_of}
+use Rattle.tz_cli.specs.Tasks.{Job, Task, run_task, told, reads_of, IsDone, job_told, trace_of}
 use Rattle.tz_cli.specs.Lines.{stop_line, status_of}
 use Rattle.tz_cli.specs.Answer.{Allows, AllowsStop, Shelved, IsUnread, IsCaused, IsLine, Call, told_of, GainsFront, Exceeds, Answer, Done, Broken, Stopped, Wanting, Silent, Excused, IsText, IsRefusedBy, NamesUnread, CutsLine, IsStatus}
 use Rattle.tz_cli.proofs.Reached.{absent_task, never_gives}
@@ -306,7 +308,7 @@ room_suffices c result (Wanting e out err) text is = never_four c result text (�
 
 sound_stop : (c : Call) (stop : Stop) → Cause c stop → IsTrue c.shelf.sound → (task : Task) → told_of c ≡ Gives task → status_of stop ≢ 3
 sound_stop c stop (OfFile name e unread) sound task is three =
-    never_gives (told_of c) task (absent_task c.shelf.held c.command name unread.form (unread.absent sound) unread.read) is
+    never_gives (told_of c) task (absent_task c.shelf.held c.command (record { name = name; form = unread.form }) (unread.absent sound) unread.read) is
 sound_stop c stop (OfTold told read other) sound task is three = other three
 
 pub sound_reads : (c : Call) (result : ℕ) → Answer c result → IsTrue c.shelf.sound → (task : Task) → told_of c ≡ Gives task → result ≢ 3

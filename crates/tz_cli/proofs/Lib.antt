@@ -13,5 +13,7 @@ pub mod Differences
 pub mod Clauses
 pub mod PairClauses
 pub mod Exits
+pub mod Settling
 pub mod Reached
 pub mod Stages
+pub mod Loads

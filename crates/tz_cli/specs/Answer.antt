@@ -2,8 +2,9 @@
 use Rattle.std.specs.Prelude.{◌≡◌, ◌⊎◌, ℕ, ◌+◌, ◌≤◌, Bool, List, [], ◌++◌, length, codes, Option, Some, None, IsTrue, IfSome}
 use Rattle.tz_model.specs.Outside.{Held, Absent, Rose, Gains}
 use Rattle.tz_cli.specs.Commands.{Command, command_of, longest, names_of}
-use Rattle.tz_cli.specs.Told.{Stop, BadWords, TooManySteps, Unread, TooLong, BadBoard, BadImage, BadScript, BadSource, Told, Unknown, Stops, Gives, Task, told, IsDone}
-use Rattle.tz_cli.specs.Reads.{Reading, Form, reads_of, IsOneOf, TellsOf}
+use Rattle.tz_cli.specs.Told.{Stop, BadWords, TooManySteps, Unread, TooLong, BadBoard, BadImage, BadScript, BadSource, Told, Unknown, Stops, Gives}
+use Rattle.tz_cli.specs.Reads.{Reading, Form, IsOneOf, TellsOf}
+use Rattle.tz_cli.specs.Tasks.{Task, told, reads_of, IsDone}
 use Rattle.tz_cli.specs.Lines.{stop_line, status_of, unread_line}
 
 -- what is settled allows a value, or a stop

@@ -2,10 +2,13 @@
 use Rattle.std.specs.Prelude.{ℕ, List, [], ◌∷◌, length, max, Option, None, if◌then◌else◌, codes, option_map}
 use Rattle.std.specs.Str.{bytes_eq}
 use Rattle.tz_cli.specs.Parts.{Text}
-use Rattle.tz_cli.specs.Run.{RunWords, run_behind, run_in, run_names}
+use Rattle.tz_cli.specs.StartWords.{StartWords, start_in, start_names}
+use Rattle.tz_cli.specs.Run.{RunWords, run_behind, run_of, start_of}
 use Rattle.tz_cli.specs.Pair.{PairWords, pair_behind, pair_in, pair_names}
 use Rattle.tz_cli.specs.Asm.{AsmWords, asm_behind, asm_in, asm_names}
 use Rattle.tz_cli.specs.Dis.{DisWords, dis_behind, dis_in, dis_names}
+use Rattle.tz_cli.specs.declared.words.start.Work.{Work}
+use Rattle.tz_cli.specs.declared.words.start.Work.TheVariants.{Trace}
 use Rattle.tz_cli.specs.declared.words.Command.{Command as ReadCommand}
 use Rattle.tz_cli.specs.declared.words.Command.TheVariants as read
 
@@ -16,9 +19,13 @@ pub data Command : Type 0 where
   Asm : AsmWords → Command
   Dis : DisWords → Command
 
+-- what is done with what begins a run
+abbrev pub command_with : StartWords → Work → Command
+command_with words (Trace view) = Run (run_of words view)
+
 -- what the program read, as such a command
 abbrev pub command_in : ReadCommand → Command
-command_in (read.Run words) = Run (run_in words)
+command_in (read.Start words work) = command_with (start_in words) work
 command_in (read.Pair words) = Pair (pair_in words)
 command_in (read.Asm words) = Asm (asm_in words)
 command_in (read.Dis words) = Dis (dis_in words)
@@ -39,7 +46,7 @@ command_of _ = None
 
 -- the names of files, in the order of the words
 abbrev pub names_of : Command → List Text
-names_of (Run r) = run_names r
+names_of (Run r) = start_names (start_of r)
 names_of (Pair p) = pair_names p
 names_of (Asm a) = asm_names a
 names_of (Dis d) = dis_names d

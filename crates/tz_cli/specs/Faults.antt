@@ -1,6 +1,6 @@
--- What a fault of the files says of the outside and of what is settled.
-use Rattle.std.specs.Prelude.{◌≡◌, ℕ, false, List, [], Option, Some, None, IsTrue, codes}
-use Rattle.tz_model.specs.Outside.{Absent, Rose}
+-- What files that were read say of the outside and of what is settled, and so their faults.
+use Rattle.std.specs.Prelude.{◌≡◌, ℕ, ◌≤◌, Bool, List, [], Option, Some, None, Result, Ok, Err, IsTrue, codes}
+use Rattle.tz_model.specs.Outside.{Held, Absent, Rose}
 use Rattle.tz_elf.specs.Images.{Refusal}
 use Rattle.tz_elf.specs.Images as refusals
 use Rattle.tz_board.specs.BoardErrors.{refusal_of}
@@ -17,9 +17,10 @@ use Rattle.tz_asm.specs.declared.error.AsmError.{AsmError}
 use Rattle.tz_asm.specs.declared.error.AsmError.TheVariants as asm_errors
 use Rattle.tz_cli.specs.Lines.{stop_line, status_of}
 use Rattle.tz_cli.specs.Told as stops
-use Rattle.tz_cli.specs.Told.{Stop, Told, Start, PairStart, TooLong, BadBoard, BadImage, BadScript, BadSource, is_demo, is_none_script}
-use Rattle.tz_cli.specs.Reads.{Form, AsBoard, AsImage, AsScript, AsSource, Reading}
-use Rattle.tz_cli.specs.Answer.{Shelved, AllowsStop}
+use Rattle.tz_cli.specs.Told.{Stop, Told, TooLong, BadBoard, BadImage, BadScript, BadSource}
+use Rattle.tz_cli.specs.Reads.{Form, AsBoard, AsImage, AsScript, AsSource, Settled, IsOneOf}
+use Rattle.tz_cli.specs.Starts.{Start, PairStart}
+use Rattle.tz_cli.specs.Answer.{Shelved, Allows, AllowsStop}
 
 -- the refusal that an error tells; want of memory tells none
 abbrev pub image_refusal : ElfError → Option Refusal
@@ -50,27 +51,15 @@ abbrev pub AllowsRefusal : {A E : Type 0} → Told A → (E → Stop) → Option
 AllowsRefusal told stop None = Unit {0}
 AllowsRefusal told stop (Some refusal) = AllowsStop told (stop refusal)
 
--- the file of a name
-abbrev pub IsFile : List ℕ → Form → Reading → Type 0
-IsFile name form file = file ≡ record { name = name; form = form }
-
--- the built-in board is no file, nor is the empty script
-abbrev pub IsBoardFile : List ℕ → Reading → Type 0
-IsBoardFile name file = IsFile name AsBoard file × (is_demo name ≡ false)
-
-abbrev pub IsScriptFile : List ℕ → Reading → Type 0
-IsScriptFile name file = IsFile name AsScript file × (is_none_script name ≡ false)
-
 -- a fault of files: of one that is read
-abbrev pub IsFault : {A : Type 0} → Shelved → (Reading → Type 0) → Told A → LoadError → Type 0
-IsFault s IsRead told (Unread name) =
-    ((form : Form) × IsRead (record { name = name.now; form = form })) × Rose s.before s.now × (IsTrue s.sound → s.held name.now ≡ Absent)
-IsFault s IsRead told (Long name) = ((form : Form) × IsRead (record { name = name.now; form = form })) × AllowsStop told (TooLong name.now)
-IsFault s IsRead told (Board name e) = IsRead (record { name = name.now; form = AsBoard }) × AllowsRefusal told (BadBoard name.now) (refusal_of e)
-IsFault s IsRead told (Image name e) = IsRead (record { name = name.now; form = AsImage }) × AllowsRefusal told (BadImage name.now) (image_refusal e)
-IsFault s IsRead told (Script name e) = IsRead (record { name = name.now; form = AsScript }) × AllowsRefusal told (BadScript name.now) (script_refusal_of e)
-IsFault s IsRead told (Source name e) = IsRead (record { name = name.now; form = AsSource }) × AllowsRefusal told (BadSource name.now) (source_refusal e)
-IsFault s IsRead told Memory = Unit {0}
+abbrev pub IsFault : {A : Type 0} → Shelved → Settled A → LoadError → Type 0
+IsFault s files (Unread name) = ((form : Form) × IsOneOf files.reads (record { name = name.now; form = form })) × Rose s.before s.now × (IsTrue s.sound → s.held name.now ≡ Absent)
+IsFault s files (Long name) = ((form : Form) × IsOneOf files.reads (record { name = name.now; form = form })) × AllowsStop files.told (TooLong name.now)
+IsFault s files (Board name e) = IsOneOf files.reads (record { name = name.now; form = AsBoard }) × AllowsRefusal files.told (BadBoard name.now) (refusal_of e)
+IsFault s files (Image name e) = IsOneOf files.reads (record { name = name.now; form = AsImage }) × AllowsRefusal files.told (BadImage name.now) (image_refusal e)
+IsFault s files (Script name e) = IsOneOf files.reads (record { name = name.now; form = AsScript }) × AllowsRefusal files.told (BadScript name.now) (script_refusal_of e)
+IsFault s files (Source name e) = IsOneOf files.reads (record { name = name.now; form = AsSource }) × AllowsRefusal files.told (BadSource name.now) (source_refusal e)
+IsFault s files Memory = Unit {0}
 
 -- the name that a fault tells; want of memory tells none
 abbrev pub name_told : LoadError → List ℕ
@@ -111,8 +100,40 @@ status_with None = 7
 status_with (Some stop) = status_of stop
 
 -- the files as a start
-abbrev pub start_in : Files → Start
-start_in f = record { board = f.board; secure = f.secure; nonsecure = f.nonsecure; script = f.script }
+abbrev pub start_value : Files → Start
+start_value f = record { board = f.board; secure = f.secure; nonsecure = f.nonsecure; script = f.script }
 
-abbrev pub pair_start_in : PairFiles → PairStart
-pair_start_in f = record { board = f.board; first = f.first; second = f.second; nonsecure = f.nonsecure; script = f.script }
+abbrev pub pair_value : PairFiles → PairStart
+pair_value f = record { board = f.board; first = f.first; second = f.second; nonsecure = f.nonsecure; script = f.script }
+
+-- ---- how files were read
+
+-- how a shelf stands: its word, whether that is sound, and its count of faults
+pub record Standing : Type 0 where
+  pub held : List ℕ → Held
+  pub sound : Bool
+  pub faults : ℕ
+
+abbrev pub standing : {S : Type 0} → (S → List ℕ → Held) → (S → Bool) → (S → ℕ) → S → Standing
+standing held sound faults shelf = record { held = held shelf; sound = sound shelf; faults = faults shelf }
+
+-- the shelf before some files were read, with the counts before and after
+abbrev pub between : Standing → Standing → Shelved
+between old new = record { held = old.held; sound = old.sound; before = old.faults; now = new.faults }
+
+-- the value that was read, where there is one
+abbrev pub read_as : {T A : Type 0} → (T → A) → Result T LoadError → Result A LoadError
+read_as value (Ok x) = Ok (value x)
+read_as value (Err e) = Err e
+
+-- what is settled allows the value, or the fault is one of the files
+abbrev pub IsOfFiles : {A : Type 0} → Shelved → Settled A → Result A LoadError → Type 0
+IsOfFiles s files (Ok x) = Allows files.told x
+IsOfFiles s files (Err e) = IsFault s files e
+
+-- files were read, and the shelf keeps its word
+pub record IsRead {A : Type 0} (old new : Standing) (files : (List ℕ → Held) → Settled A) (result : Result A LoadError) : Type 0 where
+  pub held : new.held ≡ old.held
+  pub sound : new.sound ≡ old.sound
+  pub later : old.faults ≤ new.faults
+  pub answer : IsOfFiles (between old new) (files old.held) result

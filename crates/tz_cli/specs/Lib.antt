@@ -3,6 +3,7 @@ pub mod Leaf
 pub mod Found
 pub mod Counts
 pub mod Choices
+pub mod StartWords
 pub mod Run
 pub mod Pair
 pub mod Asm
@@ -10,7 +11,9 @@ pub mod Dis
 pub mod Commands
 pub mod PairLine
 pub mod Told
-pub mod Lines
 pub mod Reads
+pub mod Starts
+pub mod Tasks
+pub mod Lines
 pub mod Answer
 pub mod Faults

@@ -1,5 +1,6 @@
 -- The lines on standard error, and the statuses that go with them.
-use Rattle.std.specs.Prelude.{ℕ, List, ◌++◌, codes, decimal}
+use Rattle.std.specs.Prelude.{ℕ, List, ◌++◌, codes, decimal, Result, Ok, Err}
+use Rattle.tz_model.specs.declared.outside.SinkError.{SinkError}
 use Rattle.tz_elf.specs.Images.{Refusal, Magic, ClassOrOrder, TypeOrMachine, HeaderCut, SegmentCut, Outside, WrongSide, Hex}
 use Rattle.tz_elf.specs.Images as images
 use Rattle.tz_board.specs.Scripts.{ScriptRefusal, BadLine, OutOfOrder, NoSuchInterrupt}
@@ -79,3 +80,8 @@ status_of (BadBoard name refusal) = 5
 status_of (BadImage name refusal) = 5
 status_of (BadScript name refusal) = 5
 status_of (BadSource name refusal) = 5
+
+-- the status of a text that is put
+abbrev pub put_status : Result Unit SinkError → ℕ
+put_status (Ok done) = 0
+put_status (Err error) = 4

@@ -4,11 +4,11 @@ ghost use Rattle.std.specs.Prelude.{◌≡◌, ◌<◌, ◌≤◌, ◌^◌, IfOk
 ghost use Rattle.tz_model.specs.Outside.{HasCause, Put};
 ghost use Rattle.tz_cli.specs.Asm.{asm_in};
 ghost use Rattle.tz_cli.specs.Commands.{Asm};
-ghost use Rattle.tz_cli.specs.Told.{image_bytes};
+ghost use Rattle.tz_cli.specs.Tasks.{image_bytes};
 ghost use Rattle.tz_cli.specs.Answer.{CommandAnswer, shelved, sunk};
 
 use crate::files::load_assembled;
-use crate::lines::{refuse, refuse_fault};
+use crate::lines::{put_status, refuse, refuse_fault};
 use crate::words::{AsmWords, Form};
 use std::alloc::{AllocError, Global};
 use tz_elf::{write_image, write_plain};
@@ -84,8 +84,5 @@ pub fn asm_files<H: Shelf, O: Sink, E: Sink>(
     let Ok(file) = file_of(alloc, words.form, &image) else {
         return refuse(err, b"no memory\n", 7);
     };
-    match put_file(words.form, &file, out) {
-        Ok(()) => 0,
-        Err(_) => 4,
-    }
+    put_status(put_file(words.form, &file, out))
 }

@@ -29,4 +29,4 @@ pub use output::OutSink;
 pub use process::run_process;
 pub use program::top;
 pub use shelf::{FileShelf, read_to_limit};
-pub use words::{AsmWords, Command, DisWords, Form, PairWords, RunWords, command_words};
+pub use words::{AsmWords, Command, DisWords, Form, PairWords, StartWords, Work, command_words};

@@ -7,7 +7,7 @@ ghost use Rattle.tz_elf.specs.Images.{Refusal};
 ghost use Rattle.tz_board.specs.BoardErrors.{refusal_of, place_of};
 ghost use Rattle.tz_board.specs.ScriptErrors.{script_refusal_of};
 ghost use Rattle.tz_cli.specs.Answer.{IsTold};
-ghost use Rattle.tz_cli.specs.Lines.{board_code, image_code, script_code, source_code, place_text};
+ghost use Rattle.tz_cli.specs.Lines.{board_code, image_code, script_code, source_code, place_text, put_status};
 ghost use Rattle.tz_cli.specs.Faults.{image_refusal, source_refusal, line_with, name_told, status_with, stop_of, code_with};
 
 use crate::stops::LoadError;
@@ -16,7 +16,7 @@ use std::alloc::{AllocError, Global};
 use tz_asm::AsmError;
 use tz_board::{BoardError, Place, ScriptError};
 use tz_elf::ElfError;
-use tz_model::Sink;
+use tz_model::{Sink, SinkError};
 
 /// Appends a text.
 fn push_text(line: &mut Vec<u8>, text: &str) -> Result<(), AllocError>
@@ -213,6 +213,16 @@ fn fault_status(fault: LoadError<'_>) -> u8
         LoadError::Unread(_) => 3,
         LoadError::Long(_) => 6,
         _ => 5,
+    }
+}
+
+/// The status of a text that is put: 0, or 4 where it can't be.
+pub fn put_status(outcome: Result<(), SinkError>) -> u8
+    ensures { result ≡ put_status outcome }
+{
+    match outcome {
+        Ok(()) => 0,
+        Err(_) => 4,
     }
 }
 

@@ -20,8 +20,9 @@ ghost use Rattle.tz_iso.specs.declared.answer.What.{What};
 ghost use Rattle.tz_cli.specs.Pair.{PairWords};
 ghost use Rattle.tz_cli.specs.PairLine.{FirstApart, agree_line, differ_line};
 ghost use Rattle.tz_cli.specs.Commands.{Run, Pair, command_of};
-ghost use Rattle.tz_cli.specs.Told.{Stop, Job, Task, Stops, Gives, IsDone, told, job_told, trace_of, state_of, PairJob, pair_told, first_state, second_state};
-ghost use Rattle.tz_cli.specs.Reads.{reads_of};
+ghost use Rattle.tz_cli.specs.Told.{Stop, Stops, Gives};
+ghost use Rattle.tz_cli.specs.Starts.{state_of, first_state, second_state};
+ghost use Rattle.tz_cli.specs.Tasks.{Job, Task, IsDone, told, reads_of, job_told, trace_of, PairJob, pair_told};
 ghost use Rattle.tz_cli.specs.Lines.{stop_line, status_of};
 ghost use Rattle.tz_cli.specs.Answer.{Answer, shelved, sunk, CutsLine, Excused, GainsFront, IsRefusedBy, IsStatus, IsText, NamesUnread, line_room};
 
@@ -29,7 +30,7 @@ use crate::asm::asm_files;
 use crate::dis::dis_files;
 use crate::lines::refuse;
 use crate::pair::pair_files;
-use crate::run::run_files;
+use crate::run::work_files;
 use crate::words::{Command, command_words};
 use std::alloc::Global;
 use tz_model::{Shelf, Sink};
@@ -124,7 +125,7 @@ fn answer<H: Shelf, O: Sink, E: Sink>(
         Err(_) => return refuse(err, b"no memory\n", 7),
     };
     match command {
-        Command::Run(words) => run_files(alloc, &words, shelf, out, err),
+        Command::Start(words, work) => work_files(alloc, &words, &work, shelf, out, err),
         Command::Pair(words) => pair_files(alloc, &words, shelf, out, err),
         Command::Asm(words) => asm_files(alloc, &words, shelf, out, err),
         Command::Dis(words) => dis_files(alloc, &words, shelf, out, err),

@@ -13,6 +13,7 @@ mod dis;
 mod leaf;
 mod pair;
 mod run;
+mod start;
 
 use crate::words::asm::asm_command;
 use crate::words::dis::dis_command;
@@ -21,14 +22,14 @@ use crate::words::run::run_command;
 pub use asm::{AsmWords, Form};
 pub use dis::DisWords;
 pub use pair::PairWords;
-pub use run::RunWords;
+pub use start::{StartWords, Work};
 use std::alloc::{AllocError, Global};
 
 /// A command with what its words say.
 #[derive(Clone, Copy)]
 pub enum Command<'a> {
-    /// A run of two images on a board.
-    Run(RunWords<'a>),
+    /// A run of two images on a board, and what is done with it.
+    Start(StartWords<'a>, Work),
     /// Two runs beside each other, of two Secure images.
     Pair(PairWords<'a>),
     /// An image from its source.

@@ -1,33 +1,34 @@
 -- Each exit is its answer.
-use Rattle.std.proofs.Common.{◌∙◌, refl, arith, subst, List, ℕ, Ok, Err}
+use Rattle.std.proofs.Common.{◌∙◌, refl, subst, List, ℕ}
 use Rattle.tz_model.specs.Outside.{Put}
 use Rattle.tz_cli.specs.Asm.{asm_in}
-use Rattle.tz_cli.specs.Told.{asm_task}
-use Rattle.tz_cli.specs.Reads.{AsSource}
-use Rattle.tz_cli.specs.Faults.{IsFile}
-use Rattle.tz_cli.proofs.Exits.{gains_nothing, answer_memory, answer_told, answer_put, answer_cut, asm_loads, asm_of_segments, failed_alone}
+use Rattle.tz_cli.specs.Commands.{Asm}
+use Rattle.tz_cli.specs.Told.{Gives}
+use Rattle.tz_cli.specs.Starts.{source_files}
+use Rattle.tz_cli.specs.Tasks.{asm_task, image_bytes}
+use Rattle.tz_cli.proofs.Exits.{gains_nothing, answer_told, answer_task, answer_wanting, told_put}
 use Rattle.tz_cli.proofs.asm.asm_files.Goals as goal
 
 pub returns-in-Err : goal.returns-in-Err
 returns-in-Err g c =
-    answer_told _ (IsFile (asm_in c.args.words.now).source AsSource) _ (asm_loads _ (asm_in c.args.words.now) refl refl) _ c.in-Err.fault
-    (omega arith) c.in-Err.ensures.err (gains_nothing _) c.refuse_fault.ensures
+    let words = asm_in c.args.words.now in
+    answer_told _ (Asm words) (source_files _ words.source) (λ segments. Gives (asm_task words.form segments)) (record { is = refl; room = refl; settles = refl })
+    _ c.in-Err.fault c.in-Err.ensures.files.answer (gains_nothing _) c.refuse_fault.ensures
 
 pub returns-in_default : goal.returns-in_default
-returns-in_default g c = answer_memory _ _ (gains_nothing _) (omega arith) c.refuse.ensures
-
-pub returns-in-Ok-put_file : goal.returns-in-Ok-put_file
-returns-in-Ok-put_file g c =
-    answer_put _ (asm_task c.args.words.now.form c.in-Ok.image.segments) (g.O.Sink.space c.put_file.new.out) refl
-    (asm_of_segments _ (asm_in c.args.words.now) c.in-Ok.image.segments c.in-Ok.ensures.ok)
-    (subst (λ (bs : List ℕ). Put (g.O.Sink.written c.args.out.now) (g.O.Sink.written c.put_file.new.out) (g.O.Sink.space c.args.out.now) (g.O.Sink.space c.put_file.new.out) bs (Ok c.in-Ok-put_file.field-0))
-    (c.deref.ensures.value ∙ c.in-Ok-file_of.ensures) c.in-Ok-put_file.ensures.put)
-    refl
+returns-in_default g c =
+    let words = asm_in c.args.words.now in
+    answer_wanting _ (Asm words) (source_files _ words.source) (λ segments. Gives (asm_task words.form segments)) (record { is = refl; room = refl; settles = refl })
+    _ (gains_nothing _) c.refuse.ensures
 
 pub returns : goal.returns
 returns g c =
-    answer_cut _ (asm_task c.args.words.now.form c.in-Ok.image.segments) (g.O.Sink.space c.put_file.new.out) c.in-Err-put_file.field-0
-    (asm_of_segments _ (asm_in c.args.words.now) c.in-Ok.image.segments c.in-Ok.ensures.ok)
-    (subst (λ (bs : List ℕ). Put (g.O.Sink.written c.args.out.now) (g.O.Sink.written c.put_file.new.out) (g.O.Sink.space c.args.out.now) (g.O.Sink.space c.put_file.new.out) bs (Err c.in-Err-put_file.field-0))
-    (c.deref.ensures.value ∙ c.in-Ok-file_of.ensures) c.in-Err-put_file.ensures.put)
-    (c.in-Err-put_file.ensures.cause.failed (failed_alone c.in-Err-put_file.field-0)) refl
+    let words = asm_in c.args.words.now in
+    let segments = c.in-Ok.image.segments in
+    answer_task _ (Asm words) (source_files _ words.source) (λ segments. Gives (asm_task words.form segments)) (record { is = refl; room = refl; settles = refl })
+    _ segments (asm_task words.form segments) refl c.in-Ok.ensures.files.answer refl
+    (told_put _ _ _ (g.O.Sink.space c.put_file.new.out) (image_bytes words.form segments) _ _ c.put_file.result _ c.put_status.ensures
+    (subst (λ (bs : List ℕ). Put (g.O.Sink.written c.args.out.now) (g.O.Sink.written c.put_file.new.out) (g.O.Sink.space c.args.out.now) (g.O.Sink.space c.put_file.new.out) bs c.put_file.result)
+    (c.deref.ensures.value ∙ c.in-Ok-file_of.ensures) c.put_file.ensures.put)
+    c.put_file.ensures.cause)
+    refl

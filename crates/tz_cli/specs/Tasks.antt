@@ -1,0 +1,114 @@
+-- What the words and a shelf's word settle of a command: that it stops, and why, or what it does.
+use Rattle.std.specs.Prelude.{◌≡◌, ◌⊎◌, ℕ, List, [], Option, Some, None}
+use Rattle.tz_model.specs.Image.{ImageValue, SegmentValue}
+use Rattle.tz_model.specs.Outside.{Held}
+use Rattle.tz_twin.specs.Trace.{text_from}
+use Rattle.tz_iso.specs.declared.answer.What.{What}
+use Rattle.tz_iso.specs.Runs.{difference}
+use Rattle.tz_run.specs.Events.{events_of}
+use Rattle.tz_text.specs.Text.{dis_text}
+use Rattle.tz_elf.specs.PlainImage.{plain_text}
+use Rattle.tz_elf.specs.ElfImage.{elf_bytes}
+use Rattle.tz_cli.specs.StartWords.{StartWords}
+use Rattle.tz_cli.specs.Run.{RunWords, run_of, start_of}
+use Rattle.tz_cli.specs.Pair.{PairWords}
+use Rattle.tz_cli.specs.PairLine.{pair_line, pair_status}
+use Rattle.tz_cli.specs.Commands.{Command, Run, Pair, Asm, Dis}
+use Rattle.tz_cli.specs.Told.{Stop, BadWords, Told, Stops, Gives}
+use Rattle.tz_cli.specs.Reads.{Reading, Settled, settling, within_limit}
+use Rattle.tz_cli.specs.Starts.{Start, PairStart, start_files, state_of, pair_start_files, first_state, second_state, source_files, listed_files}
+use Rattle.tz_cli.specs.declared.words.start.Work.{Work}
+use Rattle.tz_cli.specs.declared.words.start.Work.TheVariants.{Trace}
+use Rattle.tz_cli.specs.declared.words.asm.Form.{Form}
+use Rattle.tz_cli.specs.declared.words.asm.Form.TheVariants.{Hex, Elf}
+
+-- ---- runs
+
+-- a run with what it begins with
+pub record Job : Type 0 where
+  pub words : RunWords
+  pub start : Start
+
+-- the limit of steps is tested before any file is read
+abbrev pub job_files : (List ℕ → Held) → RunWords → Settled Job
+job_files held r = settling (λ start. Gives (record { words = r; start = start })) (within_limit r.steps (start_files held (start_of r)))
+
+abbrev pub job_told : (List ℕ → Held) → RunWords → Told Job
+job_told held r = (job_files held r).told
+
+-- the trace of a run
+abbrev pub trace_of : Job → List ℕ
+trace_of job = text_from job.words.view (events_of job.start.script) 0 (state_of job.start) job.words.steps
+
+-- a pair with what it begins with
+pub record PairJob : Type 0 where
+  pub words : PairWords
+  pub start : PairStart
+
+-- here, too, the limit of steps is tested before any file is read
+abbrev pub pair_job_files : (List ℕ → Held) → PairWords → Settled PairJob
+pair_job_files held p = settling (λ start. Gives (record { words = p; start = start })) (within_limit p.steps (pair_start_files held p))
+
+abbrev pub pair_told : (List ℕ → Held) → PairWords → Told PairJob
+pair_told held p = (pair_job_files held p).told
+
+-- where the two runs first disagree, and in what
+abbrev pub difference_of : PairJob → Option (ℕ × What)
+difference_of job = difference (events_of job.start.script) 0 (first_state job.start) (second_state job.start) job.words.steps
+
+-- ---- tasks
+
+-- what a command does: the text on standard output, and the status once all of it is written
+pub record Task : Type 0 where
+  pub text : List ℕ
+  pub status : ℕ
+
+-- a run writes its trace
+abbrev pub run_task : Job → Task
+run_task job = record { text = trace_of job; status = 0 }
+
+-- a pair writes whether its runs agree, and where they first disagree
+abbrev pub pair_task : PairJob → Task
+pair_task job = record { text = pair_line job.words.steps (difference_of job); status = pair_status (difference_of job) }
+
+-- an assembly writes the image of its segments in a form
+abbrev pub image_bytes : Form → List SegmentValue → List ℕ
+image_bytes Hex segments = plain_text segments
+image_bytes Elf segments = elf_bytes segments
+
+abbrev pub asm_task : Form → List SegmentValue → Task
+asm_task form segments = record { text = image_bytes form segments; status = 0 }
+
+-- a disassembly writes the lines of its image
+abbrev pub dis_task : ImageValue → Task
+dis_task image = record { text = dis_text image; status = 0 }
+
+-- what is done with what begins a run
+abbrev pub work_task : Work → StartWords → Start → Task
+work_task (Trace view) words start = run_task (record { words = run_of words view; start = start })
+
+-- ---- commands
+
+-- the files of a command and what they settle; words that are refused have none
+abbrev pub files_of : (List ℕ → Held) → Option Command → Settled Task
+files_of held None = record { told = Stops BadWords; reads = [] }
+files_of held (Some (Run r)) = settling (λ job. Gives (run_task job)) (job_files held r)
+files_of held (Some (Pair p)) = settling (λ job. Gives (pair_task job)) (pair_job_files held p)
+files_of held (Some (Asm a)) = settling (λ segments. Gives (asm_task a.form segments)) (source_files held a.source)
+files_of held (Some (Dis d)) = settling (λ image. Gives (dis_task image)) (listed_files held d)
+
+-- what is settled of a command, or of words that are refused
+abbrev pub told : (List ℕ → Held) → Option Command → Told Task
+told held command = (files_of held command).told
+
+-- the files that it reads
+abbrev pub reads_of : (List ℕ → Held) → Option Command → List Reading
+reads_of held command = (files_of held command).reads
+
+-- the statuses of a command whose work is done
+abbrev pub IsDone : Option Command → ℕ → Type 0
+IsDone None status = ⊥
+IsDone (Some (Run r)) status = status ≡ 0
+IsDone (Some (Pair p)) status = (status ≡ 0) ⊎ (status ≡ 1)
+IsDone (Some (Asm a)) status = status ≡ 0
+IsDone (Some (Dis d)) status = status ≡ 0
