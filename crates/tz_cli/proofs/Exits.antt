@@ -10,24 +10,25 @@ use Rattle.tz_sem.specs.Run.{Events}
 use Rattle.tz_iso.specs.declared.answer.What.{What}
 use Rattle.tz_iso.specs.Runs.{PairValue, difference}
 use Rattle.tz_cli.specs.StartWords.{StartWords}
+use Rattle.tz_cli.specs.Resume.{ResumeWords}
 use Rattle.tz_cli.specs.Pair.{PairWords}
 use Rattle.tz_cli.specs.PairLine.{is_agreed, pair_line, pair_status}
 use Rattle.tz_cli.specs.declared.words.start.Work.{Work}
-use Rattle.tz_cli.specs.declared.words.start.Work.TheVariants.{Trace}
-use Rattle.tz_cli.specs.Commands.{Command, Run, Pair, command_of, command_with, longest, names_of}
+use Rattle.tz_cli.specs.declared.words.start.Work.TheVariants as works
+use Rattle.tz_cli.specs.Commands.{Command, Run, Pair, Resume, command_of, command_with, longest, names_of}
 use Rattle.tz_cli.specs.declared.stops.LoadError.{LoadError}
-use Rattle.tz_cli.specs.declared.stops.LoadError.TheVariants.{Unread, Long, Board, Image, Script, Source, Memory}
-use Rattle.tz_cli.specs.Told.{Stop, BadWords, TooManySteps, TooLong, BadBoard, BadImage, BadScript, BadSource, Told, Gives, told_then, step_limit}
+use Rattle.tz_cli.specs.declared.stops.LoadError.TheVariants.{Unread, Long, Board, Image, State, Script, Source, Memory}
+use Rattle.tz_cli.specs.Told.{Stop, BadWords, TooManySteps, TooLong, BadBoard, BadImage, BadState, BadScript, BadSource, TooFar, Told, Stops, Gives, told_then, step_limit}
 use Rattle.tz_cli.specs.Told as stops
-use Rattle.tz_cli.specs.Reads.{AsBoard, AsImage, AsScript, AsSource, Reading, Settled, settling, within_limit, IsOneOf}
-use Rattle.tz_cli.specs.Starts.{Start, PairStart, start_files, pair_start_files}
-use Rattle.tz_cli.specs.Tasks.{Task, PairJob, pair_task, work_task, told, reads_of, files_of, IsDone, difference_of}
+use Rattle.tz_cli.specs.Reads.{AsBoard, AsImage, AsState, AsScript, AsSource, Reading, Settled, goes_on, read_where, settling, within_limit, IsOneOf}
+use Rattle.tz_cli.specs.Starts.{Start, PairStart, SavedStart, board_files, start_files, kept_files, saved_files, pair_start_files}
+use Rattle.tz_cli.specs.Tasks.{Task, PairJob, pair_task, resumed_text, resume_next, work_task, told, reads_of, files_of, IsDone, difference_of}
 use Rattle.tz_cli.specs.Lines.{stop_line, status_of, put_status}
 use Rattle.tz_cli.specs.Answer.{Allows, AllowsStop, Shelved, IsSettled, IsCaused, IsLine, Call, told_of, GainsFront, Exceeds, IsTold, Answer, Done, Broken, Stopped, Wanting, Silent}
-use Rattle.tz_cli.specs.Faults.{AllowsRefusal, IsFault, Standing, between, IsRead, image_refusal, source_refusal, name_told, stop_of, stop_with, line_with, status_with}
+use Rattle.tz_cli.specs.Faults.{AllowsRefusal, IsFault, Standing, between, IsRead, image_refusal, state_refusal, source_refusal, name_told, stop_of, stop_with, line_with, status_with}
 use Rattle.tz_cli.proofs.FileNames.{names_of-longest}
 use Rattle.tz_cli.proofs.Reached.{sure_command}
-use Rattle.tz_cli.proofs.Settling.{then_stop, then_allows, allows_given, settling_twice, limit_kept, limit_passed}
+use Rattle.tz_cli.proofs.Settling.{then_stop, after_stop, then_allows, allows_given, allowed_goes, goes_first, read_here, settling_twice, limit_kept, limit_passed, one_of_first, one_of_second, past, fits}
 
 pub gains_nothing : (w : Option (List ℕ)) → Gains w w []
 gains_nothing None = refl
@@ -136,6 +137,9 @@ module _ {A : Type 0} (c : Call) (command : Command) (files : Settled A) (next :
   answer_fault result (Image name error) told quiet short h =
       answer_refusal result (BadImage name.now) (image_refusal error)
       (λ x stop. (is_stopped (BadImage name.now x) stop, is_read (record { name = name.now; form = AsImage }) told.0)) told.1 quiet short h
+  answer_fault result (State name error) told quiet short h =
+      answer_refusal result (BadState name.now) (state_refusal error)
+      (λ x stop. (is_stopped (BadState name.now x) stop, is_read (record { name = name.now; form = AsState }) told.0)) told.1 quiet short h
   answer_fault result (Script name error) told quiet short h =
       answer_refusal result (BadScript name.now) (script_refusal_of error)
       (λ x stop. (is_stopped (BadScript name.now x) stop, is_read (record { name = name.now; form = AsScript }) told.0)) told.1 quiet short h
@@ -150,6 +154,7 @@ module _ {A : Type 0} (c : Call) (command : Command) (files : Settled A) (next :
   name_fits (Long name) told = name_within (record { name = name.now; form = told.0.0 }) told.0.1
   name_fits (Board name error) told = name_within (record { name = name.now; form = AsBoard }) told.0
   name_fits (Image name error) told = name_within (record { name = name.now; form = AsImage }) told.0
+  name_fits (State name error) told = name_within (record { name = name.now; form = AsState }) told.0
   name_fits (Script name error) told = name_within (record { name = name.now; form = AsScript }) told.0
   name_fits (Source name error) told = name_within (record { name = name.now; form = AsSource }) told.0
   name_fits Memory told = enough
@@ -164,6 +169,16 @@ module _ {A : Type 0} (c : Call) (command : Command) (files : Settled A) (next :
       let name = name_fits fault told in
       answer_fault result fault told quiet (omega (arith, short, name)) h.1
   answer_told result fault told quiet (inr h) = answer_wanting result quiet h
+
+  -- what the files give stops the command, by a file that is read
+  pub answer_late : (result : ℕ) (x : A) (name : List ℕ) → Allows files.told x → next x ≡ Stops (TooFar name) → IsOneOf files.reads (record { name = name; form = AsState })
+      → Gains c.out.old c.out.new [] → IsRefused c result (codes "limit steps\n") 6 → Answer c result
+  answer_late result x name allowed e read quiet h =
+      let stops : AllowsStop (told_then files.told next) (TooFar name) =
+      after_stop files.told next x (TooFar name) allowed tt (subst (λ t. AllowsStop t (TooFar name)) (sym e) refl) in
+      let stopped : AllowsStop (told c.shelf.held (Some command)) (TooFar name) = subst (λ (y : Settled Task). AllowsStop y.told (TooFar name)) (sym comes.settles) stops in
+      let room = comes.room in
+      answer_settled result (TooFar name) (stopped, is_read (record { name = name; form = AsState }) read) quiet (omega (arith, room)) h
 
   -- a task whose text is told is answered by its status
   pub answer_task : (result : ℕ) (x : A) (task : Task) → IsDone (Some command) task.status → Allows files.told x → next x ≡ Gives task
@@ -220,14 +235,39 @@ work_next work words start = Gives (work_task work words start)
 
 work_settles : (held : List ℕ → Held) (words : StartWords) (work : Work)
     → files_of held (Some (command_with words work)) ≡ settling (work_next work words) (within_limit words.steps (start_files held words))
-work_settles held words (Trace view) = settling_twice _ _ (within_limit words.steps (start_files held words))
+work_settles held words (works.Trace view) = settling_twice _ _ (within_limit words.steps (start_files held words))
+work_settles held words works.Gates = refl
+work_settles held words works.Save = refl
 
 pub work_comes : (c : Call) (words : StartWords) (work : Work) → c.command ≡ Some (command_with words work) → c.room ≡ 64 + longest (names_of (command_with words work))
     → Comes c (command_with words work) (within_limit words.steps (start_files c.shelf.held words)) (work_next work words)
 work_comes c words work is room = record { is = is; room = room; settles = work_settles c.shelf.held words work }
 
 pub work_done : (words : StartWords) (work : Work) (start : Start) → IsDone (Some (command_with words work)) (work_task work words start).status
-work_done words (Trace view) start = refl
+work_done words (works.Trace view) start = refl
+work_done words works.Gates start = refl
+work_done words works.Save start = refl
+
+-- ---- a run that goes on
+
+pub resume_comes : (c : Call) (w : ResumeWords) → c.command ≡ Some (Resume w) → c.room ≡ 64 + longest (names_of (Resume w))
+    → Comes c (Resume w) (within_limit w.steps (saved_files c.shelf.held w)) (resume_next w)
+resume_comes c w is room = record { is = is; room = room; settles = refl }
+
+-- the steps are too many, or not
+pub resume_stops : (w : ResumeWords) (start : SavedStart) → step_limit < start.step + w.steps → resume_next w start ≡ Stops (TooFar w.state)
+resume_stops w start l = ap (λ (b : Bool). cond {A = Told Task} b (Stops (TooFar w.state)) (Gives (record { text = resumed_text w start; status = 0 }))) (past step_limit (start.step + w.steps) l)
+
+pub resume_gives : (w : ResumeWords) (start : SavedStart) → start.step + w.steps ≤ step_limit → resume_next w start ≡ Gives (record { text = resumed_text w start; status = 0 })
+resume_gives w start l = ap (λ (b : Bool). cond {A = Told Task} b (Stops (TooFar w.state)) (Gives (record { text = resumed_text w start; status = 0 }))) (fits step_limit (start.step + w.steps) l)
+
+-- the file of the state is read where the files are accepted
+pub state_read : (held : List ℕ → Held) (w : ResumeWords) (start : SavedStart) → Allows (saved_files held w).told start → IsOneOf (saved_files held w).reads (record { name = w.state; form = AsState })
+state_read held w start allowed =
+    let file : Reading = record { name = w.state; form = AsState } in
+    let board = board_files held w.board in
+    let goes : goes_on board.told ≡ true = goes_first board.told _ (allowed_goes (kept_files held w).told _ start allowed) in
+    one_of_first (kept_files held w).reads _ file (one_of_second board.reads (read_where (goes_on board.told) file) file (read_here (goes_on board.told) file goes))
 
 -- ---- the pair
 

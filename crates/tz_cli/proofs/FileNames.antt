@@ -6,13 +6,14 @@ use Rattle.tz_table.specs.declared.units.Side.{Side}
 use Rattle.tz_model.specs.declared.report.View.{View}
 use Rattle.tz_cli.specs.Parts.{Text, Look, EndsOptions, Named, NamedWith, Refused, Positional, look_of, Parts, Next, AnyWord, ItsValue, parts_by, parts_of, with_positional, with_value}
 use Rattle.tz_cli.specs.Counts.{count_of}
-use Rattle.tz_cli.specs.StartWords.{StartWords, start_names, start_with}
+use Rattle.tz_cli.specs.StartWords.{StartWords, bare_with, start_behind, start_names, start_parts, start_with}
 use Rattle.tz_cli.specs.Run.{RunWords, run_behind, run_of, run_parts, run_with, start_of, view_of}
+use Rattle.tz_cli.specs.Resume.{ResumeWords, resume_behind, resume_names, resume_parts, resume_with}
 use Rattle.tz_cli.specs.Pair.{PairWords, pair_behind, pair_names, pair_parts, pair_with}
 use Rattle.tz_cli.specs.Asm.{AsmWords, asm_behind, asm_names, asm_parts, asm_with, form_of}
 use Rattle.tz_cli.specs.declared.words.asm.Form.{Form}
 use Rattle.tz_cli.specs.Dis.{DisWords, dis_behind, dis_names, dis_parts, dis_with, side_named}
-use Rattle.tz_cli.specs.Commands.{Command, Run, Pair, Asm, Dis, command_behind, command_of, longest, names_of}
+use Rattle.tz_cli.specs.Commands.{Command, Run, Pair, Asm, Dis, Gates, Snap, Resume, command_behind, command_of, longest, names_of}
 
 -- no positional word is longer than a bound
 abbrev pub Within : ℕ → Option Parts → Type 0
@@ -83,6 +84,21 @@ run_in : (view : Option View) (words : List Text) (r : RunWords) → run_with vi
 run_in None words r e = absurd (cc)
 run_in (Some view) words r e = mapped_within start_names (λ (x : RunWords). start_names (start_of x)) (longest words) (λ s. run_of s view) (start_with words) r (λ s. refl) (start_in words) e
 
+bare_in : (values words : List Text) (s : StartWords) → bare_with values words ≡ Some s → longest (start_names s) ≤ longest words
+bare_in [] words s e = start_in words s e
+bare_in (v ∷ values) words s e = absurd (cc)
+
+-- so are those of a run that goes on
+resume_in : (view : Option View) (words : List Text) (w : ResumeWords) → resume_with view words ≡ Some w → longest (resume_names w) ≤ longest words
+resume_in None words w e = absurd (cc)
+resume_in (Some view) [] w e = absurd (cc)
+resume_in (Some view) (a ∷ []) w e = absurd (cc)
+resume_in (Some view) (a ∷ b ∷ []) w e = absurd (cc)
+resume_in (Some view) (a ∷ b ∷ c ∷ []) w e = absurd (cc)
+resume_in (Some view) (a ∷ b ∷ c ∷ d ∷ x ∷ more) w e = absurd (cc)
+resume_in (Some view) (a ∷ b ∷ c ∷ d ∷ []) w e =
+    mapped_within (λ (n : ℕ). a ∷ b ∷ c ∷ []) resume_names (longest (a ∷ b ∷ c ∷ d ∷ [])) _ (count_of d) w (λ n. refl) (λ n h. omega arith) e
+
 -- so are those of a pair
 pair_in : (values words : List Text) (p : PairWords) → pair_with values words ≡ Some p → longest (pair_names p) ≤ longest words
 pair_in (v ∷ values) words p e = absurd (cc)
@@ -133,9 +149,16 @@ names_command name words command =
     (mapped_within pair_names names_of n Pair (pair_behind words) command (λ p. refl) (behind_within pair_names [] pair_parts (λ p. pair_in p.values p.positionals) words))
     (either (bytes_eq name (codes "asm")) (option_map Asm (asm_behind words)) _ command n
     (mapped_within asm_names names_of n Asm (asm_behind words) command (λ a. refl) (behind_within asm_names (codes "form") asm_parts (λ p. asm_in (form_of p.values) p.positionals) words))
-    (either (bytes_eq name (codes "dis")) (option_map Dis (dis_behind words)) None command n
+    (either (bytes_eq name (codes "dis")) (option_map Dis (dis_behind words)) _ command n
     (mapped_within dis_names names_of n Dis (dis_behind words) command (λ d. refl) (behind_within dis_names [] dis_parts (λ p. dis_in p.values p.positionals) words))
-    (λ e. absurd (cc e)))))
+    (either (bytes_eq name (codes "gates")) (option_map Gates (start_behind words)) _ command n
+    (mapped_within start_names names_of n Gates (start_behind words) command (λ s. refl) (behind_within start_names [] start_parts (λ p. bare_in p.values p.positionals) words))
+    (either (bytes_eq name (codes "snap")) (option_map Snap (start_behind words)) _ command n
+    (mapped_within start_names names_of n Snap (start_behind words) command (λ s. refl) (behind_within start_names [] start_parts (λ p. bare_in p.values p.positionals) words))
+    (either (bytes_eq name (codes "resume")) (option_map Resume (resume_behind words)) None command n
+    (mapped_within resume_names names_of n Resume (resume_behind words) command (λ w. refl)
+    (behind_within resume_names (codes "view") resume_parts (λ p. resume_in (view_of p.values) p.positionals) words))
+    (λ e. absurd (cc e))))))))
 
 -- a command's names are among the words
 pub names_of-longest : (words : List Text) (command : Command) → command_of words ≡ Some command → longest (names_of command) ≤ longest words

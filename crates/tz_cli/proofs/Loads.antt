@@ -5,13 +5,15 @@ use Rattle.tz_model.specs.Board.{BoardValue}
 use Rattle.tz_model.specs.Image.{ImageValue}
 use Rattle.tz_model.specs.Outside.{Held}
 use Rattle.tz_board.specs.Scripts.{Timed}
+use Rattle.tz_snap.specs.StateFile.{SavedState}
 use Rattle.tz_cli.specs.StartWords.{StartWords}
 use Rattle.tz_cli.specs.Pair.{PairWords}
 use Rattle.tz_cli.specs.Dis.{DisWords}
+use Rattle.tz_cli.specs.Resume.{ResumeWords}
 use Rattle.tz_cli.specs.declared.stops.LoadError.{LoadError}
-use Rattle.tz_cli.specs.Told.{is_none_script, image_told, script_told}
-use Rattle.tz_cli.specs.Reads.{AsImage, AsScript, Reading}
-use Rattle.tz_cli.specs.Starts.{Start, PairStart, no_image, board_files, image_files, script_files, secure_files, nonsecure_files, start_files, first_files, second_files, third_files, pair_start_files, listed_files}
+use Rattle.tz_cli.specs.Told.{is_none_script, image_told, state_told, script_told}
+use Rattle.tz_cli.specs.Reads.{AsImage, AsState, AsScript, Reading}
+use Rattle.tz_cli.specs.Starts.{Start, PairStart, SavedStart, no_image, board_files, image_files, state_files, script_files, secure_files, nonsecure_files, start_files, kept_files, saved_files, first_files, second_files, third_files, pair_start_files, listed_files}
 use Rattle.tz_cli.specs.Faults.{Standing, IsRead}
 use Rattle.tz_cli.proofs.Stages.{first_failed, next_failed, both_read}
 
@@ -89,6 +91,28 @@ module _ (a b c : Standing) (p : PairWords) where
 
   pub events_with : (x : PairStart) (n : ℕ) (y : List Timed) → n ≡ x.board.interrupts → IsRead a b (λ held. third_files held p) (Ok x) → IsRead b c (λ held. script_files held n p.script) (Ok y) → IsRead a c (λ held. pair_start_files held p) (Ok (record x { script = y }))
   events_with x n y many h k = both_read a b (λ held. third_files held p) (not (is_none_script p.script)) (record { name = p.script; form = AsScript }) (λ held x. script_told held x.board.interrupts p.script) (λ x y. record x { script = y }) c x h y (script_for b c n x.board.interrupts p.script (Ok y) many k)
+
+-- ---- a run that goes on
+
+module _ (a b : Standing) (w : ResumeWords) where
+  pub kept_before : (e : LoadError) → IsRead a b (λ held. board_files held w.board) (Err e) → IsRead a b (λ held. kept_files held w) (Err e)
+  kept_before e h = first_failed a b (λ held. board_files held w.board) true (record { name = w.state; form = AsState }) (λ held x. state_told held x w.state) (λ x y. record { board = x; state = y.state; step = y.step; script = [] }) e h
+
+  pub saved_before : (e : LoadError) → IsRead a b (λ held. kept_files held w) (Err e) → IsRead a b (λ held. saved_files held w) (Err e)
+  saved_before e h = first_failed a b (λ held. kept_files held w) (not (is_none_script w.script)) (record { name = w.script; form = AsScript }) (λ held x. script_told held x.board.interrupts w.script) (λ x y. record x { script = y }) e h
+
+module _ (a b c : Standing) (w : ResumeWords) where
+  pub kept_fault : (x : BoardValue) (e : LoadError) → IsRead a b (λ held. board_files held w.board) (Ok x) → IsRead b c (λ held. state_files held x w.state) (Err e) → IsRead a c (λ held. kept_files held w) (Err e)
+  kept_fault x e h k = next_failed a b (λ held. board_files held w.board) true (record { name = w.state; form = AsState }) (λ held x. state_told held x w.state) (λ x y. record { board = x; state = y.state; step = y.step; script = [] }) c x h e k
+
+  pub kept_with : (x : BoardValue) (y : SavedState) → IsRead a b (λ held. board_files held w.board) (Ok x) → IsRead b c (λ held. state_files held x w.state) (Ok y) → IsRead a c (λ held. kept_files held w) (Ok (record { board = x; state = y.state; step = y.step; script = [] }))
+  kept_with x y h k = both_read a b (λ held. board_files held w.board) true (record { name = w.state; form = AsState }) (λ held x. state_told held x w.state) (λ x y. record { board = x; state = y.state; step = y.step; script = [] }) c x h y k
+
+  pub saved_fault : (x : SavedStart) (n : ℕ) (e : LoadError) → n ≡ x.board.interrupts → IsRead a b (λ held. kept_files held w) (Ok x) → IsRead b c (λ held. script_files held n w.script) (Err e) → IsRead a c (λ held. saved_files held w) (Err e)
+  saved_fault x n e many h k = next_failed a b (λ held. kept_files held w) (not (is_none_script w.script)) (record { name = w.script; form = AsScript }) (λ held x. script_told held x.board.interrupts w.script) (λ x y. record x { script = y }) c x h e (script_for b c n x.board.interrupts w.script (Err e) many k)
+
+  pub saved_with : (x : SavedStart) (n : ℕ) (y : List Timed) → n ≡ x.board.interrupts → IsRead a b (λ held. kept_files held w) (Ok x) → IsRead b c (λ held. script_files held n w.script) (Ok y) → IsRead a c (λ held. saved_files held w) (Ok (record x { script = y }))
+  saved_with x n y many h k = both_read a b (λ held. kept_files held w) (not (is_none_script w.script)) (record { name = w.script; form = AsScript }) (λ held x. script_told held x.board.interrupts w.script) (λ x y. record x { script = y }) c x h y (script_for b c n x.board.interrupts w.script (Ok y) many k)
 
 -- ---- a disassembly
 

@@ -7,13 +7,14 @@ use Rattle.tz_model.specs.Board.{BoardValue}
 use Rattle.tz_model.specs.Outside.{Held, Absent}
 use Rattle.tz_cli.specs.StartWords.{StartWords, start_names}
 use Rattle.tz_cli.specs.Run.{start_of}
+use Rattle.tz_cli.specs.Resume.{ResumeWords, resume_names}
 use Rattle.tz_cli.specs.Pair.{PairWords, pair_names}
 use Rattle.tz_cli.specs.Asm.{AsmWords, asm_names}
 use Rattle.tz_cli.specs.Dis.{DisWords, dis_names}
-use Rattle.tz_cli.specs.Commands.{Command, Run, Pair, Asm, Dis, longest, names_of}
-use Rattle.tz_cli.specs.Told.{Stop, TooManySteps, Unread, Told, Unknown, Stops, Gives, told_then, is_demo, is_none_script, board_told, board_file, image_told, script_told, script_file, source_told, step_limit}
+use Rattle.tz_cli.specs.Commands.{Command, Run, Pair, Asm, Dis, Gates, Snap, Resume, longest, names_of}
+use Rattle.tz_cli.specs.Told.{Stop, TooManySteps, Unread, Told, Unknown, Stops, Gives, told_then, is_demo, is_none_script, board_told, board_file, image_told, state_told, script_told, script_file, source_told, step_limit}
 use Rattle.tz_cli.specs.Reads.{Reading, Settled, goes_on, read_where, one_file, and_file, settling, within_limit, IsOneOf}
-use Rattle.tz_cli.specs.Starts.{board_files, source_files, start_files, pair_start_files, listed_files}
+use Rattle.tz_cli.specs.Starts.{board_files, source_files, start_files, saved_files, pair_start_files, listed_files}
 use Rattle.tz_cli.specs.Tasks.{told, reads_of, files_of}
 use Rattle.tz_cli.proofs.Settling.{by_part, read_where_is}
 
@@ -56,6 +57,10 @@ absent_image : (held : List ℕ → Held) (b : BoardValue) (side : Side) (name :
 unfolding image_told
 absent_image held b side name e = rw e refl
 
+absent_state : (held : List ℕ → Held) (b : BoardValue) (name : List ℕ) → held name ≡ Absent → state_told held b name ≡ Stops (Unread name)
+unfolding state_told
+absent_state held b name e = rw e refl
+
 absent_script : (held : List ℕ → Held) (interrupts : ℕ) (name : List ℕ) → held name ≡ Absent → is_none_script name ≡ false → script_told held interrupts name ≡ Stops (Unread name)
 unfolding script_told script_file
 absent_script held interrupts name e named = rw (named, e) refl
@@ -69,6 +74,9 @@ never_board held name is gone = never_stops (board_told held name) (Unread name)
 
 never_image : (held : List ℕ → Held) (b : BoardValue) (side : Side) (name : List ℕ) → held name ≡ Absent → NeverGives (image_told held b side name)
 never_image held b side name gone = never_stops (image_told held b side name) (Unread name) (absent_image held b side name gone)
+
+never_state : (held : List ℕ → Held) (b : BoardValue) (name : List ℕ) → held name ≡ Absent → NeverGives (state_told held b name)
+never_state held b name gone = never_stops (state_told held b name) (Unread name) (absent_state held b name gone)
 
 never_script : (held : List ℕ → Held) (interrupts : ℕ) (name : List ℕ) → not (is_none_script name) ≡ true → held name ≡ Absent → NeverGives (script_told held interrupts name)
 never_script held interrupts name is gone =
@@ -130,6 +138,13 @@ module _ (held : List ℕ → Held) where
       (omega arith) (λ is gone s. never_image held s.board _ w.nonsecure gone))
       (omega arith) (λ is gone s. never_script held s.board.interrupts w.script is gone)
 
+  sure_saved : (w : ResumeWords) → IsSure held (longest (resume_names w)) (saved_files held w)
+  sure_saved w =
+      let n = longest (resume_names w) in
+      sure_and held n _ (not (is_none_script w.script)) _ _ _
+      (sure_and held n _ true _ _ _ (sure_board n w.board (omega arith)) (omega arith) (λ is gone b. never_state held b w.state gone))
+      (omega arith) (λ is gone s. never_script held s.board.interrupts w.script is gone)
+
   sure_pair : (p : PairWords) → IsSure held (longest (pair_names p)) (pair_start_files held p)
   sure_pair p =
       let n = longest (pair_names p) in
@@ -149,15 +164,23 @@ module _ (held : List ℕ → Held) where
       let n = longest (dis_names d) in
       sure_and held n _ true _ _ _ (sure_board n d.board (omega arith)) (omega arith) (λ is gone b. never_image held b d.side d.image gone)
 
+  sure_begun : (w : StartWords) → IsSure held (longest (start_names w)) (within_limit w.steps (start_files held w))
+  sure_begun w = sure_limited held (longest (start_names w)) (nat_lt step_limit w.steps) _ (sure_start w)
+
   pub sure_command : (command : Command) → IsSure held (longest (names_of command)) (files_of held (Some command))
   sure_command (Run r) =
       let n = longest (start_names (start_of r)) in
-      sure_settling held n _ _ (sure_settling held n _ _ (sure_limited held n (nat_lt step_limit r.steps) _ (sure_start (start_of r))))
+      sure_settling held n _ _ (sure_settling held n _ _ (sure_begun (start_of r)))
   sure_command (Pair p) =
       let n = longest (pair_names p) in
       sure_settling held n _ _ (sure_settling held n _ _ (sure_limited held n (nat_lt step_limit p.steps) _ (sure_pair p)))
   sure_command (Asm a) = sure_settling held (longest (asm_names a)) _ _ (sure_source a)
   sure_command (Dis d) = sure_settling held (longest (dis_names d)) _ _ (sure_listed d)
+  sure_command (Gates s) = sure_settling held (longest (start_names s)) _ _ (sure_begun s)
+  sure_command (Snap s) = sure_settling held (longest (start_names s)) _ _ (sure_begun s)
+  sure_command (Resume w) =
+      let n = longest (resume_names w) in
+      sure_settling held n _ _ (sure_limited held n (nat_lt step_limit w.steps) _ (sure_saved w))
 
 -- an absent file that is read settles no task
 pub absent_task : (held : List ℕ → Held) (o : Option Command) (file : Reading) → held file.name ≡ Absent → IsOneOf (reads_of held o) file → NeverGives (told held o)

@@ -37,6 +37,16 @@ goes Unknown x h = refl
 goes (Stops s) x h = absurd h
 goes (Gives y) x h = refl
 
+pub allowed_goes : {A B : Type 0} (t : Told A) (next : A → Told B) (x : B) → Allows (told_then t next) x → goes_on t ≡ true
+allowed_goes Unknown next x h = refl
+allowed_goes (Stops s) next x h = absurd h
+allowed_goes (Gives y) next x h = refl
+
+pub goes_first : {A B : Type 0} (t : Told A) (next : A → Told B) → goes_on (told_then t next) ≡ true → goes_on t ≡ true
+goes_first Unknown next h = refl
+goes_first (Stops s) next h = h
+goes_first (Gives y) next h = refl
+
 twice : {A B C : Type 0} (t : Told A) (f : A → Told B) (g : B → Told C) → told_then (told_then t f) g ≡ told_then t (λ x. told_then (f x) g)
 twice Unknown f g = refl
 twice (Stops s) f g = refl
@@ -60,6 +70,10 @@ pub by_part : (a b : List Reading) (file : Reading) (Q : Type 0) → (IsOneOf a 
 by_part [] b file Q first second h = second h
 by_part (f ∷ a) b file Q first second (inl e) = first (inl e)
 by_part (f ∷ a) b file Q first second (inr h) = by_part a b file Q (λ x. first (inr x)) second h
+
+pub read_here : (b : Bool) (file : Reading) → b ≡ true → IsOneOf (read_where b file) file
+read_here true file e = inl refl
+read_here false file e = absurd (cc)
 
 -- a file that a test lets through
 pub read_where_is : (b : Bool) (file other : Reading) → IsOneOf (read_where b file) other → (b ≡ true) × (file ≡ other)

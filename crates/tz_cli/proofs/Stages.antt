@@ -17,18 +17,23 @@ use Rattle.tz_board.specs.declared.error.BoardError.{BoardError}
 use Rattle.tz_board.specs.declared.error.ScriptError.{ScriptError}
 use Rattle.tz_elf.specs.declared.error.ElfError.{ElfError}
 use Rattle.tz_elf.specs.declared.error.ElfError.TheVariants as elf
+use Rattle.tz_snap.specs.StateFile.{SavedState, saved_of}
+use Rattle.tz_snap.specs.StateFile.{Refusal as StateRefusal}
+use Rattle.tz_snap.specs.Refusals.{IsStateRefusal}
+use Rattle.tz_snap.specs.declared.error.SnapError.{SnapError}
+use Rattle.tz_snap.specs.declared.error.SnapError.TheVariants as snap
 use Rattle.tz_asm.specs.Told.{assembled}
 use Rattle.tz_asm.specs.Errors.{IsRefusal}
 use Rattle.tz_asm.specs.Refusals.{Refusal as AsmRefusal}
 use Rattle.tz_asm.specs.declared.error.AsmError.{AsmError}
 use Rattle.tz_asm.specs.declared.error.AsmError.TheVariants as asm
 use Rattle.tz_cli.specs.declared.stops.LoadError.{LoadError}
-use Rattle.tz_cli.specs.declared.stops.LoadError.TheVariants.{Unread, Long, Board, Image, Script, Source, Memory}
-use Rattle.tz_cli.specs.Told.{Stop, TooLong, BadBoard, BadImage, BadScript, BadSource, Told, Unknown, Stops, Gives, told_then, graded, is_demo, is_none_script, board_limit, image_limit, script_limit, source_limit, file_with, board_file, board_told, image_told, script_file, script_told, source_told}
-use Rattle.tz_cli.specs.Reads.{Form, AsBoard, AsImage, AsScript, AsSource, Reading, Settled, goes_on, read_where, one_file, and_file, IsOneOf}
-use Rattle.tz_cli.specs.Starts.{board_files, image_files, script_files, source_files}
+use Rattle.tz_cli.specs.declared.stops.LoadError.TheVariants.{Unread, Long, Board, Image, State, Script, Source, Memory}
+use Rattle.tz_cli.specs.Told.{Stop, TooLong, BadBoard, BadImage, BadState, BadScript, BadSource, Told, Unknown, Stops, Gives, told_then, graded, is_demo, is_none_script, board_limit, image_limit, script_limit, source_limit, file_with, board_file, board_told, image_told, state_told, script_file, script_told, source_told}
+use Rattle.tz_cli.specs.Reads.{Form, AsBoard, AsImage, AsState, AsScript, AsSource, Reading, Settled, goes_on, read_where, one_file, and_file, IsOneOf}
+use Rattle.tz_cli.specs.Starts.{board_files, image_files, state_files, script_files, source_files}
 use Rattle.tz_cli.specs.Answer.{Allows, AllowsStop, IsOfFile, Shelved}
-use Rattle.tz_cli.specs.Faults.{AllowsRefusal, IsFault, IsOfFiles, IsRead, Standing, between, image_refusal, source_refusal}
+use Rattle.tz_cli.specs.Faults.{AllowsRefusal, IsFault, IsOfFiles, IsRead, Standing, between, image_refusal, state_refusal, source_refusal}
 use Rattle.tz_cli.proofs.Settling.{then_stop, after_stop, then_allows, then_gives, goes, one_of_first, one_of_second, and_holds, past, fits}
 
 -- ---- faults of some files as faults of more
@@ -65,6 +70,8 @@ fault_of_more s s' files others (Board name x) within read all h =
     (read (record { name = name.now; form = AsBoard }) h.0, refused_more files.told others.told (BadBoard name.now) (refusal_of x) (λ r. tt) all h.1)
 fault_of_more s s' files others (Image name x) within read all h =
     (read (record { name = name.now; form = AsImage }) h.0, refused_more files.told others.told (BadImage name.now) (image_refusal x) (λ r. tt) all h.1)
+fault_of_more s s' files others (State name x) within read all h =
+    (read (record { name = name.now; form = AsState }) h.0, refused_more files.told others.told (BadState name.now) (state_refusal x) (λ r. tt) all h.1)
 fault_of_more s s' files others (Script name x) within read all h =
     (read (record { name = name.now; form = AsScript }) h.0, refused_more files.told others.told (BadScript name.now) (script_refusal_of x) (λ r. tt) all h.1)
 fault_of_more s s' files others (Source name x) within read all h =
@@ -222,6 +229,13 @@ image_by stop (elf.Overlap earlier index) read h = refused_by stop read _ h
 image_by stop (elf.Hex line) read h = refused_by stop read _ h
 image_by stop elf.Memory read h = tt
 
+state_by : (stop : StateRefusal → Stop) (e : SnapError) (read : Result SavedState StateRefusal) → IsStateRefusal e read → AllowsRefusal (graded stop read) stop (state_refusal e)
+state_by stop snap.Magic read h = refused_by stop read _ h
+state_by stop snap.Board read h = refused_by stop read _ h
+state_by stop snap.Length read h = refused_by stop read _ h
+state_by stop (snap.Value index) read h = refused_by stop read _ h
+state_by stop snap.Memory read h = tt
+
 source_by : (stop : AsmRefusal → Stop) (e : AsmError) (read : Result (List SegmentValue) AsmRefusal) → IsRefusal e read → AllowsRefusal (graded stop read) stop (source_refusal e)
 source_by stop (asm.Token line) read h = refused_by stop read _ h
 source_by stop (asm.Mnemonic line) read h = refused_by stop read _ h
@@ -292,6 +306,25 @@ module _ (a b : Standing) (name : Bor (List ℕ)) where
     image_refused bytes e h refused =
         graded_read a b (record { name = name.now; form = AsImage }) image_limit (λ bs. graded (BadImage name.now) (image_of bs board side)) bytes (Err (Image name e)) h
         (inl refl, image_by (BadImage name.now) e (image_of bytes board side) refused)
+
+  -- a state's
+  module _ (board : BoardValue) where
+    pub state_unread : (e : LoadError) → BytesRead AsState image_limit (Err e) → IsRead a b (λ held. state_files held board name.now) (Err e)
+    unfolding state_told
+    state_unread e h = unread a b (record { name = name.now; form = AsState }) image_limit (λ bytes. graded (BadState name.now) (saved_of board bytes)) e h
+
+    pub state_accepted : (bytes : List ℕ) (x : SavedState) → BytesRead AsState image_limit (Ok bytes) → saved_of board bytes ≡ Ok x → IsRead a b (λ held. state_files held board name.now) (Ok x)
+    unfolding state_told
+    state_accepted bytes x h e =
+        graded_read a b (record { name = name.now; form = AsState }) image_limit (λ bs. graded (BadState name.now) (saved_of board bs)) bytes (Ok x) h
+        (accepted_by (BadState name.now) (saved_of board bytes) x e)
+
+    pub state_refused : (bytes : List ℕ) (e : SnapError) → BytesRead AsState image_limit (Ok bytes) → IsStateRefusal e (saved_of board bytes)
+        → IsRead a b (λ held. state_files held board name.now) (Err (State name e))
+    unfolding state_told
+    state_refused bytes e h refused =
+        graded_read a b (record { name = name.now; form = AsState }) image_limit (λ bs. graded (BadState name.now) (saved_of board bs)) bytes (Err (State name e)) h
+        (inl refl, state_by (BadState name.now) e (saved_of board bytes) refused)
 
   -- the script's
   module _ (interrupts : ℕ) where

@@ -8,18 +8,23 @@ use Rattle.tz_board.specs.ScriptErrors.{script_refusal_of}
 use Rattle.tz_elf.specs.declared.error.ElfError.{ElfError}
 use Rattle.tz_elf.specs.declared.error.ElfError.TheVariants as errors
 use Rattle.tz_cli.specs.declared.stops.LoadError.{LoadError}
-use Rattle.tz_cli.specs.declared.stops.LoadError.TheVariants.{Unread, Long, Board, Image, Script, Source, Memory}
+use Rattle.tz_cli.specs.declared.stops.LoadError.TheVariants.{Unread, Long, Board, Image, State, Script, Source, Memory}
 use Rattle.tz_cli.specs.declared.files.Files.{Files}
 use Rattle.tz_cli.specs.declared.files.PairFiles.{PairFiles}
+use Rattle.tz_cli.specs.declared.files.SavedFiles.{SavedFiles}
+use Rattle.tz_snap.specs.StateFile as states
+use Rattle.tz_snap.specs.StateFile.{Refusal as StateRefusal}
+use Rattle.tz_snap.specs.declared.error.SnapError.{SnapError}
+use Rattle.tz_snap.specs.declared.error.SnapError.TheVariants as snap_errors
 use Rattle.tz_asm.specs.Refusals.{Refusal as AsmRefusal}
 use Rattle.tz_asm.specs.Refusals as sources
 use Rattle.tz_asm.specs.declared.error.AsmError.{AsmError}
 use Rattle.tz_asm.specs.declared.error.AsmError.TheVariants as asm_errors
 use Rattle.tz_cli.specs.Lines.{stop_line, status_of}
 use Rattle.tz_cli.specs.Told as stops
-use Rattle.tz_cli.specs.Told.{Stop, Told, TooLong, BadBoard, BadImage, BadScript, BadSource}
-use Rattle.tz_cli.specs.Reads.{Form, AsBoard, AsImage, AsScript, AsSource, Settled, IsOneOf}
-use Rattle.tz_cli.specs.Starts.{Start, PairStart}
+use Rattle.tz_cli.specs.Told.{Stop, Told, TooLong, BadBoard, BadImage, BadState, BadScript, BadSource}
+use Rattle.tz_cli.specs.Reads.{Form, AsBoard, AsImage, AsState, AsScript, AsSource, Settled, IsOneOf}
+use Rattle.tz_cli.specs.Starts.{Start, PairStart, SavedStart}
 use Rattle.tz_cli.specs.Answer.{Shelved, Allows, AllowsStop}
 
 -- the refusal that an error tells; want of memory tells none
@@ -34,6 +39,13 @@ image_refusal (errors.WrongSide index) = Some (refusals.WrongSide index)
 image_refusal (errors.Overlap earlier index) = Some (refusals.Overlap earlier index)
 image_refusal (errors.Hex line) = Some (refusals.Hex line)
 image_refusal errors.Memory = None
+
+abbrev pub state_refusal : SnapError → Option StateRefusal
+state_refusal snap_errors.Magic = Some states.Magic
+state_refusal snap_errors.Board = Some states.Board
+state_refusal snap_errors.Length = Some states.Length
+state_refusal (snap_errors.Value index) = Some (states.Value index)
+state_refusal snap_errors.Memory = None
 
 abbrev pub source_refusal : AsmError → Option AsmRefusal
 source_refusal (asm_errors.Token line) = Some (sources.Token line)
@@ -57,6 +69,7 @@ IsFault s files (Unread name) = ((form : Form) × IsOneOf files.reads (record { 
 IsFault s files (Long name) = ((form : Form) × IsOneOf files.reads (record { name = name.now; form = form })) × AllowsStop files.told (TooLong name.now)
 IsFault s files (Board name e) = IsOneOf files.reads (record { name = name.now; form = AsBoard }) × AllowsRefusal files.told (BadBoard name.now) (refusal_of e)
 IsFault s files (Image name e) = IsOneOf files.reads (record { name = name.now; form = AsImage }) × AllowsRefusal files.told (BadImage name.now) (image_refusal e)
+IsFault s files (State name e) = IsOneOf files.reads (record { name = name.now; form = AsState }) × AllowsRefusal files.told (BadState name.now) (state_refusal e)
 IsFault s files (Script name e) = IsOneOf files.reads (record { name = name.now; form = AsScript }) × AllowsRefusal files.told (BadScript name.now) (script_refusal_of e)
 IsFault s files (Source name e) = IsOneOf files.reads (record { name = name.now; form = AsSource }) × AllowsRefusal files.told (BadSource name.now) (source_refusal e)
 IsFault s files Memory = Unit {0}
@@ -67,6 +80,7 @@ name_told (Unread name) = name.now
 name_told (Long name) = name.now
 name_told (Board name e) = name.now
 name_told (Image name e) = name.now
+name_told (State name e) = name.now
 name_told (Script name e) = name.now
 name_told (Source name e) = name.now
 name_told Memory = []
@@ -81,6 +95,7 @@ stop_of (Unread name) = Some (stops.Unread name.now)
 stop_of (Long name) = Some (TooLong name.now)
 stop_of (Board name e) = stop_with (BadBoard name.now) (refusal_of e)
 stop_of (Image name e) = stop_with (BadImage name.now) (image_refusal e)
+stop_of (State name e) = stop_with (BadState name.now) (state_refusal e)
 stop_of (Script name e) = stop_with (BadScript name.now) (script_refusal_of e)
 stop_of (Source name e) = stop_with (BadSource name.now) (source_refusal e)
 stop_of Memory = None
@@ -105,6 +120,9 @@ start_value f = record { board = f.board; secure = f.secure; nonsecure = f.nonse
 
 abbrev pub pair_value : PairFiles → PairStart
 pair_value f = record { board = f.board; first = f.first; second = f.second; nonsecure = f.nonsecure; script = f.script }
+
+abbrev pub saved_value : SavedFiles → SavedStart
+saved_value f = record { board = f.board; state = f.machine; step = f.step; script = f.script }
 
 -- ---- how files were read
 

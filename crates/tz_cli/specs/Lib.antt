@@ -5,6 +5,7 @@ pub mod Counts
 pub mod Choices
 pub mod StartWords
 pub mod Run
+pub mod Resume
 pub mod Pair
 pub mod Asm
 pub mod Dis

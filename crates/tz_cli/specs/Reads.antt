@@ -1,11 +1,12 @@
 -- Files that are read one after another: what they settle together, and which of them are read.
 use Rattle.std.specs.Prelude.{◌≡◌, ◌⊎◌, ℕ, nat_lt, ◌&&◌, Bool, true, false, if◌then◌else◌, List, [], ◌∷◌, ◌++◌}
-use Rattle.tz_cli.specs.Told.{Stop, BadWords, TooManySteps, Unread, TooLong, BadBoard, BadImage, BadScript, BadSource, Told, Unknown, Stops, Gives, told_then, step_limit}
+use Rattle.tz_cli.specs.Told.{Stop, BadWords, TooManySteps, Unread, TooLong, BadBoard, BadImage, BadState, BadScript, BadSource, TooFar, Told, Unknown, Stops, Gives, told_then, step_limit}
 
 -- what a file is read as
 pub data Form : Type 0 where
   AsBoard : Form
   AsImage : Form
+  AsState : Form
   AsScript : Form
   AsSource : Form
 
@@ -62,5 +63,7 @@ TellsOf files (Unread name) = (form : Form) × IsOneOf files (record { name = na
 TellsOf files (TooLong name) = (form : Form) × IsOneOf files (record { name = name; form = form })
 TellsOf files (BadBoard name refusal) = IsOneOf files (record { name = name; form = AsBoard })
 TellsOf files (BadImage name refusal) = IsOneOf files (record { name = name; form = AsImage })
+TellsOf files (BadState name refusal) = IsOneOf files (record { name = name; form = AsState })
 TellsOf files (BadScript name refusal) = IsOneOf files (record { name = name; form = AsScript })
 TellsOf files (BadSource name refusal) = IsOneOf files (record { name = name; form = AsSource })
+TellsOf files (TooFar name) = IsOneOf files (record { name = name; form = AsState })

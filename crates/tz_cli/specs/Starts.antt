@@ -8,11 +8,13 @@ use Rattle.tz_model.specs.Outside.{Held}
 use Rattle.tz_state.specs.State.{State}
 use Rattle.tz_sem.specs.Boot.{boot}
 use Rattle.tz_board.specs.Scripts.{Timed}
+use Rattle.tz_snap.specs.StateFile.{SavedState}
 use Rattle.tz_cli.specs.StartWords.{StartWords}
 use Rattle.tz_cli.specs.Pair.{PairWords}
 use Rattle.tz_cli.specs.Dis.{DisWords}
-use Rattle.tz_cli.specs.Told.{is_demo, is_none_script, board_told, image_told, script_told, source_told}
-use Rattle.tz_cli.specs.Reads.{AsBoard, AsImage, AsScript, AsSource, Settled, one_file, and_file}
+use Rattle.tz_cli.specs.Resume.{ResumeWords}
+use Rattle.tz_cli.specs.Told.{is_demo, is_none_script, board_told, image_told, state_told, script_told, source_told}
+use Rattle.tz_cli.specs.Reads.{AsBoard, AsImage, AsState, AsScript, AsSource, Settled, one_file, and_file}
 
 -- ---- one file
 
@@ -21,6 +23,9 @@ board_files held name = one_file (not (is_demo name)) (record { name = name; for
 
 abbrev pub image_files : (List ℕ → Held) → BoardValue → Side → List ℕ → Settled ImageValue
 image_files held b side name = one_file true (record { name = name; form = AsImage }) (image_told held b side name)
+
+abbrev pub state_files : (List ℕ → Held) → BoardValue → List ℕ → Settled SavedState
+state_files held b name = one_file true (record { name = name; form = AsState }) (state_told held b name)
 
 abbrev pub script_files : (List ℕ → Held) → ℕ → List ℕ → Settled (List Timed)
 script_files held interrupts name = one_file (not (is_none_script name)) (record { name = name; form = AsScript }) (script_told held interrupts name)
@@ -96,6 +101,26 @@ first_state start = boot start.board start.first start.nonsecure
 
 abbrev pub second_state : PairStart → State
 second_state start = boot start.board start.second start.nonsecure
+
+-- ---- a run that goes on
+
+-- a board with a state, the number of steps that led to it, and a script
+pub record SavedStart : Type 0 where
+  pub board : BoardValue
+  pub state : State
+  pub step : ℕ
+  pub script : List Timed
+
+-- the files up to the state
+abbrev pub kept_files : (List ℕ → Held) → ResumeWords → Settled SavedStart
+kept_files held w =
+    and_file (board_files held w.board) true (record { name = w.state; form = AsState }) (λ b. state_told held b w.state)
+    (λ b x. record { board = b; state = x.state; step = x.step; script = [] })
+
+abbrev pub saved_files : (List ℕ → Held) → ResumeWords → Settled SavedStart
+saved_files held w =
+    and_file (kept_files held w) (not (is_none_script w.script)) (record { name = w.script; form = AsScript }) (λ s. script_told held s.board.interrupts w.script)
+    (λ s events. record s { script = events })
 
 -- ---- a disassembly
 

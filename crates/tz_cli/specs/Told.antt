@@ -9,6 +9,8 @@ use Rattle.tz_board.specs.Demo.{demo}
 use Rattle.tz_board.specs.Boards.{BoardRefusal, board_of}
 use Rattle.tz_board.specs.Scripts.{Timed, ScriptRefusal, script_of}
 use Rattle.tz_elf.specs.Images.{Refusal, image_of}
+use Rattle.tz_snap.specs.StateFile.{SavedState, saved_of}
+use Rattle.tz_snap.specs.StateFile.{Refusal as StateRefusal}
 use Rattle.tz_asm.specs.Refusals.{Refusal as AsmRefusal}
 use Rattle.tz_asm.specs.Told.{assembled}
 
@@ -20,8 +22,11 @@ pub data Stop : Type 0 where
   TooLong : (name : List ℕ) → Stop
   BadBoard : (name : List ℕ) (refusal : BoardRefusal) → Stop
   BadImage : (name : List ℕ) (refusal : Refusal) → Stop
+  BadState : (name : List ℕ) (refusal : StateRefusal) → Stop
   BadScript : (name : List ℕ) (refusal : ScriptRefusal) → Stop
   BadSource : (name : List ℕ) (refusal : AsmRefusal) → Stop
+  -- the steps are too many behind those that a state file tells
+  TooFar : (name : List ℕ) → Stop
 
 -- what is settled: nothing, where the shelf doesn't tell; that the command stops; or a value
 pub data Told (A : Type 0) : Type 0 where
@@ -74,6 +79,10 @@ board_told held name = if is_demo name then Gives demo else board_file held name
 
 unfoldable pub image_told : (List ℕ → Held) → BoardValue → Side → List ℕ → Told ImageValue
 image_told held b side name = told_then (file_with name image_limit (held name)) (λ bytes. graded (BadImage name) (image_of bytes b side))
+
+-- a state with the number of steps that led to it; its file has the limit of an image
+unfoldable pub state_told : (List ℕ → Held) → BoardValue → List ℕ → Told SavedState
+state_told held b name = told_then (file_with name image_limit (held name)) (λ bytes. graded (BadState name) (saved_of b bytes))
 
 -- the empty script, which is no file
 abbrev pub is_none_script : List ℕ → Bool

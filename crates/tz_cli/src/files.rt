@@ -2,20 +2,23 @@
 
 ghost use Rattle.std.specs.Prelude.{◌≤◌, ◌<◌, ◌^◌, true, length, IfOk};
 ghost use Rattle.tz_cli.specs.StartWords.{start_in};
+ghost use Rattle.tz_cli.specs.Resume.{resume_in};
 ghost use Rattle.tz_cli.specs.Pair.{pair_in};
 ghost use Rattle.tz_cli.specs.Dis.{dis_in};
 ghost use Rattle.tz_cli.specs.Told.{file_with};
 ghost use Rattle.tz_cli.specs.Reads.{Form, one_file};
-ghost use Rattle.tz_cli.specs.Starts.{board_files, image_files, script_files, source_files, start_files, pair_start_files, listed_files};
-ghost use Rattle.tz_cli.specs.Faults.{IsRead, standing, read_as, start_value, pair_value};
+ghost use Rattle.tz_cli.specs.Starts.{board_files, image_files, state_files, script_files, source_files, start_files, saved_files, pair_start_files, listed_files};
+ghost use Rattle.tz_cli.specs.Faults.{IsRead, standing, read_as, start_value, pair_value, saved_value};
 
 use crate::stops::LoadError;
-use crate::words::{AsmWords, DisWords, PairWords, StartWords};
+use crate::words::{AsmWords, DisWords, PairWords, ResumeWords, StartWords};
 use std::alloc::{AllocError, Global};
 use tz_asm::assemble;
 use tz_board::{Script, demo_board, read_board, read_script};
+use tz_core::Machine;
 use tz_elf::read_image;
 use tz_model::{Board, Image, Shelf, ShelfError, Side};
+use tz_snap::Saved;
 
 /// What the files of a run give.
 #[derive(Drop)]
@@ -33,6 +36,15 @@ pub struct PairFiles {
     pub first: Image,
     pub second: Image,
     pub nonsecure: Image,
+    pub script: Script,
+}
+
+/// What the files of a run that goes on give.
+#[derive(Drop)]
+pub struct SavedFiles {
+    pub board: Board,
+    pub machine: Machine,
+    pub step: u32,
     pub script: Script,
 }
 
@@ -109,6 +121,25 @@ fn load_image<'a, H: Shelf>(
     match read_image(alloc, &bytes, board, side) {
         Ok(image) => Ok(image),
         Err(error) => Err(LoadError::Image(name, error)),
+    }
+}
+
+/// The machine of a name, with the number of its steps, for a board. Its file has the limit of an image.
+fn load_state<'a, H: Shelf>(
+    alloc: Global,
+    shelf: &mut H,
+    name: &'a str,
+    board: &Board,
+) -> Result<Saved, LoadError<'a>>
+    ensures { IsRead (standing H.held H.sound H.faults shelf.old) (standing H.held H.sound H.faults shelf.new) (λ held. state_files held board.now name.now) (read_as (λ x. record { state = x.machine; step = x.step }) result) }
+{
+    let bytes = match read(alloc, shelf, name, IMAGE_LIMIT) {
+        Ok(bytes) => bytes,
+        Err(fault) => return Err(fault),
+    };
+    match tz_snap::load(alloc, board, &bytes) {
+        Ok(saved) => Ok(saved),
+        Err(error) => Err(LoadError::State(name, error)),
     }
 }
 
@@ -198,6 +229,33 @@ pub fn load_pair<'a, H: Shelf>(
             first,
             second,
             nonsecure,
+            script,
+        }),
+        Err(fault) => Err(fault),
+    }
+}
+
+/// The files of a run that goes on, in the order of its words.
+pub fn load_saved<'a, H: Shelf>(
+    alloc: Global,
+    shelf: &mut H,
+    words: &ResumeWords<'a>,
+) -> Result<SavedFiles, LoadError<'a>>
+    ensures { IsRead (standing H.held H.sound H.faults shelf.old) (standing H.held H.sound H.faults shelf.new) (λ held. saved_files held (resume_in words.now)) (read_as saved_value result) }
+{
+    let board = match load_board(alloc, shelf, words.board) {
+        Ok(board) => board,
+        Err(fault) => return Err(fault),
+    };
+    let Saved { machine, step } = match load_state(alloc, shelf, words.state, &board) {
+        Ok(saved) => saved,
+        Err(fault) => return Err(fault),
+    };
+    match load_script(alloc, shelf, words.script, board.interrupts) {
+        Ok(script) => Ok(SavedFiles {
+            board,
+            machine,
+            step,
             script,
         }),
         Err(fault) => Err(fault),

@@ -1,11 +1,11 @@
 //! The commands that begin a run: their files, the machine, what is done with it, and the status.
 
-ghost use Rattle.std.specs.Prelude.{[], IfOk, IfErr};
+ghost use Rattle.std.specs.Prelude.{◌≤◌, [], IfOk, IfErr};
 ghost use Rattle.tz_model.specs.Outside.{Gains};
 ghost use Rattle.tz_cli.specs.StartWords.{start_in};
 ghost use Rattle.tz_cli.specs.Run.{run_of};
 ghost use Rattle.tz_cli.specs.Commands.{command_with};
-ghost use Rattle.tz_cli.specs.Tasks.{trace_of, work_task};
+ghost use Rattle.tz_cli.specs.Tasks.{trace_of, gates_task, snap_task, work_task};
 ghost use Rattle.tz_cli.specs.Answer.{CommandAnswer, shelved, sunk, IsTold};
 ghost use Rattle.tz_cli.specs.Faults.{start_value};
 
@@ -14,8 +14,10 @@ use crate::lines::{put_status, refuse, refuse_fault};
 use crate::words::{StartWords, Work};
 use std::alloc::{AllocError, Global};
 use tz_core::Machine;
+use tz_gates::{count, list, put_gates};
 use tz_model::{Shelf, Sink, View};
-use tz_run::run;
+use tz_run::{make_steps, run};
+use tz_snap::save;
 
 /// The most steps of a run.
 pub const STEP_LIMIT: u32 = 10_000_000;
@@ -39,6 +41,44 @@ fn run_started<O: Sink>(
     Ok(put_status(run(&mut machine, &files.script, words.steps, view, out)))
 }
 
+/// Runs a machine of the files and writes its gates, with how many steps enter at each and how many elsewhere:
+/// 0, or 4 where they can't be written. Its error is want of memory, before anything is written.
+fn gates_started<O: Sink>(
+    alloc: Global,
+    files: &Files,
+    words: &StartWords<'_>,
+    out: &mut O,
+) -> Result<u8, AllocError>
+    ensures ran { IfOk result (λ status. IsTold status (gates_task (start_in words.now) (start_value files.now)).text 0 (O.written out.old) (O.written out.new) (O.space out.old) (O.faults out.old) (O.faults out.new)) }
+    ensures quiet { IfErr result (λ _. Gains (O.written out.old) (O.written out.new) []) }
+{
+    let gates = list(alloc, &files.board, &files.secure, &files.nonsecure)?;
+    let mut hits = vec![in alloc; 0u32; gates.len()]?;
+    let mut machine = Machine::new(alloc, &files.board, &files.secure, &files.nonsecure)?;
+    let unlisted = count(&mut machine, &gates, &mut hits, &files.script, words.steps);
+    Ok(put_status(put_gates(&gates, &hits, unlisted, out)))
+}
+
+/// Runs a machine of the files and writes the file of its state: 0, or 4 where it can't be written. Its error
+/// is want of memory, before anything is written.
+fn snap_started<O: Sink>(
+    alloc: Global,
+    files: &Files,
+    words: &StartWords<'_>,
+    out: &mut O,
+) -> Result<u8, AllocError>
+    requires { words.now.steps ≤ 10000000 }
+    ensures ran { IfOk result (λ status. IsTold status (snap_task (start_in words.now) (start_value files.now)).text 0 (O.written out.old) (O.written out.new) (O.space out.old) (O.faults out.old) (O.faults out.new)) }
+    ensures quiet { IfErr result (λ _. Gains (O.written out.old) (O.written out.new) []) }
+{
+    let mut machine = match Machine::new(alloc, &files.board, &files.secure, &files.nonsecure) {
+        Ok(machine) => machine,
+        Err(error) => return Err(error),
+    };
+    make_steps(&mut machine, &files.script, words.steps);
+    Ok(put_status(save(&machine, words.steps, out)))
+}
+
 /// Does the work with a machine of the files: 0, or 4 where its text can't be written. Its error is want of
 /// memory, before anything is written.
 fn work_started<O: Sink>(
@@ -48,12 +88,15 @@ fn work_started<O: Sink>(
     work: &Work,
     out: &mut O,
 ) -> Result<u8, AllocError>
+    requires { words.now.steps ≤ 10000000 }
     ensures ran { let task = work_task work.now (start_in words.now) (start_value files.now) in
         IfOk result (λ status. IsTold status task.text task.status (O.written out.old) (O.written out.new) (O.space out.old) (O.faults out.old) (O.faults out.new)) }
     ensures quiet { IfErr result (λ _. Gains (O.written out.old) (O.written out.new) []) }
 {
     match *work {
         Work::Trace(view) => run_started(alloc, files, words, view, out),
+        Work::Gates => gates_started(alloc, files, words, out),
+        Work::Save => snap_started(alloc, files, words, out),
     }
 }
 

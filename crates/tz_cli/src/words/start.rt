@@ -1,10 +1,19 @@
 //! The words that begin a run: four names of files and a number of steps.
 
-ghost use Rattle.std.specs.Prelude.{◌≡◌, [], map, option_map, unwrap_or};
-ghost use Rattle.tz_cli.specs.StartWords.{start_in, start_with};
+ghost use Rattle.std.specs.Prelude.{◌≡◌, [], IfOk, map, string_bytes, option_map, unwrap_or};
+ghost use Rattle.tz_cli.specs.Commands.{command_in, command_with};
+ghost use Rattle.tz_cli.specs.Found.{parts_in};
+ghost use Rattle.tz_cli.specs.StartWords.{start_behind, start_in, start_parts, start_with};
 
+use crate::words::Command;
 use crate::words::counts::count_in;
+use crate::words::leaf::matches;
+use clap::ArgMatches;
+use std::alloc::{AllocError, Global};
 use tz_model::View;
+
+/// No value: such a command has no option.
+static NO_VALUES: [&str; 0] = [];
 
 /// What begins a run.
 #[derive(Clone, Copy)]
@@ -26,6 +35,10 @@ pub struct StartWords<'a> {
 pub enum Work {
     /// The trace of its steps, with what it shows.
     Trace(View),
+    /// Where its steps enter Secure code, and how often.
+    Gates,
+    /// The file of the state after its steps.
+    Save,
 }
 
 /// What five words begin; `None` where there are others.
@@ -44,5 +57,36 @@ pub fn start_of<'a>(words: Option<&[&'a str]>) -> Option<StartWords<'a>>
             steps,
         }),
         None => None,
+    }
+}
+
+/// The words of a command without an option in what clap found.
+fn start_found<'a>(found: &ArgMatches<'a>, work: Work) -> Option<Command<'a>>
+    ensures { option_map command_in result ≡ option_map (λ s. command_with s work) (start_parts (parts_in found.now)) }
+{
+    if let Some(values) = found.get_strs("option")
+        && !values.is_empty()
+    {
+        return None;
+    }
+    match start_of(found.get_strs("words")) {
+        Some(start) => Some(Command::Start(start, work)),
+        None => None,
+    }
+}
+
+/// `BOARD SECURE NONSECURE SCRIPT STEPS`, as they stand behind a command that has no option; `None` where
+/// they are refused.
+pub fn start_command<'a>(
+    alloc: Global,
+    work: Work,
+    words: &'a [String],
+) -> Result<Option<Command<'a>>, AllocError>
+    ensures { IfOk result (λ r. option_map command_in r ≡ option_map (λ s. command_with s work) (start_behind (map string_bytes words.now))) }
+{
+    match matches(alloc, "", NO_VALUES.as_slice(), words) {
+        Ok(Some(found)) => Ok(start_found(&found, work)),
+        Ok(None) => Ok(None),
+        Err(error) => Err(error),
     }
 }
