@@ -1,3 +1,6 @@
 mod Alone
+mod Indexed
 mod Named
+mod Order
 mod Private
+mod Reading

@@ -1,6 +1,7 @@
 //! The machine: a board with two images in its memory, and its steps.
 //!
-//! `Machine` stands for a `State`, and `step` for the step relation. The order of a step is here; what
+//! `Machine` stands for a `State`, and `step` for the step relation. `word` tells a state by numbers, and
+//! `from_words` makes a machine of them. The order of a step is here; what
 //! memory holds, how addresses are attributed and which check fails first is decided below.
 #![tactic(auto)]
 
@@ -10,11 +11,19 @@ mod ending;
 mod exchange;
 mod exclusive;
 mod execute;
+mod fields;
+mod from_words;
 mod it_rules;
+mod laws;
 mod port;
+mod put;
 mod running;
 mod start;
 mod taking;
 mod waiting;
+mod words;
 
+pub use from_words::WordsError;
+pub use laws::words_tell_states;
 pub use running::Machine;
+pub use words::word_count;

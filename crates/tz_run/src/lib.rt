@@ -1,10 +1,10 @@
-//! The run: steps of a machine, each shown as a line.
+//! The run: steps of a machine, each shown as a line or made in silence.
 //!
 //! Each line goes out as one put as soon as its step is done, and what goes out is exactly the lines of
 //! the steps from the machine's state on. It takes no memory, and knows nothing of where bytes go.
 #![tactic(auto)]
 
-ghost use Rattle.std.specs.Prelude.{◌≡◌, ◌<◌, OnOk};
+ghost use Rattle.std.specs.Prelude.{◌≡◌, ◌+◌, ◌^◌, ◌<◌, ◌≤◌, OnOk};
 ghost use Rattle.tz_model.specs.Outside.{HasCause, Put};
 ghost use Rattle.tz_sem.specs.Run.{state_after};
 ghost use Rattle.tz_text.specs.Line.{line};
@@ -35,7 +35,34 @@ pub fn run<O: Sink>(
     ensures cause { HasCause (O.faults out.old) (O.faults out.new) (result ≡ Err SinkError.Failed) }
     ensures state { OnOk result (machine.new ≡ state_after (events_of script.now) 0 machine.old steps) }
 {
-    run_counted::<Brand, O>(Blank::new(1), machine, script, steps, view, out)
+    run_counted::<Brand, O>(Blank::new(1), machine, script, 0, steps, view, out)
+}
+
+/// Runs `steps` steps and writes a line for each, numbered from `first`, as of a machine that has made so many
+/// steps: the events of the script are those from step `first` on.
+///
+/// A line that can't be written is the one error, and ends the run as in `run`.
+pub fn run_from<O: Sink>(
+    machine: &mut Machine,
+    script: &Script,
+    first: u32,
+    steps: u32,
+    view: View,
+    out: &mut O,
+) -> Result<(), SinkError>
+    requires { first + steps ≤ 10000000 }
+    ensures put { Put (O.written out.old) (O.written out.new) (O.space out.old) (O.space out.new) (text_from view (events_of script.now) first machine.old steps) result }
+    ensures cause { HasCause (O.faults out.old) (O.faults out.new) (result ≡ Err SinkError.Failed) }
+    ensures state { OnOk result (machine.new ≡ state_after (events_of script.now) first machine.old steps) }
+{
+    run_counted::<Brand, O>(Blank::new(1), machine, script, first, steps, view, out)
+}
+
+/// Makes `steps` steps, and no line. At each step, counted from 0, its events of the script are due.
+pub fn make_steps(machine: &mut Machine, script: &Script, steps: u32)
+    ensures { machine.new ≡ state_after (events_of script.now) 0 machine.old steps }
+{
+    make_counted::<Brand>(Blank::new(1), machine, script, steps)
 }
 
 /// Writes the line of a step as one put. The text is what it is made in.
@@ -59,6 +86,7 @@ fn run_counted<L: Ledger, O: Sink>(
     blank: Blank,
     machine: &mut Machine,
     script: &Script,
+    first: u32,
     steps: u32,
     view: View,
     out: &mut O,
@@ -66,14 +94,15 @@ fn run_counted<L: Ledger, O: Sink>(
     requires name { blank.name ≡ L.name }
     requires parts { blank.parts ≡ L.parts }
     requires some_part { 0 < blank.parts }
-    ensures put { Put (O.written out.old) (O.written out.new) (O.space out.old) (O.space out.new) (text_from view (events_of script.now) 0 machine.old steps) result }
+    requires few { first + steps < 2 ^ 32 }
+    ensures put { Put (O.written out.old) (O.written out.new) (O.space out.old) (O.space out.new) (text_from view (events_of script.now) first machine.old steps) result }
     ensures cause { HasCause (O.faults out.old) (O.faults out.new) (result ≡ Err SinkError.Failed) }
-    ensures state { OnOk result (machine.new ≡ state_after (events_of script.now) 0 machine.old steps) }
+    ensures state { OnOk result (machine.new ≡ state_after (events_of script.now) first machine.old steps) }
 {
     let mut looks = Steps::<L>::start(blank);
     let mut report = Report::new();
     let mut text = Line::new();
-    for step in 0..steps {
+    for step in first..first + steps {
         let due = script.due(step, &mut looks);
         machine.step_into(due, &mut report);
         if let Err(error) = put_line(&mut text, &report, step, view, out) {
@@ -81,4 +110,19 @@ fn run_counted<L: Ledger, O: Sink>(
         }
     }
     Ok(())
+}
+
+/// The steps without their lines, over a ledger of the looks into the script. One report serves all.
+fn make_counted<L: Ledger>(blank: Blank, machine: &mut Machine, script: &Script, steps: u32)
+    requires name { blank.name ≡ L.name }
+    requires parts { blank.parts ≡ L.parts }
+    requires some_part { 0 < blank.parts }
+    ensures { machine.new ≡ state_after (events_of script.now) 0 machine.old steps }
+{
+    let mut looks = Steps::<L>::start(blank);
+    let mut report = Report::new();
+    for step in 0..steps {
+        let due = script.due(step, &mut looks);
+        machine.step_into(due, &mut report);
+    }
 }

@@ -5,7 +5,7 @@ use Rattle.tz_run.proofs.Lines.{so_far_start, so_far_step, so_far_end, so_far_fa
 use Rattle.tz_run.proofs.run_counted.Goals as goal
 
 pub loop-step-init : goal.loop-step-init
-loop-step-init g c = record { lines = so_far_start _ _ _ _ _ _; later = omega arith }
+loop-step-init g c = record { lines = so_far_start _ _ _ _ _ _ _; later = omega arith }
 
 pub loop-step-preserved : goal.loop-step-preserved
 loop-step-preserved g c =
@@ -13,7 +13,7 @@ loop-step-preserved g c =
     let made =
     subst (λ (due : List ScriptEvent). step c.loop-step.machine due ≡ record { state = c.step_into.new.self; report = report }) c.due-due.ensures.events c.step_into.ensures.steps in
     record {
-      lines = so_far_step _ _ _ _ _ _ _ _ _ _ _ _ _ report c.loop-step-test.true made c.loop-step.invariant.lines c.in_default.ensures.put;
+      lines = so_far_step _ _ _ _ _ _ _ _ _ _ _ _ _ _ report c.loop-step-test.true made c.loop-step.invariant.lines c.in_default.ensures.put;
       later = let l = c.in_default.ensures.cause.later in omega (arith, l, c.loop-step.invariant.later);
     }
 
@@ -22,10 +22,10 @@ returns-in-Err-clause-put g c =
     let report = c.step_into.new.report in
     let made =
     subst (λ (due : List ScriptEvent). step c.loop-step.machine due ≡ record { state = c.step_into.new.self; report = report }) c.due-due.ensures.events c.step_into.ensures.steps in
-    so_far_failed _ _ _ _ _ _ _ _ _ _ _ _ _ report c.in-Err.error c.loop-step-test.true made c.loop-step.invariant.lines c.in-Err.ensures.put
+    so_far_failed _ _ _ _ _ _ _ _ _ _ _ _ _ _ report c.in-Err.error c.loop-step-test.true made c.loop-step.invariant.lines c.in-Err.ensures.put
 
 pub returns-clause-put : goal.returns-clause-put
-returns-clause-put g c = so_far_end _ _ _ _ _ _ _ _ _ _ c.loop-step-test.false c.loop-step.invariant.lines
+returns-clause-put g c = so_far_end _ _ _ _ _ _ _ _ _ _ _ c.loop-step-test.false c.loop-step.invariant.lines
 
 pub returns-clause-state : goal.returns-clause-state
-returns-clause-state g c = state_at_end _ _ _ _ _ _ _ _ _ _ c.loop-step-test.false c.loop-step.invariant.lines
+returns-clause-state g c = state_at_end _ _ _ _ _ _ _ _ _ _ _ c.loop-step-test.false c.loop-step.invariant.lines

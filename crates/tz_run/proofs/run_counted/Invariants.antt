@@ -5,6 +5,6 @@ use Rattle.tz_run.proofs.run_counted.Given as goal
 
 abbrev pub invariant-loop-step : goal.invariant-loop-step
 invariant-loop-step g l = record {
-  lines : SoFar l.view (events_of l.script) (g.O.Sink.written l.fn.out) (g.O.Sink.written l.out) (g.O.Sink.space l.fn.out) (g.O.Sink.space l.out) l.fn.machine l.machine l.step l.steps;
+  lines : SoFar l.view (events_of l.script) (g.O.Sink.written l.fn.out) (g.O.Sink.written l.out) (g.O.Sink.space l.fn.out) (g.O.Sink.space l.out) l.fn.machine l.machine l.first l.step l.steps;
   later : g.O.Sink.faults l.fn.out ≤ g.O.Sink.faults l.out;
 }

@@ -1,0 +1,131 @@
+//! A machine from its words: memory first, then each field and each slot, whose word has to be one that it can hold.
+
+ghost use Rattle.std.specs.Prelude.{◌≡◌, ◌≤◌, ◌+◌, ◌*◌, Ok, Err, Some, MatchResult, IfOk, length, drop, slice_get};
+ghost use Rattle.tz_state.specs.State.{with_memory};
+ghost use Rattle.tz_state.specs.Zeros.{zero_memory};
+ghost use Rattle.tz_core.specs.Fields.{fields, slot_places};
+ghost use Rattle.tz_core.specs.StateWords.{field_count, slot_count, memory_count, word_count};
+ghost use Rattle.tz_core.specs.ReadWords.{read_fields, read_slots, with_regions, blank, read_words, words_of, IsWordsRefusal, IsFresh};
+
+use crate::running::Machine;
+use crate::words::{field_at, field_count, slot_count, slot_place};
+use std::alloc::{AllocError, Global};
+use thiserror::Error;
+use tz_access::Bus;
+use tz_model::{Board, Segment};
+use tz_nvic::Exceptions;
+use tz_regs::Core;
+
+/// Why words aren't those of a machine.
+#[derive(Debug, Drop, Error)]
+pub enum WordsError {
+    /// The first word that is out of range, by its index.
+    #[error("word {0} is out of range")]
+    Value(u32),
+    #[error("there is no memory for the machine")]
+    Memory,
+}
+
+/// The word of an index, with its low byte first.
+#[tactic(auto, using(crate::proofs::Reading::word_read))]
+fn word_at(bytes: &[u8], index: usize) -> u32
+    requires { 4 * index + 4 ≤ length bytes.now }
+    ensures { slice_get (words_of bytes.now) index ≡ Some result }
+{
+    let at = 4 * index;
+    u32::from_le_bytes([bytes[at], bytes[at + 1], bytes[at + 2], bytes[at + 3]])
+}
+
+/// Puts words into the regions of a board, given as bytes.
+fn put_memory(alloc: Global, bus: &mut Bus, board: &Board, bytes: &[u8]) -> Result<(), AllocError>
+    requires { length bytes.now ≡ 4 * memory_count board.now.regions }
+    ensures { IfOk result (λ _. bus.new ≡ with_memory bus.old (with_regions bus.old.memory board.now.regions (words_of bytes.now))) }
+{
+    let mut at = 0;
+    for region in &board.regions {
+        let end = at + region.size as usize;
+        let bytes = Vec::from_slice(alloc, &bytes[at..end])?;
+        let segment = Segment {
+            base: region.base,
+            bytes,
+        };
+        bus.put_segment(&segment);
+        at = end;
+    }
+    Ok(())
+}
+
+impl Machine {
+    /// Writes all fields by their words, and tells the index of the first that doesn't hold its word.
+    fn read_fields(&mut self, board: &Board, bytes: &[u8]) -> Result<(), u32>
+        requires fresh { IsFresh self.old }
+        requires long { 4 * field_count board.now ≤ length bytes.now }
+        ensures { MatchResult result
+            (λ _. read_fields (fields board.now) (words_of bytes.now) 0 self.old ≡ Ok self.new)
+            (λ k. read_fields (fields board.now) (words_of bytes.now) 0 self.old ≡ Err k) }
+    {
+        for index in 0..field_count(board) {
+            let word = word_at(bytes, index);
+            if !self.put_field(field_at(board, index), word) {
+                return Err(index as u32);
+            }
+        }
+        Ok(())
+    }
+
+    /// Writes all slots by their words, and tells the index of the first that doesn't hold its word.
+    fn read_slots(&mut self, board: &Board, bytes: &[u8]) -> Result<(), u32>
+        requires { 4 * (field_count board.now + slot_count board.now) ≤ length bytes.now }
+        ensures { MatchResult result
+            (λ _. read_slots (slot_places board.now.interrupts) (drop (field_count board.now) (words_of bytes.now)) (field_count board.now) self.old ≡ Ok self.new)
+            (λ k. read_slots (slot_places board.now.interrupts) (drop (field_count board.now) (words_of bytes.now)) (field_count board.now) self.old ≡ Err k) }
+    {
+        let first = field_count(board);
+        for index in 0..slot_count(board) {
+            let word = word_at(bytes, first + index);
+            if !self.put_slot(slot_place(board, index), word) {
+                return Err((first + index) as u32);
+            }
+        }
+        Ok(())
+    }
+
+    /// A machine of a board to read into, with its memory.
+    fn blank(alloc: Global, board: &Board, memory: &[u8]) -> Result<Machine, AllocError>
+        requires { length memory.now ≡ 4 * memory_count board.now.regions }
+        ensures { IfOk result (λ m. m ≡ blank board.now (with_regions (zero_memory board.now.regions) board.now.regions (words_of memory.now))) }
+    {
+        let exceptions = Exceptions::new(alloc, board.interrupts)?;
+        let mut bus = Bus::new(alloc, board)?;
+        put_memory(alloc, &mut bus, board, memory)?;
+        Ok(Machine {
+            core: Core::reset(0, 0, 0, 0, false),
+            exceptions,
+            bus,
+        })
+    }
+
+    /// The machine of a board that has these words, with the low byte of each first.
+    ///
+    /// # Errors
+    ///
+    /// `Value` with the index of the first word that its field can't hold; `Memory` where memory runs out.
+    pub fn from_words(alloc: Global, board: &Board, bytes: &[u8]) -> Result<Machine, WordsError>
+        requires { length bytes.now ≡ 4 * word_count board.now }
+        ensures { MatchResult result
+            (λ m. read_words board.now (words_of bytes.now) ≡ Ok m)
+            (λ e. IsWordsRefusal e (read_words board.now (words_of bytes.now))) }
+    {
+        let memory = 4 * (field_count(board) + slot_count(board));
+        let Ok(mut machine) = Machine::blank(alloc, board, &bytes[memory..]) else {
+            return Err(WordsError::Memory);
+        };
+        if let Err(index) = machine.read_fields(board, bytes) {
+            return Err(WordsError::Value(index));
+        }
+        if let Err(index) = machine.read_slots(board, bytes) {
+            return Err(WordsError::Value(index));
+        }
+        Ok(machine)
+    }
+}

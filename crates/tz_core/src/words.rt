@@ -1,0 +1,437 @@
+//! The words of a machine, each by its index: fields in their order, slots by their places, memory.
+
+ghost use Rattle.std.specs.Prelude.{◌≡◌, ◌<◌, ◌+◌, ◌*◌, ◌/◌, ◌^◌, ℕ, true, Some, slice_get};
+ghost use Rattle.tz_frames.specs.Registers.{psr_word};
+ghost use Rattle.tz_model.specs.Board.{in_region, are_regions};
+ghost use Rattle.tz_state.specs.Access.{is_mapped};
+ghost use Rattle.tz_state.specs.Memory.{word_at};
+ghost use Rattle.tz_state.specs.State.{mpu_of};
+ghost use Rattle.tz_state.specs.UnitRegisters.{bounds_at};
+ghost use Rattle.tz_core.specs.declared.fields.RunningField.TheVariants as variants;
+ghost use Rattle.tz_core.specs.Fields.{running_fields, banked_fields, shared_fields, fields, slot_places};
+ghost use Rattle.tz_core.specs.StateWords.{side_number, sleep_number, size_number, running_word, banked_word, shared_word, word_of, slot_word, memory_words, state_words, field_count, slot_count, memory_count, word_count};
+
+use crate::fields::{BankedField, Field, RunningField, SharedField};
+use crate::running::Machine;
+use tz_frames::return_bits::{RETPSR_IT_HIGH, RETPSR_IT_LOW, RETPSR_T};
+use tz_model::{Board, Region, Side, Size, Sleep};
+use tz_nvic::FIRST_INTERRUPT_PLACE;
+use tz_regs::Registers;
+use tz_state::{Bounds, MpuRegister, SauRegister};
+
+const RUNNING: [RunningField; 22] = [
+    RunningField::Side,
+    RunningField::Locked,
+    RunningField::Sleep,
+    RunningField::Event,
+    RunningField::General(0),
+    RunningField::General(1),
+    RunningField::General(2),
+    RunningField::General(3),
+    RunningField::General(4),
+    RunningField::General(5),
+    RunningField::General(6),
+    RunningField::General(7),
+    RunningField::General(8),
+    RunningField::General(9),
+    RunningField::General(10),
+    RunningField::General(11),
+    RunningField::General(12),
+    RunningField::Lr,
+    RunningField::Pc,
+    RunningField::Xpsr,
+    RunningField::MonitorSize,
+    RunningField::MonitorAddress,
+];
+
+/// What a side has before the regions of its MPU.
+const BANKED_FIRST: [BankedField; 18] = [
+    BankedField::Msp,
+    BankedField::Psp,
+    BankedField::Msplim,
+    BankedField::Psplim,
+    BankedField::Primask,
+    BankedField::Basepri,
+    BankedField::Faultmask,
+    BankedField::Control,
+    BankedField::Vtor,
+    BankedField::Ccr,
+    BankedField::Ufsr,
+    BankedField::Mmfsr,
+    BankedField::Mmfar,
+    BankedField::Prigroup,
+    BankedField::MpuCtrl,
+    BankedField::MpuRnr,
+    BankedField::Mair0,
+    BankedField::Mair1,
+];
+
+/// What it has behind them.
+const BANKED_LAST: [BankedField; 3] = [
+    BankedField::SystCsr,
+    BankedField::SystRvr,
+    BankedField::SystCvr,
+];
+
+/// What both share before the regions of the SAU.
+const SHARED_FIRST: [SharedField; 2] = [SharedField::SauCtrl, SharedField::SauRnr];
+
+/// What they share behind them.
+const SHARED_LAST: [SharedField; 7] = [
+    SharedField::Sfsr,
+    SharedField::Sfar,
+    SharedField::Bfsr,
+    SharedField::Bfar,
+    SharedField::Hfsr,
+    SharedField::Pris,
+    SharedField::Bfhfnmins,
+];
+
+/// The places of the system's slots.
+const SYSTEM_PLACES: [usize; 15] = [4, 6, 7, 8, 9, 10, 12, 13, 14, 22, 23, 28, 29, 30, 31];
+
+// ---- the order
+
+fn running_field(index: usize) -> RunningField
+    requires { index < 22 }
+    ensures { slice_get running_fields index ≡ Some result }
+{
+    RUNNING[index]
+}
+
+/// What a side with so many regions of its MPU has at an index.
+#[tactic(auto, using(crate::proofs::Order::banked_before, crate::proofs::Order::banked_region, crate::proofs::Order::banked_behind, crate::proofs::Order::mpu_rbar_at, crate::proofs::Order::mpu_rlar_at))]
+fn banked_field(index: usize, regions: u8) -> BankedField
+    requires { index < 21 + 2 * regions }
+    ensures { slice_get (banked_fields regions) index ≡ Some result }
+{
+    let last = BANKED_FIRST.len() + 2 * usize::from(regions);
+    if index < BANKED_FIRST.len() {
+        BANKED_FIRST[index]
+    } else if index < last {
+        let word = index - BANKED_FIRST.len();
+        let region = (word / 2) as u8;
+        if word % 2 == 0 {
+            BankedField::MpuRbar(region)
+        } else {
+            BankedField::MpuRlar(region)
+        }
+    } else {
+        BANKED_LAST[index - last]
+    }
+}
+
+/// What both sides share at an index, with so many regions of the SAU.
+#[tactic(auto, using(crate::proofs::Order::shared_before, crate::proofs::Order::shared_region, crate::proofs::Order::shared_behind, crate::proofs::Order::sau_rbar_at, crate::proofs::Order::sau_rlar_at))]
+fn shared_field(index: usize, regions: u8) -> SharedField
+    requires { index < 9 + 2 * regions }
+    ensures { slice_get (shared_fields regions) index ≡ Some result }
+{
+    let last = SHARED_FIRST.len() + 2 * usize::from(regions);
+    if index < SHARED_FIRST.len() {
+        SHARED_FIRST[index]
+    } else if index < last {
+        let word = index - SHARED_FIRST.len();
+        let region = (word / 2) as u8;
+        if word % 2 == 0 {
+            SharedField::SauRbar(region)
+        } else {
+            SharedField::SauRlar(region)
+        }
+    } else {
+        SHARED_LAST[index - last]
+    }
+}
+
+/// How many words a side has, with so many regions of its MPU.
+fn banked_count(regions: u8) -> usize
+    ensures { result ≡ 21 + 2 * regions }
+{
+    21 + 2 * usize::from(regions)
+}
+
+/// How many fields have words.
+pub(crate) fn field_count(board: &Board) -> usize
+    ensures is { result ≡ field_count board.now }
+    ensures few { result < 256 }
+{
+    73 + 2
+        * (usize::from(board.mpu_secure)
+            + usize::from(board.mpu_nonsecure)
+            + usize::from(board.sau_regions))
+}
+
+/// The field of an index.
+#[tactic(auto, using(crate::proofs::Order::running_here, crate::proofs::Order::secure_here, crate::proofs::Order::nonsecure_here, crate::proofs::Order::shared_here))]
+pub(crate) fn field_at(board: &Board, index: usize) -> Field
+    requires { index < field_count board.now }
+    ensures { slice_get (fields board.now) index ≡ Some result }
+{
+    let nonsecure = RUNNING.len() + banked_count(board.mpu_secure);
+    let shared = nonsecure + banked_count(board.mpu_nonsecure);
+    if index < RUNNING.len() {
+        Field::Running(running_field(index))
+    } else if index < nonsecure {
+        let field = banked_field(index - RUNNING.len(), board.mpu_secure);
+        Field::Banked(Side::Secure, field)
+    } else if index < shared {
+        let field = banked_field(index - nonsecure, board.mpu_nonsecure);
+        Field::Banked(Side::NonSecure, field)
+    } else {
+        Field::Shared(shared_field(index - shared, board.sau_regions))
+    }
+}
+
+/// How many slots there are.
+pub(crate) fn slot_count(board: &Board) -> usize
+    ensures is { result ≡ slot_count board.now }
+    ensures few { result < 256 }
+{
+    SYSTEM_PLACES.len() + usize::from(board.interrupts)
+}
+
+/// The place of a slot by its index among those that there are.
+#[tactic(auto, using(crate::proofs::Order::system_here, crate::proofs::Order::interrupt_here))]
+pub(crate) fn slot_place(board: &Board, index: usize) -> usize
+    requires { index < slot_count board.now }
+    ensures is { slice_get (slot_places board.now.interrupts) index ≡ Some result }
+    ensures few { result < 272 }
+{
+    let _interrupts = board.interrupts;
+    if index < SYSTEM_PLACES.len() {
+        SYSTEM_PLACES[index]
+    } else {
+        index - SYSTEM_PLACES.len() + FIRST_INTERRUPT_PLACE
+    }
+}
+
+/// How many words a state of a board has.
+pub fn word_count(board: &Board) -> u32
+    ensures { result ≡ word_count board.now }
+{
+    let mut memory = 0;
+    for region in &board.regions {
+        memory += region.size / 4;
+    }
+    (field_count(board) + slot_count(board)) as u32 + memory
+}
+
+// ---- values as numbers
+
+pub(crate) fn side_number(side: Side) -> u32
+    ensures { result ≡ side_number side }
+{
+    match side {
+        Side::Secure => 0,
+        Side::NonSecure => 1,
+    }
+}
+
+fn sleep_number(sleep: Sleep) -> u32
+    ensures { result ≡ sleep_number sleep }
+{
+    match sleep {
+        Sleep::Awake => 0,
+        Sleep::Wfi => 1,
+        Sleep::Wfe => 2,
+    }
+}
+
+fn size_number(size: Size) -> u32
+    ensures { result ≡ size_number size }
+{
+    match size {
+        Size::Byte => 1,
+        Size::Half => 2,
+        Size::Word => 4,
+    }
+}
+
+/// xPSR.
+fn psr_word(registers: &Registers) -> u32
+    ensures { result ≡ psr_word registers.now }
+{
+    let it = u32::from(registers.it);
+    let t = u32::from(registers.t);
+    registers.apsr.word()
+        + RETPSR_IT_LOW * (it % 4)
+        + RETPSR_T * t
+        + RETPSR_IT_HIGH * (it / 4)
+        + u32::from(registers.ipsr)
+}
+
+impl Machine {
+    /// R0 to R12.
+    fn general_word(&self, k: u8) -> u32
+        ensures { result ≡ running_word self.now (variants.General k) }
+    {
+        match self.core.registers.general.get(usize::from(k)) {
+            Some(value) => *value,
+            None => 0,
+        }
+    }
+
+    fn running_word(&self, field: RunningField) -> u32
+        ensures { result ≡ running_word self.now field }
+    {
+        match field {
+            RunningField::Side => side_number(self.core.run.side),
+            RunningField::Locked => u32::from(self.core.run.locked),
+            RunningField::Sleep => sleep_number(self.core.run.sleep),
+            RunningField::Event => u32::from(self.core.event),
+            RunningField::General(k) => self.general_word(k),
+            RunningField::Lr => self.core.registers.lr,
+            RunningField::Pc => self.core.registers.pc,
+            RunningField::Xpsr => psr_word(&self.core.registers),
+            RunningField::MonitorSize => match self.bus.monitor() {
+                None => 0,
+                Some((_, size)) => size_number(size),
+            },
+            RunningField::MonitorAddress => match self.bus.monitor() {
+                None => 0,
+                Some((addr, _)) => addr,
+            },
+        }
+    }
+
+    /// RBAR and RLAR of a region of an MPU, zeros where it isn't there.
+    fn mpu_bounds(&self, side: Side, k: u8) -> Bounds
+        ensures { result ≡ bounds_at (mpu_of side self.now.bus).regions k }
+    {
+        match self.bus.mpu(side).region(k) {
+            None => Bounds { rbar: 0, rlar: 0 },
+            Some((rbar, rlar)) => Bounds { rbar, rlar },
+        }
+    }
+
+    /// Those of a region of the SAU.
+    fn sau_bounds(&self, k: u8) -> Bounds
+        ensures { result ≡ bounds_at self.now.bus.sau.regions k }
+    {
+        match self.bus.sau().region(k) {
+            None => Bounds { rbar: 0, rlar: 0 },
+            Some((rbar, rlar)) => Bounds { rbar, rlar },
+        }
+    }
+
+    fn banked_word(&self, side: Side, field: BankedField) -> u32
+        ensures { result ≡ banked_word self.now side field }
+    {
+        match field {
+            BankedField::Msp => self.core.msp(side),
+            BankedField::Psp => self.core.psp(side),
+            BankedField::Msplim => self.core.msplim(side),
+            BankedField::Psplim => self.core.psplim(side),
+            BankedField::Primask => self.core.primask(side),
+            BankedField::Basepri => self.core.basepri(side),
+            BankedField::Faultmask => self.core.faultmask(side),
+            BankedField::Control => self.core.control(side),
+            BankedField::Vtor => self.core.vtor(side),
+            BankedField::Ccr => self.core.ccr(side),
+            BankedField::Ufsr => self.core.ufsr(side),
+            BankedField::Mmfsr => self.core.mmfsr(side),
+            BankedField::Mmfar => self.core.mmfar(side),
+            BankedField::Prigroup => u32::from(self.exceptions.grouping(side)),
+            BankedField::MpuCtrl => self.bus.mpu_register(side, MpuRegister::Ctrl),
+            BankedField::MpuRnr => self.bus.mpu_register(side, MpuRegister::Rnr),
+            BankedField::Mair0 => self.bus.mpu_register(side, MpuRegister::Mair0),
+            BankedField::Mair1 => self.bus.mpu_register(side, MpuRegister::Mair1),
+            BankedField::MpuRbar(k) => self.mpu_bounds(side, k).rbar,
+            BankedField::MpuRlar(k) => self.mpu_bounds(side, k).rlar,
+            BankedField::SystCsr => self.exceptions.timer(side).csr,
+            BankedField::SystRvr => self.exceptions.timer(side).rvr,
+            BankedField::SystCvr => self.exceptions.timer(side).cvr,
+        }
+    }
+
+    fn shared_word(&self, field: SharedField) -> u32
+        ensures { result ≡ shared_word self.now field }
+    {
+        match field {
+            SharedField::SauCtrl => self.bus.sau_register(SauRegister::Ctrl),
+            SharedField::SauRnr => self.bus.sau_register(SauRegister::Rnr),
+            SharedField::SauRbar(k) => self.sau_bounds(k).rbar,
+            SharedField::SauRlar(k) => self.sau_bounds(k).rlar,
+            SharedField::Sfsr => self.core.sfsr(),
+            SharedField::Sfar => self.core.sfar(),
+            SharedField::Bfsr => self.core.bfsr(),
+            SharedField::Bfar => self.core.bfar(),
+            SharedField::Hfsr => self.core.hfsr(),
+            SharedField::Pris => u32::from(self.exceptions.pris()),
+            SharedField::Bfhfnmins => u32::from(self.exceptions.fault_side()),
+        }
+    }
+
+    /// The word of a field.
+    pub(crate) fn word_of(&self, field: Field) -> u32
+        ensures { result ≡ word_of self.now field }
+    {
+        match field {
+            Field::Running(field) => self.running_word(field),
+            Field::Banked(side, field) => self.banked_word(side, field),
+            Field::Shared(field) => self.shared_word(field),
+        }
+    }
+
+    /// The word of the slot at a place.
+    pub(crate) fn slot_word(&self, place: usize) -> u32
+        requires { place < 272 }
+        ensures { result ≡ slot_word self.now.exceptions place }
+    {
+        let slot = self.exceptions.at(place);
+        let enabled = self.exceptions.is_enabled(place);
+        u32::from(slot.priority)
+            + 0x100 * u32::from(slot.pending)
+            + 0x200 * u32::from(slot.active)
+            + 0x400 * u32::from(enabled)
+            + 0x800 * side_number(slot.target)
+    }
+
+    /// A word of a region, all of whose bytes are in memory.
+    fn region_word(&self, region: &Region, index: u32) -> u32
+        requires there { index < region.now.size / 4 }
+        requires low { region.now.base + region.now.size < 2 ^ 32 }
+        requires mapped { (a : ℕ) → in_region region.now a ≡ true → is_mapped self.now.bus.board.regions a ≡ true }
+        ensures { result ≡ word_at self.now.bus.memory (region.now.base + 4 * index) }
+    {
+        match self.bus.read(region.base + 4 * index, Size::Word) {
+            Ok(word) => word,
+            Err(_) => 0,
+        }
+    }
+
+    /// A word of memory by its index among those of the board's regions.
+    fn memory_word(&self, regions: &[Region], index: u32) -> Option<u32>
+        requires board { regions.now ≡ self.now.bus.board.regions }
+        requires blocks { are_regions regions.now ≡ true }
+        ensures { result ≡ slice_get (memory_words self.now.bus.memory regions.now) index }
+    {
+        let mut left = index;
+        for region in regions {
+            let count = region.size / 4;
+            if left < count {
+                return Some(self.region_word(region, left));
+            }
+            left -= count;
+        }
+        None
+    }
+
+    /// The word of an index, of those that tell all of the machine: fields, slots, memory. None exactly past
+    /// their count.
+    #[tactic(auto, using(crate::proofs::Indexed::field_told, crate::proofs::Indexed::slot_told, crate::proofs::Indexed::memory_told))]
+    pub fn word(&self, index: u32) -> Option<u32>
+        ensures { result ≡ slice_get (state_words self.now) index }
+    {
+        let board = self.bus.board();
+        let fields = field_count(board) as u32;
+        let slots = slot_count(board) as u32;
+        if index < fields {
+            return Some(self.word_of(field_at(board, index as usize)));
+        }
+        if index - fields < slots {
+            return Some(self.slot_word(slot_place(board, (index - fields) as usize)));
+        }
+        self.memory_word(&board.regions, index - fields - slots)
+    }
+}

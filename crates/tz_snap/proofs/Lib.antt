@@ -1,0 +1,10 @@
+pub mod Words
+pub mod Lists
+pub mod Passed
+pub mod HeadWords
+pub mod Fits
+pub mod Files
+pub mod Bounds
+pub mod StateFits
+pub mod Counts
+pub mod BothLaws

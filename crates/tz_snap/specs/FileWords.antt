@@ -1,0 +1,8 @@
+-- Words of 32 bits as bytes.
+use Rattle.std.specs.Prelude.{ℕ, List, [], ◌∷◌, ◌++◌}
+use Rattle.std.specs.Int.{w32, to_le_bytes}
+
+-- the low byte of each word first
+abbrev pub bytes_of_words : List ℕ → List ℕ
+bytes_of_words [] = []
+bytes_of_words (w ∷ ws) = to_le_bytes w32 w ++ bytes_of_words ws

@@ -1,0 +1,4 @@
+pub mod FileWords
+pub mod StateFile
+pub mod Refusals
+pub mod Passing
