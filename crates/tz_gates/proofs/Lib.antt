@@ -1,0 +1,14 @@
+pub mod Scanning
+pub mod Listed
+pub mod Finding
+pub mod Regions
+pub mod Hits
+pub mod Entering
+pub mod Exact
+pub mod Counting
+pub mod Lines
+pub mod EvenTaken
+pub mod EvenOffsets
+pub mod EvenExecuted
+pub mod EvenStep
+pub mod Starting

@@ -1,0 +1,5 @@
+pub mod Gates
+pub mod Entries
+pub mod Stays
+pub mod GatesText
+pub mod Scanned
