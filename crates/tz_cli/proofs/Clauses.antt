@@ -10,9 +10,11 @@ use Rattle.tz_twin.specs.Trace.{text_from}
 use Rattle.tz_run.specs.Events.{events_of}
 use Rattle.tz_twin.proofs.TwoRuns.{isolated}
 use Rattle.tz_cli.specs.Run.{RunWords}
-use Rattle.tz_cli.specs.Commands.{Command, Run, Pair, Asm, Dis, command_of}
-use Rattle.tz_cli.specs.Told.{Stop, BadWords, TooManySteps, Unread, TooLong, BadBoard, BadImage, BadScript, BadSource, Told, Unknown, Stops, Gives, told_then, Job, Task, run_task, told, IsDone, job_told, trace_of, state_of}
-use Rattle.tz_cli.specs.Reads.{reads_of, TellsOf}
+use Rattle.tz_cli.specs.Commands.{Command, Run, Pair, Asm, Dis, Gates, Snap, Resume, command_of}
+use Rattle.tz_cli.specs.Told.{Stop, BadWords, TooManySteps, Unread, TooLong, BadBoard, BadImage, BadState, BadScript, BadSource, TooFar, Told, Unknown, Stops, Gives, told_then}
+use Rattle.tz_cli.specs.Reads.{TellsOf}
+use Rattle.tz_cli.specs.Starts.{state_of}
+use Rattle.tz_cli.specs.Tasks.{Job, Task, run_task, told, reads_of, IsDone, job_told, trace_of}
 use Rattle.tz_cli.specs.Lines.{stop_line, status_of}
 use Rattle.tz_cli.specs.Answer.{Allows, AllowsStop, Shelved, IsUnread, IsCaused, IsLine, Call, told_of, GainsFront, Exceeds, Answer, Done, Broken, Stopped, Wanting, Silent, Excused, IsText, IsRefusedBy, NamesUnread, CutsLine, IsStatus}
 use Rattle.tz_cli.proofs.Reached.{absent_task, never_gives}
@@ -27,6 +29,9 @@ done_below (Some (Pair p)) n (inl h) = omega arith
 done_below (Some (Pair p)) n (inr h) = omega arith
 done_below (Some (Asm a)) n h = omega arith
 done_below (Some (Dis d)) n h = omega arith
+done_below (Some (Gates s)) n h = omega arith
+done_below (Some (Snap s)) n h = omega arith
+done_below (Some (Resume w)) n h = omega arith
 
 stop_above : (stop : Stop) → 2 ≤ status_of stop
 stop_above BadWords = omega arith
@@ -35,8 +40,10 @@ stop_above (Unread name) = omega arith
 stop_above (TooLong name) = omega arith
 stop_above (BadBoard name refusal) = omega arith
 stop_above (BadImage name refusal) = omega arith
+stop_above (BadState name refusal) = omega arith
 stop_above (BadScript name refusal) = omega arith
 stop_above (BadSource name refusal) = omega arith
+stop_above (TooFar name) = omega arith
 
 not_broken : (stop : Stop) → status_of stop ≢ 4
 not_broken BadWords e = cc
@@ -45,8 +52,10 @@ not_broken (Unread name) e = cc
 not_broken (TooLong name) e = cc
 not_broken (BadBoard name refusal) e = cc
 not_broken (BadImage name refusal) e = cc
+not_broken (BadState name refusal) e = cc
 not_broken (BadScript name refusal) e = cc
 not_broken (BadSource name refusal) e = cc
+not_broken (TooFar name) e = cc
 
 not_wanting : (stop : Stop) → status_of stop ≢ 7
 not_wanting BadWords e = cc
@@ -55,8 +64,10 @@ not_wanting (Unread name) e = cc
 not_wanting (TooLong name) e = cc
 not_wanting (BadBoard name refusal) e = cc
 not_wanting (BadImage name refusal) e = cc
+not_wanting (BadState name refusal) e = cc
 not_wanting (BadScript name refusal) e = cc
 not_wanting (BadSource name refusal) e = cc
+not_wanting (TooFar name) e = cc
 
 -- ---- what is settled
 
@@ -91,8 +102,10 @@ cause_of c (Unread name) h = OfFile name refl h
 cause_of c (TooLong name) h = OfTold h.0 h.1 (λ e. cc)
 cause_of c (BadBoard name refusal) h = OfTold h.0 h.1 (λ e. cc)
 cause_of c (BadImage name refusal) h = OfTold h.0 h.1 (λ e. cc)
+cause_of c (BadState name refusal) h = OfTold h.0 h.1 (λ e. cc)
 cause_of c (BadScript name refusal) h = OfTold h.0 h.1 (λ e. cc)
 cause_of c (BadSource name refusal) h = OfTold h.0 h.1 (λ e. cc)
+cause_of c (TooFar name) h = OfTold h.0 h.1 (λ e. cc)
 
 -- ---- the causes of answers
 
@@ -103,8 +116,10 @@ usage_of_stop c (Unread name) e h = absurd (cc)
 usage_of_stop c (TooLong name) e h = absurd (cc)
 usage_of_stop c (BadBoard name refusal) e h = absurd (cc)
 usage_of_stop c (BadImage name refusal) e h = absurd (cc)
+usage_of_stop c (BadState name refusal) e h = absurd (cc)
 usage_of_stop c (BadScript name refusal) e h = absurd (cc)
 usage_of_stop c (BadSource name refusal) e h = absurd (cc)
+usage_of_stop c (TooFar name) e h = absurd (cc)
 
 pub usage_only : (c : Call) (result : ℕ) → Answer c result → result ≡ 2 → c.command ≡ None
 usage_only c result (Done task e done told out err) is = let below = done_below c.command result done in absurd (omega arith)
@@ -306,7 +321,7 @@ room_suffices c result (Wanting e out err) text is = never_four c result text (�
 
 sound_stop : (c : Call) (stop : Stop) → Cause c stop → IsTrue c.shelf.sound → (task : Task) → told_of c ≡ Gives task → status_of stop ≢ 3
 sound_stop c stop (OfFile name e unread) sound task is three =
-    never_gives (told_of c) task (absent_task c.shelf.held c.command name unread.form (unread.absent sound) unread.read) is
+    never_gives (told_of c) task (absent_task c.shelf.held c.command (record { name = name; form = unread.form }) (unread.absent sound) unread.read) is
 sound_stop c stop (OfTold told read other) sound task is three = other three
 
 pub sound_reads : (c : Call) (result : ℕ) → Answer c result → IsTrue c.shelf.sound → (task : Task) → told_of c ≡ Gives task → result ≢ 3
@@ -345,8 +360,10 @@ stop_status o (Unread name) = inr (inr (inl refl))
 stop_status o (TooLong name) = inr (inr (inr (inr (inr (inl refl)))))
 stop_status o (BadBoard name refusal) = inr (inr (inr (inr (inl refl))))
 stop_status o (BadImage name refusal) = inr (inr (inr (inr (inl refl))))
+stop_status o (BadState name refusal) = inr (inr (inr (inr (inl refl))))
 stop_status o (BadScript name refusal) = inr (inr (inr (inr (inl refl))))
 stop_status o (BadSource name refusal) = inr (inr (inr (inr (inl refl))))
+stop_status o (TooFar name) = inr (inr (inr (inr (inr (inl refl)))))
 
 pub one_status : (c : Call) (result : ℕ) → Answer c result → IsStatus c.command result
 one_status c result (Done task e done told out err) = inl done

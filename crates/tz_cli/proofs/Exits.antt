@@ -1,32 +1,34 @@
 -- The exits of a call, each as its answer.
 use Rattle.std.proofs.Common.{◌≡◌, ◌⊎◌, inl, inr, ℕ, ◌+◌, ◌<◌, ◌≤◌, Bool, true, false, cond, List, [], length, Option, Some, None, Result, Ok, Err, refl, sym, ap, ◌∙◌, subst, arith, append-nil}
-use Rattle.std.specs.Prelude.{IsOk, IfSome, nat_lt, codes}
-use Rattle.std.proofs.lemmas.Bool.Decides.{nat_tests}
+use Rattle.std.specs.Prelude.{IsOk, IfSome, codes}
 use Rattle.tz_model.specs.declared.outside.SinkError.{SinkError}
 use Rattle.tz_model.specs.declared.outside.SinkError.TheVariants.{Failed}
-use Rattle.tz_model.specs.Outside.{Held, Rose, Gains, Put}
-use Rattle.tz_model.specs.Image.{ImageValue}
-use Rattle.tz_cli.specs.Run.{RunWords, run_names}
-use Rattle.tz_cli.specs.Pair.{PairWords, pair_names}
+use Rattle.tz_model.specs.Outside.{Held, Rose, Gains, HasCause, Put}
+use Rattle.tz_board.specs.BoardErrors.{refusal_of}
+use Rattle.tz_board.specs.ScriptErrors.{script_refusal_of}
 use Rattle.tz_sem.specs.Run.{Events}
 use Rattle.tz_iso.specs.declared.answer.What.{What}
 use Rattle.tz_iso.specs.Runs.{PairValue, difference}
+use Rattle.tz_cli.specs.StartWords.{StartWords}
+use Rattle.tz_cli.specs.Resume.{ResumeWords}
+use Rattle.tz_cli.specs.Pair.{PairWords}
 use Rattle.tz_cli.specs.PairLine.{is_agreed, pair_line, pair_status}
-use Rattle.tz_cli.specs.Asm.{AsmWords, asm_names}
-use Rattle.tz_cli.specs.Dis.{DisWords, dis_names}
-use Rattle.tz_cli.specs.Commands.{Command, Run, Pair, Asm, Dis, command_of, longest, names_of}
-use Rattle.tz_cli.proofs.FileNames.{names_of-longest}
+use Rattle.tz_cli.specs.declared.words.start.Work.{Work}
+use Rattle.tz_cli.specs.declared.words.start.Work.TheVariants as works
+use Rattle.tz_cli.specs.Commands.{Command, Run, Pair, Resume, command_of, command_with, longest, names_of}
 use Rattle.tz_cli.specs.declared.stops.LoadError.{LoadError}
-use Rattle.tz_cli.specs.declared.stops.LoadError.TheVariants.{Unread, Long, Board, Image, Script, Source, Memory}
-use Rattle.tz_cli.specs.Told.{Stop, BadWords, TooManySteps, TooLong, BadBoard, BadImage, BadScript, BadSource, Told, Unknown, Stops, Gives, told_then, Start, Job, Task, run_task, PairStart, PairJob, pair_task, pair_told, pair_start_told, asm_task, dis_task, told, IsDone, start_told, job_told, source_told, listed_told, step_limit}
+use Rattle.tz_cli.specs.declared.stops.LoadError.TheVariants.{Unread, Long, Board, Image, State, Script, Source, Memory}
+use Rattle.tz_cli.specs.Told.{Stop, BadWords, TooManySteps, TooLong, BadBoard, BadImage, BadState, BadScript, BadSource, TooFar, Told, Stops, Gives, told_then, step_limit}
 use Rattle.tz_cli.specs.Told as stops
-use Rattle.tz_cli.specs.Reads.{AsBoard, AsImage, AsScript, AsSource, Reading, run_reads, pair_reads, dis_reads, reads_of, IsOneOf}
-use Rattle.tz_cli.specs.Lines.{stop_line, status_of}
+use Rattle.tz_cli.specs.Reads.{AsBoard, AsImage, AsState, AsScript, AsSource, Reading, Settled, goes_on, read_where, settling, within_limit, IsOneOf}
+use Rattle.tz_cli.specs.Starts.{Start, PairStart, SavedStart, board_files, start_files, kept_files, saved_files, pair_start_files}
+use Rattle.tz_cli.specs.Tasks.{Task, PairJob, pair_task, resumed_text, resume_next, work_task, told, reads_of, files_of, IsDone, difference_of}
+use Rattle.tz_cli.specs.Lines.{stop_line, status_of, put_status}
 use Rattle.tz_cli.specs.Answer.{Allows, AllowsStop, Shelved, IsSettled, IsCaused, IsLine, Call, told_of, GainsFront, Exceeds, IsTold, Answer, Done, Broken, Stopped, Wanting, Silent}
-use Rattle.tz_cli.specs.Faults.{AllowsRefusal, IsFault, IsFile, image_refusal, source_refusal, name_told, stop_of, stop_with, line_with, status_with}
-use Rattle.tz_cli.proofs.Reached.{run_within, pair_within, dis_within}
-use Rattle.tz_board.specs.BoardErrors.{refusal_of}
-use Rattle.tz_board.specs.ScriptErrors.{script_refusal_of}
+use Rattle.tz_cli.specs.Faults.{AllowsRefusal, IsFault, Standing, between, IsRead, image_refusal, state_refusal, source_refusal, name_told, stop_of, stop_with, line_with, status_with}
+use Rattle.tz_cli.proofs.FileNames.{names_of-longest}
+use Rattle.tz_cli.proofs.Reached.{sure_command}
+use Rattle.tz_cli.proofs.Settling.{then_stop, after_stop, then_allows, allows_given, allowed_goes, goes_first, read_here, settling_twice, limit_kept, limit_passed, one_of_first, one_of_second, past, fits}
 
 pub gains_nothing : (w : Option (List ℕ)) → Gains w w []
 gains_nothing None = refl
@@ -75,213 +77,206 @@ answer_command c result words command is room e h =
     let wide = answer_wider (record c { command = Some command; room = 64 + longest (names_of command) }) c.room result (let l = names_of-longest words command e in omega arith) h in
     subst (λ (o : Option Command). Answer (record c { command = o }) result) (sym (is ∙ e)) wide
 
--- ---- what is settled of a run
+-- ---- what a command's files settle
 
-within_cond : {A : Type 0} (P : A → Type 0) (t : Bool) (stop later : A) → t ≡ false → P later → P (cond t stop later)
-within_cond P true stop later e h = absurd (cc)
-within_cond P false stop later e h = h
-
-many_cond : {A : Type 0} (P : A → Type 0) (t : Bool) (stop later : A) → t ≡ true → P stop → P (cond t stop later)
-many_cond P true stop later e h = h
-many_cond P false stop later e h = absurd (cc)
-
-pub then_stop : {A B : Type 0} (t : Told A) (next : A → Told B) (stop : Stop) → AllowsStop t stop → AllowsStop (told_then t next) stop
-then_stop Unknown next stop h = h
-then_stop (Stops s) next stop h = h
-then_stop (Gives x) next stop h = absurd h
-
-pub then_gives : {A B : Type 0} (f : A → B) (t : Told A) (x : A) → Allows t x → Allows (told_then t (λ y. Gives (f y))) (f x)
-then_gives f Unknown x h = tt
-then_gives f (Stops s) x h = absurd h
-then_gives f (Gives y) x h = ap f h
-
-past : (n m : ℕ) → n < m → nat_lt n m ≡ true
-past n m l = grind (arith, nat_tests)
-
-fits : (n m : ℕ) → m ≤ n → nat_lt n m ≡ false
-fits n m l = grind (arith, nat_tests)
-
-run_of_stop : (held : List ℕ → Held) (r : RunWords) (stop : Stop) → r.steps ≤ step_limit → AllowsStop (start_told held r) stop → AllowsStop (told held (Some (Run r))) stop
-run_of_stop held r stop l h =
-    then_stop (job_told held r) _ stop
-    (within_cond (λ (t : Told Job). AllowsStop t stop) (nat_lt step_limit r.steps) _ _ (fits step_limit r.steps l) (then_stop (start_told held r) _ stop h))
-
-pub run_of_start : (held : List ℕ → Held) (r : RunWords) (start : Start) → r.steps ≤ step_limit → Allows (start_told held r) start
-    → Allows (told held (Some (Run r))) (run_task (record { words = r; start = start }))
-run_of_start held r start l h =
-    then_gives run_task (job_told held r) (record { words = r; start = start })
-    (within_cond (λ (t : Told Job). Allows t (record { words = r; start = start })) (nat_lt step_limit r.steps) _ _ (fits step_limit r.steps l)
-    (then_gives (λ (s : Start). record { words = r; start = s }) (start_told held r) start h))
-
--- past the limit of steps nothing is read
-steps_settled : (s : Shelved) (r : RunWords) → step_limit < r.steps → IsSettled (Some (Run r)) s TooManySteps
-steps_settled s r l =
-    (then_stop (job_told s.held r) _ TooManySteps (many_cond (λ (t : Told Job). AllowsStop t TooManySteps) (nat_lt step_limit r.steps) (Stops TooManySteps) _ (past step_limit r.steps l) refl), tt)
-
-answer_settled : (c : Call) (result : ℕ) (command : Command) → c.command ≡ Some command → IsSettled (Some command) c.shelf TooManySteps → Gains c.out.old c.out.new [] → 64 ≤ c.room
-    → IsRefused c result (codes "limit steps\n") 6 → Answer c result
-answer_settled c result command e settled quiet short h =
-    answer_stop c result TooManySteps (subst (λ (o : Option Command). IsSettled o c.shelf TooManySteps) (sym e) settled) quiet (omega arith) h
-
-pub answer_steps : (c : Call) (result : ℕ) (r : RunWords) → c.command ≡ Some (Run r) → step_limit < r.steps → Gains c.out.old c.out.new [] → 64 ≤ c.room
-    → IsRefused c result (codes "limit steps\n") 6 → Answer c result
-answer_steps c result r e l quiet short h = answer_settled c result (Run r) e (steps_settled c.shelf r l) quiet short h
-
--- ---- a fault of a command's files
-
--- how what is settled of a command's files settles the command: what is read of them is read by it, with room for
--- a line of its name, and what stops them stops it
-pub record Loads {A : Type 0} (c : Call) (IsRead : Reading → Type 0) (t : Told A) : Type 0 where
-  pub command : Command
+-- the command of a call, with room for a line of each of its names, and what comes of what its files settle
+pub record Comes {A : Type 0} (c : Call) (command : Command) (files : Settled A) (next : A → Told Task) : Type 0 where
   pub is : c.command ≡ Some command
-  pub read : (file : Reading) → IsRead file → IsOneOf (reads_of c.shelf.held (Some command)) file
-  pub within : (file : Reading) → IsRead file → 64 + length file.name ≤ c.room
-  pub stops : (stop : Stop) → AllowsStop t stop → AllowsStop (told c.shelf.held (Some command)) stop
+  pub room : c.room ≡ 64 + longest (names_of command)
+  pub settles : files_of c.shelf.held (Some command) ≡ settling next files
 
 caused : (c : Call) (command : Command) (stop : Stop) → c.command ≡ Some command → IsCaused (Some command) c.shelf stop → IsCaused c.command c.shelf stop
 caused c command stop e h = subst (λ (o : Option Command). IsCaused o c.shelf stop) (sym e) h
 
-module _ {A : Type 0} (c : Call) (IsRead : Reading → Type 0) (t : Told A) (loads : Loads c IsRead t) where
-  answer_refusal : {E : Type 0} (result : ℕ) (stop : E → Stop) (o : Option E) → 64 ≤ c.room
-      → ((x : E) → AllowsStop t (stop x) → IsCaused (Some loads.command) c.shelf (stop x)) → AllowsRefusal t stop o
-      → Gains c.out.old c.out.new [] → length (line_with (stop_with stop o)) ≤ c.room → IsRefused c result (line_with (stop_with stop o)) (status_with (stop_with stop o)) → Answer c result
-  answer_refusal result stop None room is told quiet short h = answer_memory c result quiet room h
-  answer_refusal result stop (Some refusal) room is told quiet short h =
-      answer_stop c result (stop refusal) (caused c loads.command (stop refusal) loads.is (is refusal told)) quiet short h
+module _ {A : Type 0} (c : Call) (command : Command) (files : Settled A) (next : A → Told Task) (comes : Comes c command files next) where
+  -- what is read of them is read by the command, what stops them stops it, and what they give goes on
+  is_read : (file : Reading) → IsOneOf files.reads file → IsOneOf (reads_of c.shelf.held (Some command)) file
+  is_read file read = subst (λ (x : Settled Task). IsOneOf x.reads file) (sym comes.settles) read
 
-  answer_fault : (result : ℕ) (fault : LoadError) → 64 ≤ c.room → IsFault c.shelf IsRead t fault
+  is_stopped : (stop : Stop) → AllowsStop files.told stop → AllowsStop (told c.shelf.held (Some command)) stop
+  is_stopped stop stops = subst (λ (x : Settled Task). AllowsStop x.told stop) (sym comes.settles) (then_stop files.told next stop stops)
+
+  is_allowed : (x : A) (task : Task) → Allows files.told x → next x ≡ Gives task → Allows (told_of c) task
+  is_allowed x task allowed gives =
+      subst (λ (o : Option Command). Allows (told c.shelf.held o) task) (sym comes.is)
+      (subst (λ (y : Settled Task). Allows y.told task) (sym comes.settles) (then_allows files.told next x task allowed (allows_given (next x) task gives)))
+
+  enough : 64 ≤ c.room
+  enough = let room = comes.room in omega (arith, room)
+
+  name_within : (file : Reading) → IsOneOf files.reads file → 64 + length file.name ≤ c.room
+  name_within file read =
+      let room = comes.room in
+      let short = (sure_command c.shelf.held command).within file (is_read file read) in
+      omega (arith, room, short)
+
+  -- want of memory
+  pub answer_wanting : (result : ℕ) → Gains c.out.old c.out.new [] → IsRefused c result (codes "no memory\n") 7 → Answer c result
+  answer_wanting result quiet h = answer_memory c result quiet enough h
+
+  answer_settled : (result : ℕ) (stop : Stop) → IsCaused (Some command) c.shelf stop → Gains c.out.old c.out.new [] → length (stop_line stop) ≤ c.room
+      → IsRefused c result (stop_line stop) (status_of stop) → Answer c result
+  answer_settled result stop is quiet short h = answer_stop c result stop (caused c command stop comes.is is) quiet short h
+
+  answer_refusal : {E : Type 0} (result : ℕ) (stop : E → Stop) (o : Option E) → ((x : E) → AllowsStop files.told (stop x) → IsCaused (Some command) c.shelf (stop x)) → AllowsRefusal files.told stop o
+      → Gains c.out.old c.out.new [] → length (line_with (stop_with stop o)) ≤ c.room → IsRefused c result (line_with (stop_with stop o)) (status_with (stop_with stop o)) → Answer c result
+  answer_refusal result stop None is told quiet short h = answer_wanting result quiet h
+  answer_refusal result stop (Some refusal) is told quiet short h = answer_settled result (stop refusal) (is refusal told) quiet short h
+
+  answer_fault : (result : ℕ) (fault : LoadError) → IsFault c.shelf files fault
       → Gains c.out.old c.out.new [] → length (line_with (stop_of fault)) ≤ c.room → IsRefused c result (line_with (stop_of fault)) (status_with (stop_of fault)) → Answer c result
-  answer_fault result (Unread name) room told quiet short h =
-      answer_stop c result (stops.Unread name.now)
-      (caused c loads.command (stops.Unread name.now) loads.is
-      (record { form = told.0.0; read = loads.read (record { name = name.now; form = told.0.0 }) told.0.1; rose = told.1; absent = told.2 })) quiet short h
-  answer_fault result (Long name) room told quiet short h =
-      answer_stop c result (TooLong name.now)
-      (caused c loads.command (TooLong name.now) loads.is
-      (loads.stops (TooLong name.now) told.1, (told.0.0, loads.read (record { name = name.now; form = told.0.0 }) told.0.1))) quiet short h
-  answer_fault result (Board name error) room told quiet short h =
-      answer_refusal result (BadBoard name.now) (refusal_of error) room
-      (λ x stop. (loads.stops (BadBoard name.now x) stop, loads.read (record { name = name.now; form = AsBoard }) told.0)) told.1 quiet short h
-  answer_fault result (Image name error) room told quiet short h =
-      answer_refusal result (BadImage name.now) (image_refusal error) room
-      (λ x stop. (loads.stops (BadImage name.now x) stop, loads.read (record { name = name.now; form = AsImage }) told.0)) told.1 quiet short h
-  answer_fault result (Script name error) room told quiet short h =
-      answer_refusal result (BadScript name.now) (script_refusal_of error) room
-      (λ x stop. (loads.stops (BadScript name.now x) stop, loads.read (record { name = name.now; form = AsScript }) told.0)) told.1 quiet short h
-  answer_fault result (Source name error) room told quiet short h =
-      answer_refusal result (BadSource name.now) (source_refusal error) room
-      (λ x stop. (loads.stops (BadSource name.now x) stop, loads.read (record { name = name.now; form = AsSource }) told.0)) told.1 quiet short h
-  answer_fault result Memory room told quiet short h = answer_memory c result quiet room h
+  answer_fault result (Unread name) told quiet short h =
+      answer_settled result (stops.Unread name.now)
+      (record { form = told.0.0; read = is_read (record { name = name.now; form = told.0.0 }) told.0.1; rose = told.1; absent = told.2 }) quiet short h
+  answer_fault result (Long name) told quiet short h =
+      answer_settled result (TooLong name.now)
+      (is_stopped (TooLong name.now) told.1, (told.0.0, is_read (record { name = name.now; form = told.0.0 }) told.0.1)) quiet short h
+  answer_fault result (Board name error) told quiet short h =
+      answer_refusal result (BadBoard name.now) (refusal_of error)
+      (λ x stop. (is_stopped (BadBoard name.now x) stop, is_read (record { name = name.now; form = AsBoard }) told.0)) told.1 quiet short h
+  answer_fault result (Image name error) told quiet short h =
+      answer_refusal result (BadImage name.now) (image_refusal error)
+      (λ x stop. (is_stopped (BadImage name.now x) stop, is_read (record { name = name.now; form = AsImage }) told.0)) told.1 quiet short h
+  answer_fault result (State name error) told quiet short h =
+      answer_refusal result (BadState name.now) (state_refusal error)
+      (λ x stop. (is_stopped (BadState name.now x) stop, is_read (record { name = name.now; form = AsState }) told.0)) told.1 quiet short h
+  answer_fault result (Script name error) told quiet short h =
+      answer_refusal result (BadScript name.now) (script_refusal_of error)
+      (λ x stop. (is_stopped (BadScript name.now x) stop, is_read (record { name = name.now; form = AsScript }) told.0)) told.1 quiet short h
+  answer_fault result (Source name error) told quiet short h =
+      answer_refusal result (BadSource name.now) (source_refusal error)
+      (λ x stop. (is_stopped (BadSource name.now x) stop, is_read (record { name = name.now; form = AsSource }) told.0)) told.1 quiet short h
+  answer_fault result Memory told quiet short h = answer_wanting result quiet h
 
   -- there is room for a line of the name that a fault tells
-  name_fits : (fault : LoadError) → 64 ≤ c.room → IsFault c.shelf IsRead t fault → 64 + length (name_told fault) ≤ c.room
-  name_fits (Unread name) room told = loads.within (record { name = name.now; form = told.0.0 }) told.0.1
-  name_fits (Long name) room told = loads.within (record { name = name.now; form = told.0.0 }) told.0.1
-  name_fits (Board name error) room told = loads.within (record { name = name.now; form = AsBoard }) told.0
-  name_fits (Image name error) room told = loads.within (record { name = name.now; form = AsImage }) told.0
-  name_fits (Script name error) room told = loads.within (record { name = name.now; form = AsScript }) told.0
-  name_fits (Source name error) room told = loads.within (record { name = name.now; form = AsSource }) told.0
-  name_fits Memory room told = omega arith
+  name_fits : (fault : LoadError) → IsFault c.shelf files fault → 64 + length (name_told fault) ≤ c.room
+  name_fits (Unread name) told = name_within (record { name = name.now; form = told.0.0 }) told.0.1
+  name_fits (Long name) told = name_within (record { name = name.now; form = told.0.0 }) told.0.1
+  name_fits (Board name error) told = name_within (record { name = name.now; form = AsBoard }) told.0
+  name_fits (Image name error) told = name_within (record { name = name.now; form = AsImage }) told.0
+  name_fits (State name error) told = name_within (record { name = name.now; form = AsState }) told.0
+  name_fits (Script name error) told = name_within (record { name = name.now; form = AsScript }) told.0
+  name_fits (Source name error) told = name_within (record { name = name.now; form = AsSource }) told.0
+  name_fits Memory told = enough
 
   -- its line was told, or that of want of memory
-  pub answer_told : (result : ℕ) (fault : LoadError) → 64 ≤ c.room → IsFault c.shelf IsRead t fault → Gains c.out.old c.out.new []
+  pub answer_told : (result : ℕ) (fault : LoadError) → IsFault c.shelf files fault → Gains c.out.old c.out.new []
       → ((length (line_with (stop_of fault)) ≤ 64 + length (name_told fault)) × IsRefused c result (line_with (stop_of fault)) (status_with (stop_of fault)))
       ⊎ IsRefused c result (codes "no memory\n") 7
       → Answer c result
-  answer_told result fault room told quiet (inl h) =
+  answer_told result fault told quiet (inl h) =
       let short = h.0 in
-      let name = name_fits fault room told in
-      answer_fault result fault room told quiet (omega (arith, short, name)) h.1
-  answer_told result fault room told quiet (inr h) = answer_memory c result quiet room h
+      let name = name_fits fault told in
+      answer_fault result fault told quiet (omega (arith, short, name)) h.1
+  answer_told result fault told quiet (inr h) = answer_wanting result quiet h
 
--- ---- tasks
+  -- what the files give stops the command, by a file that is read
+  pub answer_late : (result : ℕ) (x : A) (name : List ℕ) → Allows files.told x → next x ≡ Stops (TooFar name) → IsOneOf files.reads (record { name = name; form = AsState })
+      → Gains c.out.old c.out.new [] → IsRefused c result (codes "limit steps\n") 6 → Answer c result
+  answer_late result x name allowed e read quiet h =
+      let stops : AllowsStop (told_then files.told next) (TooFar name) =
+      after_stop files.told next x (TooFar name) allowed tt (subst (λ t. AllowsStop t (TooFar name)) (sym e) refl) in
+      let stopped : AllowsStop (told c.shelf.held (Some command)) (TooFar name) = subst (λ (y : Settled Task). AllowsStop y.told (TooFar name)) (sym comes.settles) stops in
+      let room = comes.room in
+      answer_settled result (TooFar name) (stopped, is_read (record { name = name; form = AsState }) read) quiet (omega (arith, room)) h
 
--- a sink has one error
-pub failed_alone : {T : Type 0} (error : SinkError) → ◌≡◌ {A = Result T SinkError} (Err error) (Err Failed)
-failed_alone Failed = refl
+  -- a task whose text is told is answered by its status
+  pub answer_task : (result : ℕ) (x : A) (task : Task) → IsDone (Some command) task.status → Allows files.told x → next x ≡ Gives task
+      → IsTold result task.text task.status c.out.old c.out.new c.out.space c.out.before c.out.now → c.err.new ≡ c.err.old → Answer c result
+  answer_task result x task done allowed gives (inl h) same =
+      Done task h.0 (subst (λ (o : Option Command). IsDone o result) (sym comes.is) (subst (IsDone (Some command)) (sym h.0) done)) (is_allowed x task allowed gives) h.1
+      (subst (λ (w : Option (List ℕ)). Gains c.err.old w []) (sym same) (gains_nothing c.err.old))
+  answer_task result x task done allowed gives (inr h) same =
+      Broken task h.0 (is_allowed x task allowed gives) h.3 h.1 h.2 (subst (λ (w : Option (List ℕ)). Gains c.err.old w []) (sym same) (gains_nothing c.err.old))
+
+-- ---- the limit of steps
+
+module _ {A : Type 0} (c : Call) (command : Command) (steps : ℕ) (files : Settled A) (next : A → Told Task) (comes : Comes c command (within_limit steps files) next) where
+  -- within it
+  pub within : steps ≤ step_limit → Comes c command files next
+  within l = record { is = comes.is; room = comes.room; settles = comes.settles ∙ ap (settling next) (limit_kept steps files l) }
+
+  -- past it nothing is read
+  pub answer_steps : (result : ℕ) → step_limit < steps → Gains c.out.old c.out.new [] → IsRefused c result (codes "limit steps\n") 6 → Answer c result
+  answer_steps result l quiet h =
+      let room = comes.room in
+      let stops : AllowsStop (told c.shelf.held (Some command)) TooManySteps =
+      subst (λ (x : Settled Task). AllowsStop x.told TooManySteps) (sym (comes.settles ∙ ap (settling next) (limit_passed steps files l))) refl in
+      answer_stop c result TooManySteps (caused c command TooManySteps comes.is (stops, tt)) quiet (omega (arith, room)) h
+
+-- ---- texts that are put
 
 unfit : (space : Option ℕ) (n : ℕ) (error : SinkError) → IfSome space (λ room. n ≤ room → IsOk {T = Unit {0}} (Err error)) → Exceeds space n
 unfit None n error h = tt
 unfit (Some room) n error h = λ short. let ok = h short in cc
 
--- a task that is put whole is done, and one that isn't is broken
-pub answer_put : (c : Call) (task : Task) (room : Option ℕ) → IsDone c.command task.status → Allows (told_of c) task
-    → Put c.out.old c.out.new c.out.space room task.text (Ok tt) → c.err.new ≡ c.err.old → Answer c task.status
-answer_put c task room done allowed put same =
-    Done task refl done allowed
-    (subst (λ (x : List ℕ). Gains c.out.old c.out.new x) put.whole put.written)
-    (subst (λ (x : Option (List ℕ)). Gains c.err.old x []) (sym same) (gains_nothing c.err.old))
+-- a sink has one error
+pub failed_alone : {T : Type 0} (error : SinkError) → ◌≡◌ {A = Result T SinkError} (Err error) (Err Failed)
+failed_alone Failed = refl
 
-pub answer_cut : (c : Call) (task : Task) (room : Option ℕ) (error : SinkError) → Allows (told_of c) task
-    → Put c.out.old c.out.new c.out.space room task.text (Err error) → Rose c.out.before c.out.now → c.err.new ≡ c.err.old → Answer c 4
-answer_cut c task room error allowed put rose same =
-    Broken task refl allowed
-    (record { gained = put.gained; rest = put.front.0; front = put.front.1; gains = put.written }) rose
-    (unfit c.out.space (length task.text) error put.fits)
-    (subst (λ (x : Option (List ℕ)). Gains c.err.old x []) (sym same) (gains_nothing c.err.old))
-
--- a text that is put whole is told, and one that isn't is cut
-pub told_put : (old new : Option (List ℕ)) (space room : Option ℕ) (text : List ℕ) (before now : ℕ) → Put old new space room text (Ok tt) → IsTold 0 text 0 old new space before now
-told_put old new space room text before now put = inl (refl, subst (λ (x : List ℕ). Gains old new x) put.whole put.written)
-
-pub told_cut : (old new : Option (List ℕ)) (space room : Option ℕ) (text : List ℕ) (before now : ℕ) (error : SinkError)
-    → Put old new space room text (Err error) → Rose before now → IsTold 4 text 0 old new space before now
-told_cut old new space room text before now error put rose =
+-- a text that isn't put whole is cut, whatever status it would have
+pub told_cut : (old new : Option (List ℕ)) (space room : Option ℕ) (text : List ℕ) (status before now : ℕ) (error : SinkError)
+    → Put old new space room text (Err error) → Rose before now → IsTold 4 text status old new space before now
+told_cut old new space room text status before now error put rose =
     inr (refl, rose, unfit space (length text) error put.fits, record { gained = put.gained; rest = put.front.0; front = put.front.1; gains = put.written })
 
--- a task whose text is told is answered by its status
-pub answer_task : (c : Call) (result : ℕ) (task : Task) → IsDone c.command task.status → Allows (told_of c) task
-    → IsTold result task.text task.status c.out.old c.out.new c.out.space c.out.before c.out.now → c.err.new ≡ c.err.old → Answer c result
-answer_task c result task done allowed (inl h) same =
-    Done task h.0 (subst (IsDone c.command) (sym h.0) done) allowed h.1 (subst (λ (x : Option (List ℕ)). Gains c.err.old x []) (sym same) (gains_nothing c.err.old))
-answer_task c result task done allowed (inr h) same =
-    Broken task h.0 allowed h.3 h.1 h.2 (subst (λ (x : Option (List ℕ)). Gains c.err.old x []) (sym same) (gains_nothing c.err.old))
+-- a text is told by how its put went
+pub told_put : (old new : Option (List ℕ)) (space room : Option ℕ) (text : List ℕ) (before now : ℕ) (r : Result Unit SinkError) (result : ℕ) → result ≡ put_status r
+    → Put old new space room text r → HasCause before now (r ≡ Err Failed) → IsTold result text 0 old new space before now
+told_put old new space room text before now (Ok done) result is put cause = inl (is, subst (λ (x : List ℕ). Gains old new x) put.whole put.written)
+told_put old new space room text before now (Err error) result is put cause =
+    subst (λ (n : ℕ). IsTold n text 0 old new space before now) (sym is) (told_cut old new space room text 0 before now error put (cause.failed (failed_alone error)))
 
--- ---- the run
+-- ---- runs
 
--- how the files of a run settle it, within the limit of steps
-pub run_loads : (c : Call) (r : RunWords) → c.command ≡ Some (Run r) → c.room ≡ 64 + longest (run_names r) → r.steps ≤ step_limit
-    → Loads c (IsOneOf (run_reads c.shelf.held r)) (start_told c.shelf.held r)
-run_loads c r e room l = record {
-  command = Run r;
-  is = e;
-  read = λ file read. within_cond (λ (readings : List Reading). IsOneOf readings file) (nat_lt step_limit r.steps) [] _ (fits step_limit r.steps l) read;
-  within = λ file read. let name = run_within c.shelf.held r file read in omega (arith, name, room);
-  stops = λ stop h. run_of_stop c.shelf.held r stop l h;
-}
+-- what is done with what begins a run
+abbrev pub work_next : Work → StartWords → Start → Told Task
+work_next work words start = Gives (work_task work words start)
+
+work_settles : (held : List ℕ → Held) (words : StartWords) (work : Work)
+    → files_of held (Some (command_with words work)) ≡ settling (work_next work words) (within_limit words.steps (start_files held words))
+work_settles held words (works.Trace view) = settling_twice _ _ (within_limit words.steps (start_files held words))
+work_settles held words works.Gates = refl
+work_settles held words works.Save = refl
+
+pub work_comes : (c : Call) (words : StartWords) (work : Work) → c.command ≡ Some (command_with words work) → c.room ≡ 64 + longest (names_of (command_with words work))
+    → Comes c (command_with words work) (within_limit words.steps (start_files c.shelf.held words)) (work_next work words)
+work_comes c words work is room = record { is = is; room = room; settles = work_settles c.shelf.held words work }
+
+pub work_done : (words : StartWords) (work : Work) (start : Start) → IsDone (Some (command_with words work)) (work_task work words start).status
+work_done words (works.Trace view) start = refl
+work_done words works.Gates start = refl
+work_done words works.Save start = refl
+
+-- ---- a run that goes on
+
+pub resume_comes : (c : Call) (w : ResumeWords) → c.command ≡ Some (Resume w) → c.room ≡ 64 + longest (names_of (Resume w))
+    → Comes c (Resume w) (within_limit w.steps (saved_files c.shelf.held w)) (resume_next w)
+resume_comes c w is room = record { is = is; room = room; settles = refl }
+
+-- the steps are too many, or not
+pub resume_stops : (w : ResumeWords) (start : SavedStart) → step_limit < start.step + w.steps → resume_next w start ≡ Stops (TooFar w.state)
+resume_stops w start l = ap (λ (b : Bool). cond {A = Told Task} b (Stops (TooFar w.state)) (Gives (record { text = resumed_text w start; status = 0 }))) (past step_limit (start.step + w.steps) l)
+
+pub resume_gives : (w : ResumeWords) (start : SavedStart) → start.step + w.steps ≤ step_limit → resume_next w start ≡ Gives (record { text = resumed_text w start; status = 0 })
+resume_gives w start l = ap (λ (b : Bool). cond {A = Told Task} b (Stops (TooFar w.state)) (Gives (record { text = resumed_text w start; status = 0 }))) (fits step_limit (start.step + w.steps) l)
+
+-- the file of the state is read where the files are accepted
+pub state_read : (held : List ℕ → Held) (w : ResumeWords) (start : SavedStart) → Allows (saved_files held w).told start → IsOneOf (saved_files held w).reads (record { name = w.state; form = AsState })
+state_read held w start allowed =
+    let file : Reading = record { name = w.state; form = AsState } in
+    let board = board_files held w.board in
+    let goes : goes_on board.told ≡ true = goes_first board.told _ (allowed_goes (kept_files held w).told _ start allowed) in
+    one_of_first (kept_files held w).reads _ file (one_of_second board.reads (read_where (goes_on board.told) file) file (read_here (goes_on board.told) file goes))
 
 -- ---- the pair
 
-pair_of_stop : (held : List ℕ → Held) (p : PairWords) (stop : Stop) → p.steps ≤ step_limit → AllowsStop (pair_start_told held p) stop → AllowsStop (told held (Some (Pair p))) stop
-pair_of_stop held p stop l h =
-    then_stop (pair_told held p) _ stop
-    (within_cond (λ (t : Told PairJob). AllowsStop t stop) (nat_lt step_limit p.steps) _ _ (fits step_limit p.steps l) (then_stop (pair_start_told held p) _ stop h))
+abbrev pub pair_next : PairWords → PairStart → Told Task
+pair_next p start = Gives (pair_task (record { words = p; start = start }))
 
-pub pair_of_start : (held : List ℕ → Held) (p : PairWords) (start : PairStart) → p.steps ≤ step_limit → Allows (pair_start_told held p) start
-    → Allows (told held (Some (Pair p))) (pair_task (record { words = p; start = start }))
-pair_of_start held p start l h =
-    then_gives pair_task (pair_told held p) (record { words = p; start = start })
-    (within_cond (λ (t : Told PairJob). Allows t (record { words = p; start = start })) (nat_lt step_limit p.steps) _ _ (fits step_limit p.steps l)
-    (then_gives (λ (s : PairStart). record { words = p; start = s }) (pair_start_told held p) start h))
-
-pair_steps_settled : (s : Shelved) (p : PairWords) → step_limit < p.steps → IsSettled (Some (Pair p)) s TooManySteps
-pair_steps_settled s p l =
-    (then_stop (pair_told s.held p) _ TooManySteps (many_cond (λ (t : Told PairJob). AllowsStop t TooManySteps) (nat_lt step_limit p.steps) (Stops TooManySteps) _ (past step_limit p.steps l) refl), tt)
-
-pub answer_pair_steps : (c : Call) (result : ℕ) (p : PairWords) → c.command ≡ Some (Pair p) → step_limit < p.steps → Gains c.out.old c.out.new [] → 64 ≤ c.room
-    → IsRefused c result (codes "limit steps\n") 6 → Answer c result
-answer_pair_steps c result p e l quiet short h = answer_settled c result (Pair p) e (pair_steps_settled c.shelf p l) quiet short h
-
--- how the files of a pair settle it, within the limit of steps
-pub pair_loads : (c : Call) (p : PairWords) → c.command ≡ Some (Pair p) → c.room ≡ 64 + longest (pair_names p) → p.steps ≤ step_limit
-    → Loads c (IsOneOf (pair_reads c.shelf.held p)) (pair_start_told c.shelf.held p)
-pair_loads c p e room l = record {
-  command = Pair p;
-  is = e;
-  read = λ file read. within_cond (λ (readings : List Reading). IsOneOf readings file) (nat_lt step_limit p.steps) [] _ (fits step_limit p.steps l) read;
-  within = λ file read. let name = pair_within c.shelf.held p file read in omega (arith, name, room);
-  stops = λ stop h. pair_of_stop c.shelf.held p stop l h;
-}
+pub pair_comes : (c : Call) (p : PairWords) → c.command ≡ Some (Pair p) → c.room ≡ 64 + longest (names_of (Pair p))
+    → Comes c (Pair p) (within_limit p.steps (pair_start_files c.shelf.held p)) (pair_next p)
+pair_comes c p is room = record { is = is; room = room; settles = settling_twice _ _ (within_limit p.steps (pair_start_files c.shelf.held p)) }
 
 -- a line that is put whole is told with its status
 line_told : (old new : Option (List ℕ)) (space room : Option ℕ) (steps : ℕ) (found : Option (ℕ × What)) (agreed : Bool) (before now : ℕ) → agreed ≡ is_agreed found
@@ -304,31 +299,3 @@ pair_told_put old new space room events steps p q agreed answer before now same 
 pub pair_done : (found : Option (ℕ × What)) → (pair_status found ≡ 0) ⊎ (pair_status found ≡ 1)
 pair_done None = inl refl
 pair_done (Some found) = inr refl
-
--- ---- the assembly
-
-pub asm_loads : (c : Call) (a : AsmWords) → c.command ≡ Some (Asm a) → c.room ≡ 64 + longest (asm_names a) → Loads c (IsFile a.source AsSource) (source_told c.shelf.held a)
-asm_loads c a e room = record {
-  command = Asm a;
-  is = e;
-  read = λ file is. inl (sym is);
-  within = λ file is. let name = ap (λ (x : Reading). length x.name) is in omega (arith, name, room);
-  stops = λ stop h. then_stop (source_told c.shelf.held a) _ stop h;
-}
-
-pub asm_of_file : (held : List ℕ → Held) (a : AsmWords) (file : List ℕ) → Allows (source_told held a) file → Allows (told held (Some (Asm a))) (asm_task file)
-asm_of_file held a file allowed = then_gives asm_task (source_told held a) file allowed
-
--- ---- the disassembly
-
-pub dis_loads : (c : Call) (d : DisWords) → c.command ≡ Some (Dis d) → c.room ≡ 64 + longest (dis_names d) → Loads c (IsOneOf (dis_reads c.shelf.held d)) (listed_told c.shelf.held d)
-dis_loads c d e room = record {
-  command = Dis d;
-  is = e;
-  read = λ file read. read;
-  within = λ file read. let name = dis_within c.shelf.held d file read in omega (arith, name, room);
-  stops = λ stop h. then_stop (listed_told c.shelf.held d) _ stop h;
-}
-
-pub dis_of_image : (held : List ℕ → Held) (d : DisWords) (image : ImageValue) → Allows (listed_told held d) image → Allows (told held (Some (Dis d))) (dis_task image)
-dis_of_image held d image allowed = then_gives dis_task (listed_told held d) image allowed

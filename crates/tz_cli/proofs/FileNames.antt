@@ -2,16 +2,18 @@
 use Rattle.std.proofs.Common.{◌≡◌, ℕ, ◌≤◌, Bool, true, false, cond, List, [], ◌∷◌, length, Option, Some, None, refl, subst, arith}
 use Rattle.std.specs.Prelude.{max, option_map, option_and_then, codes}
 use Rattle.std.specs.Str.{bytes_eq}
+use Rattle.tz_table.specs.declared.units.Side.{Side}
 use Rattle.tz_model.specs.declared.report.View.{View}
 use Rattle.tz_cli.specs.Parts.{Text, Look, EndsOptions, Named, NamedWith, Refused, Positional, look_of, Parts, Next, AnyWord, ItsValue, parts_by, parts_of, with_positional, with_value}
 use Rattle.tz_cli.specs.Counts.{count_of}
-use Rattle.tz_table.specs.declared.units.Side.{Side}
-use Rattle.tz_cli.specs.Run.{RunWords, run_behind, run_names, run_parts, run_with, view_of}
+use Rattle.tz_cli.specs.StartWords.{StartWords, bare_with, start_behind, start_names, start_parts, start_with}
+use Rattle.tz_cli.specs.Run.{RunWords, run_behind, run_of, run_parts, run_with, start_of, view_of}
+use Rattle.tz_cli.specs.Resume.{ResumeWords, resume_behind, resume_names, resume_parts, resume_with}
 use Rattle.tz_cli.specs.Pair.{PairWords, pair_behind, pair_names, pair_parts, pair_with}
 use Rattle.tz_cli.specs.Asm.{AsmWords, asm_behind, asm_names, asm_parts, asm_with, form_of}
 use Rattle.tz_cli.specs.declared.words.asm.Form.{Form}
 use Rattle.tz_cli.specs.Dis.{DisWords, dis_behind, dis_names, dis_parts, dis_with, side_named}
-use Rattle.tz_cli.specs.Commands.{Command, Run, Pair, Asm, Dis, command_behind, command_of, longest, names_of}
+use Rattle.tz_cli.specs.Commands.{Command, Run, Pair, Asm, Dis, Gates, Snap, Resume, command_behind, command_of, longest, names_of}
 
 -- no positional word is longer than a bound
 abbrev pub Within : ℕ → Option Parts → Type 0
@@ -45,110 +47,118 @@ within_parts option ItsValue (word ∷ rest) =
     within_more (longest rest) (longest (word ∷ rest)) _ (omega arith) (within_value word (longest rest) (parts_of option AnyWord rest) (within_parts option AnyWord rest))
 within_parts option AnyWord (word ∷ rest) = within_by (look_of option word) word rest (λ next. parts_of option next rest) (within_parts option AnyWord rest) (within_parts option ItsValue rest)
 
--- the names of a run are among its positional words
-names_in : (view : Option View) (words : List Text) (r : RunWords) → run_with view words ≡ Some r → longest (run_names r) ≤ longest words
-names_in None words r e = absurd (cc)
-names_in (Some view) [] r e = absurd (cc)
-names_in (Some view) (a ∷ []) r e = absurd (cc)
-names_in (Some view) (a ∷ b ∷ []) r e = absurd (cc)
-names_in (Some view) (a ∷ b ∷ c ∷ []) r e = absurd (cc)
-names_in (Some view) (a ∷ b ∷ c ∷ d ∷ []) r e = absurd (cc)
-names_in (Some view) (a ∷ b ∷ c ∷ d ∷ w ∷ x ∷ more) r e = absurd (cc)
-names_in (Some view) (a ∷ b ∷ c ∷ d ∷ w ∷ []) r e = go (count_of w) e where
-  go : (o : Option ℕ) → option_map {T = ℕ} {U = RunWords} (λ n. record { board = a; secure = b; nonsecure = c; script = d; steps = n; view = view }) o ≡ Some r → longest (run_names r) ≤ longest (a ∷ b ∷ c ∷ d ∷ w ∷ [])
-  go None h = absurd (cc)
-  go (Some n) h =
-      let same : ◌≡◌ {A = RunWords} (record { board = a; secure = b; nonsecure = c; script = d; steps = n; view = view }) r = cc in
-      subst (λ (x : RunWords). longest (run_names x) ≤ longest (a ∷ b ∷ c ∷ d ∷ w ∷ [])) same (omega arith)
+-- ---- what is made of words
 
-names_behind : (words : List Text) (o : Option Parts) (r : RunWords) → Within (longest words) o → option_and_then run_parts o ≡ Some r → longest (run_names r) ≤ longest words
-names_behind words None r h e = absurd (cc)
-names_behind words (Some p) r h e = let l = names_in (view_of p.values) p.positionals r e in omega arith
+-- words that are read of the positional ones have no longer names
+module _ {A : Type 0} (names : A → List Text) (option : Text) (told : Parts → Option A)
+    (inside : (p : Parts) (x : A) → told p ≡ Some x → longest (names x) ≤ longest p.positionals) where
+  by_parts : (n : ℕ) (o : Option Parts) (x : A) → Within n o → option_and_then told o ≡ Some x → longest (names x) ≤ n
+  by_parts n None x h e = absurd (cc)
+  by_parts n (Some p) x h e = let l = inside p x e in omega arith
+
+  pub behind_within : (words : List Text) (x : A) → option_and_then told (parts_of option AnyWord words) ≡ Some x → longest (names x) ≤ longest words
+  behind_within words x e = by_parts (longest words) (parts_of option AnyWord words) x (within_parts option AnyWord words) e
+
+-- what a value is made into keeps its names
+mapped_within : {A B : Type 0} (names : A → List Text) (others : B → List Text) (n : ℕ) (make : A → B) (o : Option A) (y : B)
+    → ((x : A) → longest (others (make x)) ≡ longest (names x)) → ((x : A) → o ≡ Some x → longest (names x) ≤ n) → option_map make o ≡ Some y → longest (others y) ≤ n
+mapped_within names others n make None y same h e = absurd (cc)
+mapped_within {B = B} names others n make (Some x) y same h e =
+    let is : ◌≡◌ {A = B} (make x) y = cc in
+    let l = h x refl in
+    let l' = same x in
+    subst (λ (z : B). longest (others z) ≤ n) is (omega (arith, l, l'))
+
+-- the names that begin a run are positional words
+start_in : (words : List Text) (s : StartWords) → start_with words ≡ Some s → longest (start_names s) ≤ longest words
+start_in [] s e = absurd (cc)
+start_in (a ∷ []) s e = absurd (cc)
+start_in (a ∷ b ∷ []) s e = absurd (cc)
+start_in (a ∷ b ∷ c ∷ []) s e = absurd (cc)
+start_in (a ∷ b ∷ c ∷ d ∷ []) s e = absurd (cc)
+start_in (a ∷ b ∷ c ∷ d ∷ w ∷ x ∷ more) s e = absurd (cc)
+start_in (a ∷ b ∷ c ∷ d ∷ w ∷ []) s e =
+    mapped_within (λ (n : ℕ). a ∷ b ∷ c ∷ d ∷ []) start_names (longest (a ∷ b ∷ c ∷ d ∷ w ∷ [])) _ (count_of w) s (λ n. refl) (λ n h. omega arith) e
+
+run_in : (view : Option View) (words : List Text) (r : RunWords) → run_with view words ≡ Some r → longest (start_names (start_of r)) ≤ longest words
+run_in None words r e = absurd (cc)
+run_in (Some view) words r e = mapped_within start_names (λ (x : RunWords). start_names (start_of x)) (longest words) (λ s. run_of s view) (start_with words) r (λ s. refl) (start_in words) e
+
+bare_in : (values words : List Text) (s : StartWords) → bare_with values words ≡ Some s → longest (start_names s) ≤ longest words
+bare_in [] words s e = start_in words s e
+bare_in (v ∷ values) words s e = absurd (cc)
+
+-- so are those of a run that goes on
+resume_in : (view : Option View) (words : List Text) (w : ResumeWords) → resume_with view words ≡ Some w → longest (resume_names w) ≤ longest words
+resume_in None words w e = absurd (cc)
+resume_in (Some view) [] w e = absurd (cc)
+resume_in (Some view) (a ∷ []) w e = absurd (cc)
+resume_in (Some view) (a ∷ b ∷ []) w e = absurd (cc)
+resume_in (Some view) (a ∷ b ∷ c ∷ []) w e = absurd (cc)
+resume_in (Some view) (a ∷ b ∷ c ∷ d ∷ x ∷ more) w e = absurd (cc)
+resume_in (Some view) (a ∷ b ∷ c ∷ d ∷ []) w e =
+    mapped_within (λ (n : ℕ). a ∷ b ∷ c ∷ []) resume_names (longest (a ∷ b ∷ c ∷ d ∷ [])) _ (count_of d) w (λ n. refl) (λ n h. omega arith) e
 
 -- so are those of a pair
-pair_names_in : (values words : List Text) (p : PairWords) → pair_with values words ≡ Some p → longest (pair_names p) ≤ longest words
-pair_names_in (v ∷ values) words p e = absurd (cc)
-pair_names_in [] [] p e = absurd (cc)
-pair_names_in [] (a ∷ []) p e = absurd (cc)
-pair_names_in [] (a ∷ b ∷ []) p e = absurd (cc)
-pair_names_in [] (a ∷ b ∷ c ∷ []) p e = absurd (cc)
-pair_names_in [] (a ∷ b ∷ c ∷ d ∷ []) p e = absurd (cc)
-pair_names_in [] (a ∷ b ∷ c ∷ d ∷ f ∷ []) p e = absurd (cc)
-pair_names_in [] (a ∷ b ∷ c ∷ d ∷ f ∷ w ∷ x ∷ more) p e = absurd (cc)
-pair_names_in [] (a ∷ b ∷ c ∷ d ∷ f ∷ w ∷ []) p e = go (count_of w) e where
-  go : (o : Option ℕ) → option_map {T = ℕ} {U = PairWords} (λ n. record { board = a; first = b; second = c; nonsecure = d; script = f; steps = n }) o ≡ Some p
-      → longest (pair_names p) ≤ longest (a ∷ b ∷ c ∷ d ∷ f ∷ w ∷ [])
-  go None h = absurd (cc)
-  go (Some n) h =
-      let same : ◌≡◌ {A = PairWords} (record { board = a; first = b; second = c; nonsecure = d; script = f; steps = n }) p = cc in
-      subst (λ (x : PairWords). longest (pair_names x) ≤ longest (a ∷ b ∷ c ∷ d ∷ f ∷ w ∷ [])) same (omega arith)
-
-pair_names_behind : (words : List Text) (o : Option Parts) (p : PairWords) → Within (longest words) o → option_and_then pair_parts o ≡ Some p → longest (pair_names p) ≤ longest words
-pair_names_behind words None p h e = absurd (cc)
-pair_names_behind words (Some parts) p h e = let l = pair_names_in parts.values parts.positionals p e in omega arith
+pair_in : (values words : List Text) (p : PairWords) → pair_with values words ≡ Some p → longest (pair_names p) ≤ longest words
+pair_in (v ∷ values) words p e = absurd (cc)
+pair_in [] [] p e = absurd (cc)
+pair_in [] (a ∷ []) p e = absurd (cc)
+pair_in [] (a ∷ b ∷ []) p e = absurd (cc)
+pair_in [] (a ∷ b ∷ c ∷ []) p e = absurd (cc)
+pair_in [] (a ∷ b ∷ c ∷ d ∷ []) p e = absurd (cc)
+pair_in [] (a ∷ b ∷ c ∷ d ∷ f ∷ []) p e = absurd (cc)
+pair_in [] (a ∷ b ∷ c ∷ d ∷ f ∷ w ∷ x ∷ more) p e = absurd (cc)
+pair_in [] (a ∷ b ∷ c ∷ d ∷ f ∷ w ∷ []) p e =
+    mapped_within (λ (n : ℕ). a ∷ b ∷ c ∷ d ∷ f ∷ []) pair_names (longest (a ∷ b ∷ c ∷ d ∷ f ∷ w ∷ [])) _ (count_of w) p (λ n. refl) (λ n h. omega arith) e
 
 -- so is that of an assembly
-asm_names_in : (form : Option Form) (words : List Text) (a : AsmWords) → asm_with form words ≡ Some a → longest (asm_names a) ≤ longest words
-asm_names_in None words a e = absurd (cc)
-asm_names_in (Some form) [] a e = absurd (cc)
-asm_names_in (Some form) (w ∷ x ∷ more) a e = absurd (cc)
-asm_names_in (Some form) (w ∷ []) a e =
+asm_in : (form : Option Form) (words : List Text) (a : AsmWords) → asm_with form words ≡ Some a → longest (asm_names a) ≤ longest words
+asm_in None words a e = absurd (cc)
+asm_in (Some form) [] a e = absurd (cc)
+asm_in (Some form) (w ∷ x ∷ more) a e = absurd (cc)
+asm_in (Some form) (w ∷ []) a e =
     let same : ◌≡◌ {A = AsmWords} (record { source = w; form = form }) a = cc in
     subst (λ (x : AsmWords). longest (asm_names x) ≤ longest (w ∷ [])) same (omega arith)
 
-asm_names_behind : (words : List Text) (o : Option Parts) (a : AsmWords) → Within (longest words) o → option_and_then asm_parts o ≡ Some a → longest (asm_names a) ≤ longest words
-asm_names_behind words None a h e = absurd (cc)
-asm_names_behind words (Some p) a h e = let l = asm_names_in (form_of p.values) p.positionals a e in omega arith
-
 -- so are those of a disassembly
-dis_names_in : (values words : List Text) (d : DisWords) → dis_with values words ≡ Some d → longest (dis_names d) ≤ longest words
-dis_names_in (v ∷ values) words d e = absurd (cc)
-dis_names_in [] [] d e = absurd (cc)
-dis_names_in [] (a ∷ []) d e = absurd (cc)
-dis_names_in [] (a ∷ b ∷ []) d e = absurd (cc)
-dis_names_in [] (a ∷ b ∷ w ∷ x ∷ more) d e = absurd (cc)
-dis_names_in [] (a ∷ b ∷ w ∷ []) d e = go (side_named w) e where
-  go : (o : Option Side) → option_map {T = Side} {U = DisWords} (λ s. record { board = a; image = b; side = s }) o ≡ Some d → longest (dis_names d) ≤ longest (a ∷ b ∷ w ∷ [])
-  go None h = absurd (cc)
-  go (Some s) h =
-      let same : ◌≡◌ {A = DisWords} (record { board = a; image = b; side = s }) d = cc in
-      subst (λ (x : DisWords). longest (dis_names x) ≤ longest (a ∷ b ∷ w ∷ [])) same (omega arith)
+dis_in : (values words : List Text) (d : DisWords) → dis_with values words ≡ Some d → longest (dis_names d) ≤ longest words
+dis_in (v ∷ values) words d e = absurd (cc)
+dis_in [] [] d e = absurd (cc)
+dis_in [] (a ∷ []) d e = absurd (cc)
+dis_in [] (a ∷ b ∷ []) d e = absurd (cc)
+dis_in [] (a ∷ b ∷ w ∷ x ∷ more) d e = absurd (cc)
+dis_in [] (a ∷ b ∷ w ∷ []) d e =
+    mapped_within (λ (s : Side). a ∷ b ∷ []) dis_names (longest (a ∷ b ∷ w ∷ [])) _ (side_named w) d (λ s. refl) (λ s h. omega arith) e
 
-dis_names_behind : (words : List Text) (o : Option Parts) (d : DisWords) → Within (longest words) o → option_and_then dis_parts o ≡ Some d → longest (dis_names d) ≤ longest words
-dis_names_behind words None d h e = absurd (cc)
-dis_names_behind words (Some p) d h e = let l = dis_names_in p.values p.positionals d e in omega arith
+-- ---- commands
 
--- the names of a command that is made of what its words say
-names_made : {A : Type 0} (make : A → Command) (words : List Text) (o : Option A) (command : Command) → ((x : A) → o ≡ Some x → longest (names_of (make x)) ≤ longest words)
-    → option_map make o ≡ Some command → longest (names_of command) ≤ longest words
-names_made make words None command h e = absurd (cc)
-names_made make words (Some x) command h e =
-    let same : ◌≡◌ {A = Command} (make x) command = cc in
-    subst (λ (c : Command). longest (names_of c) ≤ longest words) same (h x refl)
+-- the command of one word or of another
+either : (is : Bool) (this other : Option Command) (command : Command) (n : ℕ) → (this ≡ Some command → longest (names_of command) ≤ n) → (other ≡ Some command → longest (names_of command) ≤ n)
+    → cond is this other ≡ Some command → longest (names_of command) ≤ n
+either true this other command n first second e = first e
+either false this other command n first second e = second e
 
 names_command : (name : Text) (words : List Text) (command : Command) → command_behind name words ≡ Some command → longest (names_of command) ≤ longest words
-names_command name words command e = is_run (bytes_eq name (codes "run")) e where
-  is_dis : (is : Bool) → cond is (option_map Dis (dis_behind words)) None ≡ Some command → longest (names_of command) ≤ longest words
-  is_dis false h = absurd (cc)
-  is_dis true h = names_made Dis words (dis_behind words) command (λ d. dis_names_behind words (parts_of [] AnyWord words) d (within_parts [] AnyWord words)) h
-
-  is_asm : (is : Bool) → cond is (option_map Asm (asm_behind words)) (cond (bytes_eq name (codes "dis")) (option_map Dis (dis_behind words)) None) ≡ Some command
-      → longest (names_of command) ≤ longest words
-  is_asm true h = names_made Asm words (asm_behind words) command (λ a. asm_names_behind words (parts_of (codes "form") AnyWord words) a (within_parts (codes "form") AnyWord words)) h
-  is_asm false h = is_dis (bytes_eq name (codes "dis")) h
-
-  is_pair : (is : Bool) → cond is (option_map Pair (pair_behind words))
-      (cond (bytes_eq name (codes "asm")) (option_map Asm (asm_behind words)) (cond (bytes_eq name (codes "dis")) (option_map Dis (dis_behind words)) None)) ≡ Some command
-      → longest (names_of command) ≤ longest words
-  is_pair true h = names_made Pair words (pair_behind words) command (λ p. pair_names_behind words (parts_of [] AnyWord words) p (within_parts [] AnyWord words)) h
-  is_pair false h = is_asm (bytes_eq name (codes "asm")) h
-
-  is_run : (is : Bool) → cond is (option_map Run (run_behind words))
-      (cond (bytes_eq name (codes "pair")) (option_map Pair (pair_behind words))
-      (cond (bytes_eq name (codes "asm")) (option_map Asm (asm_behind words)) (cond (bytes_eq name (codes "dis")) (option_map Dis (dis_behind words)) None))) ≡ Some command
-      → longest (names_of command) ≤ longest words
-  is_run true h = names_made Run words (run_behind words) command (λ r. names_behind words (parts_of (codes "view") AnyWord words) r (within_parts (codes "view") AnyWord words)) h
-  is_run false h = is_pair (bytes_eq name (codes "pair")) h
+names_command name words command =
+    let n = longest words in
+    either (bytes_eq name (codes "run")) (option_map Run (run_behind words)) _ command n
+    (mapped_within (λ (r : RunWords). start_names (start_of r)) names_of n Run (run_behind words) command (λ r. refl)
+    (behind_within (λ (r : RunWords). start_names (start_of r)) (codes "view") run_parts (λ p. run_in (view_of p.values) p.positionals) words))
+    (either (bytes_eq name (codes "pair")) (option_map Pair (pair_behind words)) _ command n
+    (mapped_within pair_names names_of n Pair (pair_behind words) command (λ p. refl) (behind_within pair_names [] pair_parts (λ p. pair_in p.values p.positionals) words))
+    (either (bytes_eq name (codes "asm")) (option_map Asm (asm_behind words)) _ command n
+    (mapped_within asm_names names_of n Asm (asm_behind words) command (λ a. refl) (behind_within asm_names (codes "form") asm_parts (λ p. asm_in (form_of p.values) p.positionals) words))
+    (either (bytes_eq name (codes "dis")) (option_map Dis (dis_behind words)) _ command n
+    (mapped_within dis_names names_of n Dis (dis_behind words) command (λ d. refl) (behind_within dis_names [] dis_parts (λ p. dis_in p.values p.positionals) words))
+    (either (bytes_eq name (codes "gates")) (option_map Gates (start_behind words)) _ command n
+    (mapped_within start_names names_of n Gates (start_behind words) command (λ s. refl) (behind_within start_names [] start_parts (λ p. bare_in p.values p.positionals) words))
+    (either (bytes_eq name (codes "snap")) (option_map Snap (start_behind words)) _ command n
+    (mapped_within start_names names_of n Snap (start_behind words) command (λ s. refl) (behind_within start_names [] start_parts (λ p. bare_in p.values p.positionals) words))
+    (either (bytes_eq name (codes "resume")) (option_map Resume (resume_behind words)) None command n
+    (mapped_within resume_names names_of n Resume (resume_behind words) command (λ w. refl)
+    (behind_within resume_names (codes "view") resume_parts (λ p. resume_in (view_of p.values) p.positionals) words))
+    (λ e. absurd (cc e))))))))
 
 -- a command's names are among the words
 pub names_of-longest : (words : List Text) (command : Command) → command_of words ≡ Some command → longest (names_of command) ≤ longest words

@@ -12,6 +12,9 @@ pub mod FileNames
 pub mod Differences
 pub mod Clauses
 pub mod PairClauses
+pub mod RunClauses
 pub mod Exits
+pub mod Settling
 pub mod Reached
 pub mod Stages
+pub mod Loads

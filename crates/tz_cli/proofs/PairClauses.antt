@@ -13,7 +13,9 @@ use Rattle.tz_iso.proofs.Told.{none_crossing}
 use Rattle.tz_cli.specs.Pair.{PairWords}
 use Rattle.tz_cli.specs.PairLine.{FirstApart, agree_line, differ_line, pair_line, pair_status}
 use Rattle.tz_cli.specs.Commands.{Command, Pair}
-use Rattle.tz_cli.specs.Told.{Told, Gives, told_then, Task, PairStart, PairJob, pair_task, pair_told, told, first_state, second_state, difference_of}
+use Rattle.tz_cli.specs.Told.{Told, Gives, told_then}
+use Rattle.tz_cli.specs.Starts.{PairStart, first_state, second_state}
+use Rattle.tz_cli.specs.Tasks.{Task, PairJob, pair_task, pair_told, told, difference_of}
 use Rattle.tz_cli.specs.Answer.{Call, Answer}
 use Rattle.tz_cli.proofs.Clauses.{task_written}
 

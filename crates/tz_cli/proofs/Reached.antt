@@ -1,125 +1,26 @@
--- The files of a command that are read.
-use Rattle.std.proofs.Common.{◌≡◌, ◌⊎◌, inl, inr, ℕ, ◌≤◌, ◌&&◌, not, Bool, true, false, cond, List, [], length, Option, Some, None, refl, ap, ◌∙◌, subst, arith}
+-- The files of a command that are read: its words name each, and one that is absent settles no task.
+use Rattle.std.proofs.Common.{◌≡◌, ℕ, ◌≤◌, ◌&&◌, not, Bool, true, false, cond, List, [], length, Option, Some, None, refl, ap, ◌∙◌, subst, arith}
 use Rattle.std.specs.Prelude.{nat_lt}
 use Rattle.std.proofs.lemmas.Bool.{and_parts}
 use Rattle.tz_table.specs.declared.units.Side.{Side}
-use Rattle.tz_table.specs.declared.units.Side.TheVariants as sides
 use Rattle.tz_model.specs.Board.{BoardValue}
-use Rattle.tz_model.specs.Image.{ImageValue}
 use Rattle.tz_model.specs.Outside.{Held, Absent}
-use Rattle.tz_board.specs.Scripts.{Timed}
-use Rattle.tz_cli.specs.Run.{RunWords, run_names}
+use Rattle.tz_cli.specs.StartWords.{StartWords, start_names}
+use Rattle.tz_cli.specs.Run.{start_of}
+use Rattle.tz_cli.specs.Resume.{ResumeWords, resume_names}
 use Rattle.tz_cli.specs.Pair.{PairWords, pair_names}
-use Rattle.tz_cli.specs.Asm.{AsmWords}
+use Rattle.tz_cli.specs.Asm.{AsmWords, asm_names}
 use Rattle.tz_cli.specs.Dis.{DisWords, dis_names}
-use Rattle.tz_cli.specs.Commands.{Command, Run, Pair, Asm, Dis, longest}
-use Rattle.tz_cli.specs.Told.{Stop, TooManySteps, Unread, Told, Unknown, Stops, Gives, told_then, told, is_demo, is_none_script, board_told, board_file, image_told, script_told, script_file, secure_told, nonsecure_told, start_told, first_told, second_told, third_told, pair_start_told, pair_told, job_told, source_told, listed_told, step_limit}
-use Rattle.tz_cli.specs.Reads.{Form, AsBoard, AsImage, AsScript, AsSource, Reading, goes_on, read_where, run_reads, pair_reads, dis_reads, reads_of, IsOneOf}
+use Rattle.tz_cli.specs.Commands.{Command, Run, Pair, Asm, Dis, Gates, Snap, Resume, longest, names_of}
+use Rattle.tz_cli.specs.Told.{Stop, TooManySteps, Unread, Told, Unknown, Stops, Gives, told_then, is_demo, is_none_script, board_told, board_file, image_told, state_told, script_told, script_file, source_told, step_limit}
+use Rattle.tz_cli.specs.Reads.{Reading, Settled, goes_on, read_where, one_file, and_file, settling, within_limit, IsOneOf}
+use Rattle.tz_cli.specs.declared.words.asm.Form.{Form as AsmForm}
+use Rattle.tz_cli.specs.Starts.{board_files, source_files, start_files, saved_files, pair_start_files, listed_files}
+use Rattle.tz_cli.specs.Tasks.{told, reads_of, files_of}
+use Rattle.tz_cli.proofs.Settling.{by_part, read_where_is}
 
-here : (b : Bool) (name : List ℕ) (form : Form) (readings : List Reading) → b ≡ true → IsOneOf (read_where b name form readings) (record { name = name; form = form })
-here false name form readings e = absurd (cc)
-here true name form readings e = inl refl
+-- ---- no value is settled
 
-later : (b : Bool) (name : List ℕ) (form : Form) (readings : List Reading) (reading : Reading) → IsOneOf readings reading → IsOneOf (read_where b name form readings) reading
-later false name form readings reading h = h
-later true name form readings reading h = inr h
-
-not_false : (b : Bool) → b ≡ false → not b ≡ true
-not_false false e = refl
-not_false true e = absurd (cc)
-
-false_not : (b : Bool) → not b ≡ true → b ≡ false
-false_not false e = refl
-false_not true e = absurd (cc)
-
-both : (a b : Bool) → a ≡ true → b ≡ true → (a && b) ≡ true
-both true true e f = refl
-both true false e f = absurd (cc)
-both false b e f = absurd (cc)
-
--- the files of a run that are read, each where nothing before it stops the command
-module _ (held : List ℕ → Held) (r : RunWords) where
-  pub run_board : is_demo r.board ≡ false → IsOneOf (run_reads held r) (record { name = r.board; form = AsBoard })
-  run_board h = here (not (is_demo r.board)) r.board AsBoard _ (not_false (is_demo r.board) h)
-
-  pub run_secure : goes_on (board_told held r.board) ≡ true → IsOneOf (run_reads held r) (record { name = r.secure; form = AsImage })
-  run_secure h = later (not (is_demo r.board)) r.board AsBoard _ _ (here (goes_on (board_told held r.board)) r.secure AsImage _ h)
-
-  pub run_nonsecure : goes_on (secure_told held r) ≡ true → IsOneOf (run_reads held r) (record { name = r.nonsecure; form = AsImage })
-  run_nonsecure h =
-      later (not (is_demo r.board)) r.board AsBoard _ _ (later (goes_on (board_told held r.board)) r.secure AsImage _ _ (here (goes_on (secure_told held r)) r.nonsecure AsImage _ h))
-
-  pub run_script : is_none_script r.script ≡ false → goes_on (nonsecure_told held r) ≡ true → IsOneOf (run_reads held r) (record { name = r.script; form = AsScript })
-  run_script is h =
-      later (not (is_demo r.board)) r.board AsBoard _ _ (later (goes_on (board_told held r.board)) r.secure AsImage _ _
-      (later (goes_on (secure_told held r)) r.nonsecure AsImage _ _
-      (here (not (is_none_script r.script) && goes_on (nonsecure_told held r)) r.script AsScript []
-      (both (not (is_none_script r.script)) (goes_on (nonsecure_told held r)) (not_false (is_none_script r.script) is) h))))
-
--- those of a pair
-module _ (held : List ℕ → Held) (p : PairWords) where
-  pub pair_board : is_demo p.board ≡ false → IsOneOf (pair_reads held p) (record { name = p.board; form = AsBoard })
-  pair_board h = here (not (is_demo p.board)) p.board AsBoard _ (not_false (is_demo p.board) h)
-
-  pub pair_first : goes_on (board_told held p.board) ≡ true → IsOneOf (pair_reads held p) (record { name = p.first; form = AsImage })
-  pair_first h = later (not (is_demo p.board)) p.board AsBoard _ _ (here (goes_on (board_told held p.board)) p.first AsImage _ h)
-
-  pub pair_second : goes_on (first_told held p) ≡ true → IsOneOf (pair_reads held p) (record { name = p.second; form = AsImage })
-  pair_second h =
-      later (not (is_demo p.board)) p.board AsBoard _ _ (later (goes_on (board_told held p.board)) p.first AsImage _ _ (here (goes_on (first_told held p)) p.second AsImage _ h))
-
-  pub pair_nonsecure : goes_on (second_told held p) ≡ true → IsOneOf (pair_reads held p) (record { name = p.nonsecure; form = AsImage })
-  pair_nonsecure h =
-      later (not (is_demo p.board)) p.board AsBoard _ _ (later (goes_on (board_told held p.board)) p.first AsImage _ _
-      (later (goes_on (first_told held p)) p.second AsImage _ _ (here (goes_on (second_told held p)) p.nonsecure AsImage _ h)))
-
-  pub pair_script : is_none_script p.script ≡ false → goes_on (third_told held p) ≡ true → IsOneOf (pair_reads held p) (record { name = p.script; form = AsScript })
-  pair_script is h =
-      later (not (is_demo p.board)) p.board AsBoard _ _ (later (goes_on (board_told held p.board)) p.first AsImage _ _
-      (later (goes_on (first_told held p)) p.second AsImage _ _ (later (goes_on (second_told held p)) p.nonsecure AsImage _ _
-      (here (not (is_none_script p.script) && goes_on (third_told held p)) p.script AsScript []
-      (both (not (is_none_script p.script)) (goes_on (third_told held p)) (not_false (is_none_script p.script) is) h)))))
-
--- those of a disassembly
-module _ (held : List ℕ → Held) (d : DisWords) where
-  pub dis_board : is_demo d.board ≡ false → IsOneOf (dis_reads held d) (record { name = d.board; form = AsBoard })
-  dis_board h = here (not (is_demo d.board)) d.board AsBoard _ (not_false (is_demo d.board) h)
-
-  pub dis_image : goes_on (board_told held d.board) ≡ true → IsOneOf (dis_reads held d) (record { name = d.image; form = AsImage })
-  dis_image h = later (not (is_demo d.board)) d.board AsBoard _ _ (here (goes_on (board_told held d.board)) d.image AsImage [] h)
-
--- ---- the names of files that are read
-
-within_where : (n : ℕ) (b : Bool) (name : List ℕ) (form : Form) (readings : List Reading) → length name ≤ n → ((file : Reading) → IsOneOf readings file → length file.name ≤ n)
-    → (file : Reading) → IsOneOf (read_where b name form readings) file → length file.name ≤ n
-within_where n false name form readings l rest file h = rest file h
-within_where n true name form readings l rest file (inl e) = subst (λ (x : Reading). length x.name ≤ n) e l
-within_where n true name form readings l rest file (inr h) = rest file h
-
--- none is longer than the longest of the command's
-pub run_within : (held : List ℕ → Held) (r : RunWords) (file : Reading) → IsOneOf (run_reads held r) file → length file.name ≤ longest (run_names r)
-run_within held r =
-    within_where (longest (run_names r)) (not (is_demo r.board)) r.board AsBoard _ (omega arith)
-    (within_where (longest (run_names r)) (goes_on (board_told held r.board)) r.secure AsImage _ (omega arith)
-    (within_where (longest (run_names r)) (goes_on (secure_told held r)) r.nonsecure AsImage _ (omega arith)
-    (within_where (longest (run_names r)) (not (is_none_script r.script) && goes_on (nonsecure_told held r)) r.script AsScript [] (omega arith) (λ file h. absurd h))))
-
-pub pair_within : (held : List ℕ → Held) (p : PairWords) (file : Reading) → IsOneOf (pair_reads held p) file → length file.name ≤ longest (pair_names p)
-pair_within held p =
-    within_where (longest (pair_names p)) (not (is_demo p.board)) p.board AsBoard _ (omega arith)
-    (within_where (longest (pair_names p)) (goes_on (board_told held p.board)) p.first AsImage _ (omega arith)
-    (within_where (longest (pair_names p)) (goes_on (first_told held p)) p.second AsImage _ (omega arith)
-    (within_where (longest (pair_names p)) (goes_on (second_told held p)) p.nonsecure AsImage _ (omega arith)
-    (within_where (longest (pair_names p)) (not (is_none_script p.script) && goes_on (third_told held p)) p.script AsScript [] (omega arith) (λ file h. absurd h)))))
-
-pub dis_within : (held : List ℕ → Held) (d : DisWords) (file : Reading) → IsOneOf (dis_reads held d) file → length file.name ≤ longest (dis_names d)
-dis_within held d =
-    within_where (longest (dis_names d)) (not (is_demo d.board)) d.board AsBoard _ (omega arith)
-    (within_where (longest (dis_names d)) (goes_on (board_told held d.board)) d.image AsImage [] (omega arith) (λ file h. absurd h))
-
--- ---- absent files
-
--- no value is settled
 pub NeverGives : {A : Type 0} → Told A → Type 0
 NeverGives {A = A} t = (x : A) → t ≡ Gives x → ⊥
 
@@ -143,6 +44,12 @@ pub never_gives : {A : Type 0} (t : Told A) (x : A) → NeverGives t → t ≡ G
 unfolding NeverGives
 never_gives t x h e = h x e
 
+-- ---- one file that is absent
+
+false_not : (b : Bool) → not b ≡ true → b ≡ false
+false_not false e = refl
+false_not true e = absurd (cc)
+
 absent_board : (held : List ℕ → Held) (name : List ℕ) → held name ≡ Absent → is_demo name ≡ false → board_told held name ≡ Stops (Unread name)
 unfolding board_told board_file
 absent_board held name e demo = rw (demo, e) refl
@@ -151,112 +58,132 @@ absent_image : (held : List ℕ → Held) (b : BoardValue) (side : Side) (name :
 unfolding image_told
 absent_image held b side name e = rw e refl
 
+absent_state : (held : List ℕ → Held) (b : BoardValue) (name : List ℕ) → held name ≡ Absent → state_told held b name ≡ Stops (Unread name)
+unfolding state_told
+absent_state held b name e = rw e refl
+
 absent_script : (held : List ℕ → Held) (interrupts : ℕ) (name : List ℕ) → held name ≡ Absent → is_none_script name ≡ false → script_told held interrupts name ≡ Stops (Unread name)
 unfolding script_told script_file
 absent_script held interrupts name e named = rw (named, e) refl
 
--- an absent file that is read gives nothing, and nothing behind it is settled
-module _ {C : Type 0} (held : List ℕ → Held) (name : List ℕ) (absent : held name ≡ Absent) where
-  never_board : (next : BoardValue → Told C) → not (is_demo name) ≡ true → NeverGives (told_then (board_told held name) next)
-  never_board next is = never_then (board_told held name) next (never_stops (board_told held name) (Unread name) (absent_board held name absent (false_not (is_demo name) is)))
-
-  never_image : (b : BoardValue) (side : Side) (next : ImageValue → Told C) → NeverGives (told_then (image_told held b side name) next)
-  never_image b side next = never_then (image_told held b side name) next (never_stops (image_told held b side name) (Unread name) (absent_image held b side name absent))
-
-  never_script : (interrupts : ℕ) (next : List Timed → Told C) → not (is_none_script name) ≡ true → NeverGives (told_then (script_told held interrupts name) next)
-  never_script interrupts next is =
-      never_then (script_told held interrupts name) next
-      (never_stops (script_told held interrupts name) (Unread name) (absent_script held interrupts name absent (false_not (is_none_script name) is)))
-
--- a file is the first of these, where that is read, or one of the others
-by_place : (b : Bool) (name : List ℕ) (form : Form) (readings : List Reading) (reading : Reading) (Q : Type 0)
-    → (b ≡ true → name ≡ reading.name → Q) → (IsOneOf readings reading → Q) → IsOneOf (read_where b name form readings) reading → Q
-by_place false name form readings reading Q first other h = other h
-by_place true name form readings reading Q first other (inl e) = first refl (ap (λ (x : Reading). x.name) e)
-by_place true name form readings reading Q first other (inr h) = other h
-
--- what stops a file of a run settles no start
-never_nonsecure : (held : List ℕ → Held) (r : RunWords) → NeverGives (nonsecure_told held r) → NeverGives (start_told held r)
-never_nonsecure held r h = never_then (nonsecure_told held r) _ h
-
-never_secure : (held : List ℕ → Held) (r : RunWords) → NeverGives (secure_told held r) → NeverGives (start_told held r)
-never_secure held r h = never_nonsecure held r (never_then (secure_told held r) _ h)
-
-absent_run : (held : List ℕ → Held) (r : RunWords) (reading : Reading) → held reading.name ≡ Absent → IsOneOf (run_reads held r) reading → NeverGives (start_told held r)
-absent_run held r reading e =
-    by_place (not (is_demo r.board)) r.board AsBoard _ reading _
-    (λ is named. never_secure held r (never_board held r.board (ap held named ∙ e) _ is))
-    (by_place (goes_on (board_told held r.board)) r.secure AsImage _ reading _
-    (λ is named. never_secure held r (never_after (board_told held r.board) _ (λ b. never_image held r.secure (ap held named ∙ e) b sides.Secure _)))
-    (by_place (goes_on (secure_told held r)) r.nonsecure AsImage _ reading _
-    (λ is named. never_nonsecure held r (never_after (secure_told held r) _ (λ s. never_image held r.nonsecure (ap held named ∙ e) s.board sides.NonSecure _)))
-    (by_place (not (is_none_script r.script) && goes_on (nonsecure_told held r)) r.script AsScript [] reading _
-    (λ is named. never_after (nonsecure_told held r) _ (λ s.
-    never_script held r.script (ap held named ∙ e) s.board.interrupts _ (and_parts (not (is_none_script r.script)) (goes_on (nonsecure_told held r)) is).0))
-    (λ h. absurd h))))
-
--- the same of a pair
-never_third : (held : List ℕ → Held) (p : PairWords) → NeverGives (third_told held p) → NeverGives (pair_start_told held p)
-never_third held p h = never_then (third_told held p) _ h
-
-never_second : (held : List ℕ → Held) (p : PairWords) → NeverGives (second_told held p) → NeverGives (pair_start_told held p)
-never_second held p h = never_third held p (never_then (second_told held p) _ h)
-
-never_first : (held : List ℕ → Held) (p : PairWords) → NeverGives (first_told held p) → NeverGives (pair_start_told held p)
-never_first held p h = never_second held p (never_then (first_told held p) _ h)
-
-absent_pair : (held : List ℕ → Held) (p : PairWords) (reading : Reading) → held reading.name ≡ Absent → IsOneOf (pair_reads held p) reading → NeverGives (pair_start_told held p)
-absent_pair held p reading e =
-    by_place (not (is_demo p.board)) p.board AsBoard _ reading _
-    (λ is named. never_first held p (never_board held p.board (ap held named ∙ e) _ is))
-    (by_place (goes_on (board_told held p.board)) p.first AsImage _ reading _
-    (λ is named. never_first held p (never_after (board_told held p.board) _ (λ b. never_image held p.first (ap held named ∙ e) b sides.Secure _)))
-    (by_place (goes_on (first_told held p)) p.second AsImage _ reading _
-    (λ is named. never_second held p (never_after (first_told held p) _ (λ s. never_image held p.second (ap held named ∙ e) s.board sides.Secure _)))
-    (by_place (goes_on (second_told held p)) p.nonsecure AsImage _ reading _
-    (λ is named. never_third held p (never_after (second_told held p) _ (λ s. never_image held p.nonsecure (ap held named ∙ e) s.board sides.NonSecure _)))
-    (by_place (not (is_none_script p.script) && goes_on (third_told held p)) p.script AsScript [] reading _
-    (λ is named. never_after (third_told held p) _ (λ s.
-    never_script held p.script (ap held named ∙ e) s.board.interrupts _ (and_parts (not (is_none_script p.script)) (goes_on (third_told held p)) is).0))
-    (λ h. absurd h)))))
-
--- within the limit of steps, and past it
-absent_limited : {A B : Type 0} (many : Bool) (readings : List Reading) (reading : Reading) (t : Told A) (next : A → Told B) → (IsOneOf readings reading → NeverGives t)
-    → IsOneOf (cond many [] readings) reading → NeverGives (cond many (Stops TooManySteps) (told_then t next))
-absent_limited true readings reading t next never h = absurd h
-absent_limited false readings reading t next never h = never_then t next (never h)
-
--- the same of an assembly
-absent_source : (held : List ℕ → Held) (a : AsmWords) → held a.source ≡ Absent → source_told held a ≡ Stops (Unread a.source)
+absent_source : (held : List ℕ → Held) (form : AsmForm) (name : List ℕ) → held name ≡ Absent → source_told held form name ≡ Stops (Unread name)
 unfolding source_told
-absent_source held a e = rw e refl
+absent_source held form name e = rw e refl
 
-absent_assembled : (held : List ℕ → Held) (a : AsmWords) (reading : Reading) → held reading.name ≡ Absent
-    → (record { name = a.source; form = AsSource } ≡ reading) ⊎ IsOneOf [] reading → NeverGives (source_told held a)
-absent_assembled held a reading e (inl h) =
-    never_stops (source_told held a) (Unread a.source) (absent_source held a (ap held (ap (λ (x : Reading). x.name) h) ∙ e))
-absent_assembled held a reading e (inr h) = absurd h
+never_board : (held : List ℕ → Held) (name : List ℕ) → not (is_demo name) ≡ true → held name ≡ Absent → NeverGives (board_told held name)
+never_board held name is gone = never_stops (board_told held name) (Unread name) (absent_board held name gone (false_not (is_demo name) is))
 
--- the same of a disassembly
-absent_listed : (held : List ℕ → Held) (d : DisWords) (reading : Reading) → held reading.name ≡ Absent → IsOneOf (dis_reads held d) reading → NeverGives (listed_told held d)
-absent_listed held d reading e =
-    by_place (not (is_demo d.board)) d.board AsBoard _ reading _
-    (λ is named. never_board held d.board (ap held named ∙ e) _ is)
-    (by_place (goes_on (board_told held d.board)) d.image AsImage [] reading _
-    (λ is named. never_after (board_told held d.board) _ (λ b.
-    never_stops (image_told held b d.side d.image) (Unread d.image) (absent_image held b d.side d.image (ap held named ∙ e))))
-    (λ h. absurd h))
+never_image : (held : List ℕ → Held) (b : BoardValue) (side : Side) (name : List ℕ) → held name ≡ Absent → NeverGives (image_told held b side name)
+never_image held b side name gone = never_stops (image_told held b side name) (Unread name) (absent_image held b side name gone)
+
+never_state : (held : List ℕ → Held) (b : BoardValue) (name : List ℕ) → held name ≡ Absent → NeverGives (state_told held b name)
+never_state held b name gone = never_stops (state_told held b name) (Unread name) (absent_state held b name gone)
+
+never_script : (held : List ℕ → Held) (interrupts : ℕ) (name : List ℕ) → not (is_none_script name) ≡ true → held name ≡ Absent → NeverGives (script_told held interrupts name)
+never_script held interrupts name is gone =
+    never_stops (script_told held interrupts name) (Unread name) (absent_script held interrupts name gone (false_not (is_none_script name) is))
+
+never_source : (held : List ℕ → Held) (form : AsmForm) (name : List ℕ) → held name ≡ Absent → NeverGives (source_told held form name)
+never_source held form name gone = never_stops (source_told held form name) (Unread name) (absent_source held form name gone)
+
+-- ---- files, one after another
+
+-- no name is longer than a bound, and an absent file leaves nothing settled
+pub record IsSure {A : Type 0} (held : List ℕ → Held) (n : ℕ) (files : Settled A) : Type 0 where
+  pub absent : (file : Reading) → IsOneOf files.reads file → held file.name ≡ Absent → NeverGives files.told
+  pub within : (file : Reading) → IsOneOf files.reads file → length file.name ≤ n
+
+module _ (held : List ℕ → Held) (n : ℕ) where
+  sure_one : {A : Type 0} (is_file : Bool) (file : Reading) (t : Told A) → length file.name ≤ n → (is_file ≡ true → held file.name ≡ Absent → NeverGives t)
+      → IsSure held n (one_file is_file file t)
+  sure_one is_file file t short never = record {
+    absent = λ other read gone. let at = read_where_is is_file file other read in never at.0 (ap (λ (x : Reading). held x.name) at.1 ∙ gone);
+    within = λ other read. subst (λ (x : Reading). length x.name ≤ n) (read_where_is is_file file other read).1 short;
+  }
+
+  sure_and : {A B C : Type 0} (before : Settled A) (is_file : Bool) (file : Reading) (next : A → Told B) (join : A → B → C) → IsSure held n before → length file.name ≤ n
+      → (is_file ≡ true → held file.name ≡ Absent → (x : A) → NeverGives (next x)) → IsSure held n (and_file before is_file file next join)
+  sure_and {A = A} before is_file file next join sure short never =
+      let is = is_file && goes_on before.told in
+      record {
+        absent = λ other read gone. by_part before.reads (read_where is file) other _ (λ first. never_then before.told _ (sure.absent other first gone))
+            (λ second.
+            let at = read_where_is is file other second in
+            never_after before.told _ (λ (x : A). never_then (next x) _ (never (and_parts is_file (goes_on before.told) at.0).0 (ap (λ (y : Reading). held y.name) at.1 ∙ gone) x))) read;
+        within = λ other read. by_part before.reads (read_where is file) other _ (sure.within other)
+            (λ second. subst (λ (x : Reading). length x.name ≤ n) (read_where_is is file other second).1 short) read;
+      }
+
+  sure_settling : {A B : Type 0} (next : A → Told B) (files : Settled A) → IsSure held n files → IsSure held n (settling next files)
+  sure_settling next files sure = record {
+    absent = λ file read gone. never_then files.told next (sure.absent file read gone);
+    within = sure.within;
+  }
+
+  sure_limited : {A : Type 0} (past : Bool) (files : Settled A) → IsSure held n files → IsSure held n (cond past (record { told = Stops TooManySteps; reads = [] }) files)
+  sure_limited true files sure = record { absent = λ file read gone. absurd read; within = λ file read. absurd read }
+  sure_limited false files sure = sure
+
+-- ---- the files of commands
+
+module _ (held : List ℕ → Held) where
+  sure_board : (n : ℕ) (name : List ℕ) → length name ≤ n → IsSure held n (board_files held name)
+  sure_board n name short = sure_one held n (not (is_demo name)) _ (board_told held name) short (never_board held name)
+
+  sure_start : (w : StartWords) → IsSure held (longest (start_names w)) (start_files held w)
+  sure_start w =
+      let n = longest (start_names w) in
+      sure_and held n _ (not (is_none_script w.script)) _ _ _
+      (sure_and held n _ true _ _ _
+      (sure_and held n _ true _ _ _ (sure_board n w.board (omega arith)) (omega arith) (λ is gone b. never_image held b _ w.secure gone))
+      (omega arith) (λ is gone s. never_image held s.board _ w.nonsecure gone))
+      (omega arith) (λ is gone s. never_script held s.board.interrupts w.script is gone)
+
+  sure_saved : (w : ResumeWords) → IsSure held (longest (resume_names w)) (saved_files held w)
+  sure_saved w =
+      let n = longest (resume_names w) in
+      sure_and held n _ (not (is_none_script w.script)) _ _ _
+      (sure_and held n _ true _ _ _ (sure_board n w.board (omega arith)) (omega arith) (λ is gone b. never_state held b w.state gone))
+      (omega arith) (λ is gone s. never_script held s.board.interrupts w.script is gone)
+
+  sure_pair : (p : PairWords) → IsSure held (longest (pair_names p)) (pair_start_files held p)
+  sure_pair p =
+      let n = longest (pair_names p) in
+      sure_and held n _ (not (is_none_script p.script)) _ _ _
+      (sure_and held n _ true _ _ _
+      (sure_and held n _ true _ _ _
+      (sure_and held n _ true _ _ _ (sure_board n p.board (omega arith)) (omega arith) (λ is gone b. never_image held b _ p.first gone))
+      (omega arith) (λ is gone s. never_image held s.board _ p.second gone))
+      (omega arith) (λ is gone s. never_image held s.board _ p.nonsecure gone))
+      (omega arith) (λ is gone s. never_script held s.board.interrupts p.script is gone)
+
+  sure_source : (a : AsmWords) → IsSure held (longest (asm_names a)) (source_files held a.form a.source)
+  sure_source a = sure_one held (longest (asm_names a)) true _ (source_told held a.form a.source) (omega arith) (λ is gone. never_source held a.form a.source gone)
+
+  sure_listed : (d : DisWords) → IsSure held (longest (dis_names d)) (listed_files held d)
+  sure_listed d =
+      let n = longest (dis_names d) in
+      sure_and held n _ true _ _ _ (sure_board n d.board (omega arith)) (omega arith) (λ is gone b. never_image held b d.side d.image gone)
+
+  sure_begun : (w : StartWords) → IsSure held (longest (start_names w)) (within_limit w.steps (start_files held w))
+  sure_begun w = sure_limited held (longest (start_names w)) (nat_lt step_limit w.steps) _ (sure_start w)
+
+  pub sure_command : (command : Command) → IsSure held (longest (names_of command)) (files_of held (Some command))
+  sure_command (Run r) =
+      let n = longest (start_names (start_of r)) in
+      sure_settling held n _ _ (sure_settling held n _ _ (sure_begun (start_of r)))
+  sure_command (Pair p) =
+      let n = longest (pair_names p) in
+      sure_settling held n _ _ (sure_settling held n _ _ (sure_limited held n (nat_lt step_limit p.steps) _ (sure_pair p)))
+  sure_command (Asm a) = sure_settling held (longest (asm_names a)) _ _ (sure_source a)
+  sure_command (Dis d) = sure_settling held (longest (dis_names d)) _ _ (sure_listed d)
+  sure_command (Gates s) = sure_settling held (longest (start_names s)) _ _ (sure_begun s)
+  sure_command (Snap s) = sure_settling held (longest (start_names s)) _ _ (sure_begun s)
+  sure_command (Resume w) =
+      let n = longest (resume_names w) in
+      sure_settling held n _ _ (sure_limited held n (nat_lt step_limit w.steps) _ (sure_saved w))
 
 -- an absent file that is read settles no task
-pub absent_task : (held : List ℕ → Held) (o : Option Command) (name : List ℕ) (form : Form) → held name ≡ Absent → IsOneOf (reads_of held o) (record { name = name; form = form })
-    → NeverGives (told held o)
-absent_task held None name form e h = absurd h
-absent_task held (Some (Run r)) name form e h =
-    let file : Reading = record { name = name; form = form } in
-    never_then (job_told held r) _ (absent_limited (nat_lt step_limit r.steps) (run_reads held r) file (start_told held r) _ (absent_run held r file e) h)
-absent_task held (Some (Pair p)) name form e h =
-    let file : Reading = record { name = name; form = form } in
-    never_then (pair_told held p) _ (absent_limited (nat_lt step_limit p.steps) (pair_reads held p) file (pair_start_told held p) _ (absent_pair held p file e) h)
-absent_task held (Some (Asm a)) name form e h =
-    never_then (source_told held a) _ (absent_assembled held a (record { name = name; form = form }) e h)
-absent_task held (Some (Dis d)) name form e h = never_then (listed_told held d) _ (absent_listed held d (record { name = name; form = form }) e h)
+pub absent_task : (held : List ℕ → Held) (o : Option Command) (file : Reading) → held file.name ≡ Absent → IsOneOf (reads_of held o) file → NeverGives (told held o)
+absent_task held None file gone read = absurd read
+absent_task held (Some command) file gone read = (sure_command held command).absent file read gone

@@ -1,26 +1,40 @@
--- A fault of one file of a command, as a fault of the command's files.
-use Rattle.std.proofs.Common.{◌≡◌, ℕ, ◌≤◌, Bool, true, false, List, [], Option, Some, None, refl, sym, ap, ◌∙◌, subst, arith}
+-- Files that are read one after another, each with its form.
+use Rattle.std.proofs.Common.{◌≡◌, inl, ℕ, ◌+◌, ◌≤◌, ◌&&◌, not, Bool, true, false, cond, List, [], ◌++◌, length, length-append, append-nil, Option, Some, None, Result, Ok, Err, refl, sym, ap, ◌∙◌, subst, arith}
 use Rattle.std.specs.Prelude.{IsTrue}
+use Rattle.std.specs.Borrow.{Bor}
 use Rattle.tz_table.specs.declared.units.Side.{Side}
-use Rattle.tz_table.specs.declared.units.Side.TheVariants as sides
 use Rattle.tz_model.specs.Board.{BoardValue}
 use Rattle.tz_model.specs.Image.{ImageValue}
-use Rattle.tz_model.specs.Outside.{Held, Rose}
-use Rattle.tz_board.specs.Scripts.{Timed}
-use Rattle.tz_cli.specs.Run.{RunWords}
-use Rattle.tz_cli.specs.Pair.{PairWords}
-use Rattle.tz_cli.specs.Asm.{AsmWords}
-use Rattle.tz_cli.specs.Dis.{DisWords}
+use Rattle.tz_model.specs.Outside.{Held, Untold, Absent, Holds, Rose, Got, Cut}
+use Rattle.tz_elf.specs.Images.{Refusal, image_of}
+use Rattle.tz_elf.specs.Refusals.{IsImageRefusal}
+use Rattle.tz_board.specs.Boards.{BoardRefusal, board_of}
+use Rattle.tz_board.specs.BoardErrors.{refusal_of, IsBoardRefusal, IsTold}
+use Rattle.tz_board.specs.Demo.{demo}
+use Rattle.tz_board.specs.Scripts.{Timed, ScriptRefusal, script_of}
+use Rattle.tz_board.specs.ScriptErrors.{script_refusal_of, IsScriptRefusal, IsToldScript}
+use Rattle.tz_board.specs.declared.error.BoardError.{BoardError}
+use Rattle.tz_board.specs.declared.error.ScriptError.{ScriptError}
+use Rattle.tz_elf.specs.declared.error.ElfError.{ElfError}
+use Rattle.tz_elf.specs.declared.error.ElfError.TheVariants as elf
+use Rattle.tz_snap.specs.StateFile.{SavedState, saved_of}
+use Rattle.tz_snap.specs.StateFile.{Refusal as StateRefusal}
+use Rattle.tz_snap.specs.Refusals.{IsStateRefusal}
+use Rattle.tz_snap.specs.declared.error.SnapError.{SnapError}
+use Rattle.tz_snap.specs.declared.error.SnapError.TheVariants as snap
+use Rattle.tz_asm.specs.Errors.{IsRefusal}
+use Rattle.tz_asm.specs.Refusals.{Refusal as AsmRefusal}
+use Rattle.tz_asm.specs.declared.error.AsmError.{AsmError}
+use Rattle.tz_asm.specs.declared.error.AsmError.TheVariants as asm
 use Rattle.tz_cli.specs.declared.stops.LoadError.{LoadError}
-use Rattle.tz_cli.specs.declared.stops.LoadError.TheVariants.{Unread, Long, Board, Image, Script, Source, Memory}
-use Rattle.tz_cli.specs.Told.{Stop, TooLong, BadBoard, BadImage, BadScript, BadSource, Told, Unknown, Stops, Gives, told_then, Start, PairStart, no_image, is_demo, is_none_script, board_limit, image_limit, script_limit, source_limit, file_with, board_file, board_told, image_told, script_file, script_told, source_told, secure_told, nonsecure_told, start_told, first_told, second_told, third_told, pair_start_told, listed_told}
-use Rattle.tz_cli.specs.Reads.{Form, AsBoard, AsImage, AsScript, AsSource, Reading, goes_on, IsOneOf, run_reads, pair_reads, dis_reads}
+use Rattle.tz_cli.specs.declared.stops.LoadError.TheVariants.{Unread, Long, Board, Image, State, Script, Source, Memory}
+use Rattle.tz_cli.specs.Told.{Stop, TooLong, BadBoard, BadImage, BadState, BadScript, BadSource, Told, Unknown, Stops, Gives, told_then, graded, is_demo, is_none_script, board_limit, image_limit, script_limit, source_limit, file_with, board_file, board_told, image_told, state_told, script_file, script_told, assembly_in, source_told}
+use Rattle.tz_cli.specs.Reads.{Form, AsBoard, AsImage, AsState, AsScript, AsSource, Reading, Settled, goes_on, read_where, one_file, and_file, IsOneOf}
+use Rattle.tz_cli.specs.declared.words.asm.Form.{Form as AsmForm}
+use Rattle.tz_cli.specs.Starts.{board_files, image_files, state_files, script_files, source_files}
 use Rattle.tz_cli.specs.Answer.{Allows, AllowsStop, IsOfFile, Shelved}
-use Rattle.tz_cli.specs.Faults.{AllowsRefusal, IsFault, IsFile, IsBoardFile, IsScriptFile, image_refusal, source_refusal}
-use Rattle.tz_cli.proofs.Exits.{then_stop, then_gives}
-use Rattle.tz_cli.proofs.Reached.{run_board, run_secure, run_nonsecure, run_script, pair_board, pair_first, pair_second, pair_nonsecure, pair_script, dis_board, dis_image}
-use Rattle.tz_board.specs.BoardErrors.{refusal_of}
-use Rattle.tz_board.specs.ScriptErrors.{script_refusal_of}
+use Rattle.tz_cli.specs.Faults.{AllowsRefusal, IsFault, IsOfFiles, IsRead, Standing, between, image_refusal, state_refusal, source_refusal}
+use Rattle.tz_cli.proofs.Settling.{then_stop, after_stop, then_allows, then_gives, goes, one_of_first, one_of_second, and_holds, past, fits}
 
 -- ---- faults of some files as faults of more
 
@@ -28,14 +42,14 @@ use Rattle.tz_board.specs.ScriptErrors.{script_refusal_of}
 abbrev pub StopsAll : {A B : Type 0} → Told A → Told B → Type 0
 StopsAll t u = (stop : Stop) → IsOfFile stop → AllowsStop t stop → AllowsStop u stop
 
-refused : {A B E : Type 0} (t : Told A) (u : Told B) (stop : E → Stop) (o : Option E) → ((x : E) → IsOfFile (stop x)) → StopsAll t u → AllowsRefusal t stop o → AllowsRefusal u stop o
-refused t u stop None of all h = tt
-refused t u stop (Some x) of all h = all (stop x) (of x) h
+refused_more : {A B E : Type 0} (t : Told A) (u : Told B) (stop : E → Stop) (o : Option E) → ((x : E) → IsOfFile (stop x)) → StopsAll t u → AllowsRefusal t stop o → AllowsRefusal u stop o
+refused_more t u stop None of all h = tt
+refused_more t u stop (Some x) of all h = all (stop x) (of x) h
 
 rose_before : (a b c d : ℕ) → a ≤ b → c ≤ d → Rose b c → Rose a d
 rose_before a b c d l m h = omega arith
 
--- the shelf as one file was read, in that of the command
+-- the shelf as some files were read, in that of more
 pub record Within (s s' : Shelved) : Type 0 where
   pub held : s'.held ≡ s.held
   pub sound : s'.sound ≡ s.sound
@@ -43,246 +57,318 @@ pub record Within (s s' : Shelved) : Type 0 where
   pub now : s'.now ≤ s.now
 
 -- a fault of some files is one of others that have these among them, where what stops these stops those
-fault_of_more : {A B : Type 0} (s s' : Shelved) (IsRead IsReadHere : Reading → Type 0) (t : Told A) (u : Told B) (e : LoadError)
-    → Within s s' → ((file : Reading) → IsReadHere file → IsRead file) → StopsAll t u → IsFault s' IsReadHere t e → IsFault s IsRead u e
-fault_of_more s s' IsRead IsReadHere t u (Unread name) within read all h = (
+fault_of_more : {A B : Type 0} (s s' : Shelved) (files : Settled A) (others : Settled B) (e : LoadError)
+    → Within s s' → ((file : Reading) → IsOneOf files.reads file → IsOneOf others.reads file) → StopsAll files.told others.told → IsFault s' files e → IsFault s others e
+fault_of_more s s' files others (Unread name) within read all h = (
   (h.0.0, read (record { name = name.now; form = h.0.0 }) h.0.1),
   rose_before s.before s'.before s'.now s.now within.before within.now h.1,
   λ sound. ap (λ (g : List ℕ → Held). g name.now) (sym within.held) ∙ h.2 (subst (λ (b : Bool). IsTrue b) (sym within.sound) sound),
 )
-fault_of_more s s' IsRead IsReadHere t u (Long name) within read all h =
+fault_of_more s s' files others (Long name) within read all h =
     ((h.0.0, read (record { name = name.now; form = h.0.0 }) h.0.1), all (TooLong name.now) tt h.1)
-fault_of_more s s' IsRead IsReadHere t u (Board name x) within read all h =
-    (read (record { name = name.now; form = AsBoard }) h.0, refused t u (BadBoard name.now) (refusal_of x) (λ r. tt) all h.1)
-fault_of_more s s' IsRead IsReadHere t u (Image name x) within read all h =
-    (read (record { name = name.now; form = AsImage }) h.0, refused t u (BadImage name.now) (image_refusal x) (λ r. tt) all h.1)
-fault_of_more s s' IsRead IsReadHere t u (Script name x) within read all h =
-    (read (record { name = name.now; form = AsScript }) h.0, refused t u (BadScript name.now) (script_refusal_of x) (λ r. tt) all h.1)
-fault_of_more s s' IsRead IsReadHere t u (Source name x) within read all h =
-    (read (record { name = name.now; form = AsSource }) h.0, refused t u (BadSource name.now) (source_refusal x) (λ r. tt) all h.1)
-fault_of_more s s' IsRead IsReadHere t u Memory within read all h = tt
+fault_of_more s s' files others (Board name x) within read all h =
+    (read (record { name = name.now; form = AsBoard }) h.0, refused_more files.told others.told (BadBoard name.now) (refusal_of x) (λ r. tt) all h.1)
+fault_of_more s s' files others (Image name x) within read all h =
+    (read (record { name = name.now; form = AsImage }) h.0, refused_more files.told others.told (BadImage name.now) (image_refusal x) (λ r. tt) all h.1)
+fault_of_more s s' files others (State name x) within read all h =
+    (read (record { name = name.now; form = AsState }) h.0, refused_more files.told others.told (BadState name.now) (state_refusal x) (λ r. tt) all h.1)
+fault_of_more s s' files others (Script name x) within read all h =
+    (read (record { name = name.now; form = AsScript }) h.0, refused_more files.told others.told (BadScript name.now) (script_refusal_of x) (λ r. tt) all h.1)
+fault_of_more s s' files others (Source name x) within read all h =
+    (read (record { name = name.now; form = AsSource }) h.0, refused_more files.told others.told (BadSource name.now) (source_refusal x) (λ r. tt) all h.1)
+fault_of_more s s' files others Memory within read all h = tt
 
--- ---- what is allowed goes on
+same_shelf : (s : Shelved) → Within s s
+same_shelf s = record { held = refl; sound = refl; before = omega arith; now = omega arith }
 
-after_stop : {A B : Type 0} (t : Told A) (next : A → Told B) (x : A) (stop : Stop) → Allows t x → IsOfFile stop → AllowsStop (next x) stop → AllowsStop (told_then t next) stop
-after_stop Unknown next x stop allowed of h = of
-after_stop (Stops s) next x stop allowed of h = absurd allowed
-after_stop (Gives y) next x stop allowed of h = subst (λ z. AllowsStop (next z) stop) (sym allowed) h
+-- ---- one file after others
 
-then_allows : {A B : Type 0} (t : Told A) (next : A → Told B) (x : A) (y : B) → Allows t x → Allows (next x) y → Allows (told_then t next) y
-then_allows Unknown next x y allowed h = tt
-then_allows (Stops s) next x y allowed h = absurd allowed
-then_allows (Gives z) next x y allowed h = subst (λ w. Allows (next w) y) (sym allowed) h
+module _ {A B C : Type 0} (a b : Standing) (before : (List ℕ → Held) → Settled A) (is_file : Bool) (file : Reading) (next : (List ℕ → Held) → A → Told B) (join : A → B → C) where
+  abbrev All : (List ℕ → Held) → Settled C
+  All held = and_file (before held) is_file file (next held) join
 
-goes : {A : Type 0} (t : Told A) (x : A) → Allows t x → goes_on t ≡ true
-goes Unknown x h = refl
-goes (Stops s) x h = absurd h
-goes (Gives y) x h = refl
+  -- a fault of those before
+  pub first_failed : (e : LoadError) → IsRead a b before (Err e) → IsRead a b All (Err e)
+  first_failed e h = record {
+    held = h.held;
+    sound = h.sound;
+    later = h.later;
+    answer = fault_of_more (between a b) (between a b) (before a.held) (All a.held) e (same_shelf (between a b))
+        (λ other read. one_of_first (before a.held).reads (read_where (is_file && goes_on (before a.held).told) file) other read)
+        (λ stop of stops. then_stop (before a.held).told _ stop stops) h.answer;
+  }
 
--- one file after others, as what is settled of all
-module _ {A B C : Type 0} (t : Told A) (u : A → Told B) (f : A → B → C) where
-  joined_allows : (x : A) (y : B) → Allows t x → Allows (u x) y → Allows (told_then t (λ z. told_then (u z) (λ w. Gives (f z w)))) (f x y)
-  joined_allows x y hx hy = then_allows t _ x (f x y) hx (then_gives (f x) (u x) y hy)
+  module _ (c : Standing) (x : A) (h : IsRead a b before (Ok x)) where
+    -- the file by the word of the shelf before
+    at_first : (r : Result B LoadError) → IsRead b c (λ held. one_file is_file file (next held x)) r → IsOfFiles (between b c) (one_file is_file file (next a.held x)) r
+    at_first r k = subst (λ (g : List ℕ → Held). IsOfFiles (between b c) (one_file is_file file (next g x)) r) h.held k.answer
 
-  joined_stops : (x : A) → Allows t x → StopsAll (u x) (told_then t (λ z. told_then (u z) (λ w. Gives (f z w))))
-  joined_stops x hx stop of h = after_stop t _ x stop hx of (then_stop (u x) _ stop h)
+    is_read : (is_file && goes_on (before a.held).told) ≡ is_file
+    is_read = and_holds is_file (goes_on (before a.held).told) (goes (before a.held).told x h.answer)
 
--- ---- a file that isn't read
+    -- its own fault
+    pub next_failed : (e : LoadError) → IsRead b c (λ held. one_file is_file file (next held x)) (Err e) → IsRead a c All (Err e)
+    next_failed e k =
+        let first = h.later in
+        let second = k.later in
+        record {
+          held = k.held ∙ h.held;
+          sound = k.sound ∙ h.sound;
+          later = omega (arith, first, second);
+          answer = fault_of_more (between a c) (between b c) (one_file is_file file (next a.held x)) (All a.held) e
+              (record { held = h.held; sound = h.sound; before = first; now = omega arith })
+              (λ other read. one_of_second (before a.held).reads (read_where (is_file && goes_on (before a.held).told) file) other
+              (subst (λ (is : Bool). IsOneOf (read_where is file) other) (sym is_read) read))
+              (λ stop of stops. after_stop (before a.held).told _ x stop h.answer of (then_stop (next a.held x) _ stop stops))
+              (at_first (Err e) k);
+        }
 
--- what stops the bytes of a file stops what is made of them
-unread_of : {B : Type 0} (s : Shelved) (name : List ℕ) (form : Form) (limit : ℕ) (IsRead : Reading → Type 0) (u : Told B) (e : LoadError)
-    → ((file : Reading) → IsFile name form file → IsRead file) → StopsAll (file_with name limit (s.held name)) u
-    → IsFault s (IsFile name form) (file_with name limit (s.held name)) e → IsFault s IsRead u e
-unread_of s name form limit IsRead u e read all h =
-    fault_of_more s s IsRead (IsFile name form) (file_with name limit (s.held name)) u e (record { held = refl; sound = refl; before = omega arith; now = omega arith }) read all h
+    -- both were read
+    pub both_read : (y : B) → IsRead b c (λ held. one_file is_file file (next held x)) (Ok y) → IsRead a c All (Ok (join x y))
+    both_read y k =
+        let first = h.later in
+        let second = k.later in
+        record {
+          held = k.held ∙ h.held;
+          sound = k.sound ∙ h.sound;
+          later = omega (arith, first, second);
+          answer = then_allows (before a.held).told _ x (join x y) h.answer (then_gives (join x) (next a.held x) y (at_first (Ok y) k));
+        }
 
-board_stops : (held : List ℕ → Held) (name : List ℕ) → is_demo name ≡ false → StopsAll (file_with name board_limit (held name)) (board_told held name)
-unfolding board_told board_file
-board_stops held name file stop of h = rw file (then_stop (file_with name board_limit (held name)) _ stop h)
+-- ---- the form of a file
 
-image_stops : (held : List ℕ → Held) (b : BoardValue) (side : Side) (name : List ℕ) → StopsAll (file_with name image_limit (held name)) (image_told held b side name)
-unfolding image_told
-image_stops held b side name stop of h = then_stop (file_with name image_limit (held name)) _ stop h
+-- want of memory is a fault of any files
+pub no_memory : {A B : Type 0} (a b : Standing) (files : (List ℕ → Held) → Settled A) (others : (List ℕ → Held) → Settled B) (r : Result A LoadError) → IsRead a b files r → IsRead a b others (Err Memory)
+no_memory a b files others r h = record { held = h.held; sound = h.sound; later = h.later; answer = tt }
 
-script_stops : (held : List ℕ → Held) (interrupts : ℕ) (name : List ℕ) → is_none_script name ≡ false → StopsAll (file_with name script_limit (held name)) (script_told held interrupts name)
-unfolding script_told script_file
-script_stops held interrupts name file stop of h = rw file (then_stop (file_with name script_limit (held name)) _ stop h)
+module _ {B : Type 0} (a b : Standing) (file : Reading) (limit : ℕ) (grade : List ℕ → Told B) where
+  abbrev Bytes : (List ℕ → Held) → Settled (List ℕ)
+  Bytes held = one_file true file (file_with file.name limit (held file.name))
 
-source_stops : (held : List ℕ → Held) (a : AsmWords) → StopsAll (file_with a.source source_limit (held a.source)) (source_told held a)
-unfolding source_told
-source_stops held a stop of h = then_stop (file_with a.source source_limit (held a.source)) _ stop h
+  abbrev pub Graded : (List ℕ → Held) → Settled B
+  Graded held = one_file true file (told_then (file_with file.name limit (held file.name)) grade)
 
-module _ (s : Shelved) (name : List ℕ) (e : LoadError) where
-  pub unread_board : is_demo name ≡ false → IsFault s (IsFile name AsBoard) (file_with name board_limit (s.held name)) e → IsFault s (IsBoardFile name) (board_told s.held name) e
-  unread_board file h = unread_of s name AsBoard board_limit (IsBoardFile name) (board_told s.held name) e (λ x is. (is, file)) (board_stops s.held name file) h
+  -- it isn't read
+  pub unread : (e : LoadError) → IsRead a b Bytes (Err e) → IsRead a b Graded (Err e)
+  unread e h = record {
+    held = h.held;
+    sound = h.sound;
+    later = h.later;
+    answer = fault_of_more (between a b) (between a b) (Bytes a.held) (Graded a.held) e (same_shelf (between a b)) (λ other read. read)
+        (λ stop of stops. then_stop (file_with file.name limit (a.held file.name)) grade stop stops) h.answer;
+  }
 
-  pub unread_image : (b : BoardValue) (side : Side) → IsFault s (IsFile name AsImage) (file_with name image_limit (s.held name)) e → IsFault s (IsFile name AsImage) (image_told s.held b side name) e
-  unread_image b side h = unread_of s name AsImage image_limit (IsFile name AsImage) (image_told s.held b side name) e (λ x is. is) (image_stops s.held b side name) h
+  -- it is accepted, or refused
+  pub graded_read : (bytes : List ℕ) (r : Result B LoadError) → IsRead a b Bytes (Ok bytes) → IsOfFiles (between a b) (one_file true file (grade bytes)) r → IsRead a b Graded r
+  graded_read bytes (Ok x) h allowed = record {
+    held = h.held;
+    sound = h.sound;
+    later = h.later;
+    answer = then_allows (file_with file.name limit (a.held file.name)) grade bytes x h.answer allowed;
+  }
+  graded_read bytes (Err e) h fault = record {
+    held = h.held;
+    sound = h.sound;
+    later = h.later;
+    answer = fault_of_more (between a b) (between a b) (one_file true file (grade bytes)) (Graded a.held) e (same_shelf (between a b)) (λ other read. read)
+        (λ stop of stops. after_stop (file_with file.name limit (a.held file.name)) grade bytes stop h.answer of stops) fault;
+  }
 
-  pub unread_script : (interrupts : ℕ) → is_none_script name ≡ false → IsFault s (IsFile name AsScript) (file_with name script_limit (s.held name)) e
-      → IsFault s (IsScriptFile name) (script_told s.held interrupts name) e
-  unread_script interrupts file h =
-      unread_of s name AsScript script_limit (IsScriptFile name) (script_told s.held interrupts name) e (λ x is. (is, file)) (script_stops s.held interrupts name file) h
+-- ---- the bytes of a file
 
-pub unread_source : (s : Shelved) (a : AsmWords) (e : LoadError) → IsFault s (IsFile a.source AsSource) (file_with a.source source_limit (s.held a.source)) e
-    → IsFault s (IsFile a.source AsSource) (source_told s.held a) e
-unread_source s a e h = unread_of s a.source AsSource source_limit (IsFile a.source AsSource) (source_told s.held a) e (λ x is. is) (source_stops s.held a) h
+-- all of a file within the limit
+pub whole_file : (name : List ℕ) (limit : ℕ) (h : Held) (old new : List ℕ) → old ≡ [] → Got h limit old new → Allows (file_with name limit h) new
+whole_file name limit Untold old new none got = tt
+whole_file name limit Absent old new none got = absurd got.whole
+whole_file name limit (Holds bytes) old new none got =
+    let short = got.short in
+    let is : got.gained ≡ bytes = got.whole in
+    let same : new ≡ got.gained = got.appended ∙ ap (λ (x : List ℕ). x ++ got.gained) none in
+    let within : length bytes ≤ limit = subst (λ (x : List ℕ). length x ≤ limit) is short in
+    subst (λ (b : Bool). Allows (cond b (Stops (TooLong name)) (Gives bytes)) new) (sym (fits limit (length bytes) within)) (sym (same ∙ is))
 
--- ---- the shelf as one file was read is that of the command
+-- a file past the limit, by its front
+pub long_file : (name : List ℕ) (limit : ℕ) (h : Held) (old new : List ℕ) → Cut h old new → length new ≡ length old + (limit + 1) → AllowsStop (file_with name limit h) (TooLong name)
+long_file name limit Untold old new cut more = tt
+long_file name limit Absent old new cut more =
+    let none : cut.gained ≡ [] = cut.front in
+    let same : new ≡ old ++ [] = cut.appended ∙ ap (λ (x : List ℕ). old ++ x) none in
+    let long = ap length (same ∙ append-nil old) in
+    absurd (omega (arith, long, more))
+long_file name limit (Holds bytes) old new cut more =
+    let front : cut.gained ++ cut.front.0 ≡ bytes = cut.front.1 in
+    let long = ap length cut.appended ∙ length-append old cut.gained in
+    let all = sym (ap length front) ∙ length-append cut.gained cut.front.0 in
+    subst (λ (b : Bool). AllowsStop (cond b (Stops (TooLong name)) (Gives bytes)) (TooLong name)) (sym (past limit (length bytes) (omega (arith, long, all, more)))) refl
 
-pub at_held : {A : Type 0} (f : (List ℕ → Held) → Told A) (x : A) (g h : List ℕ → Held) → g ≡ h → Allows (f g) x → Allows (f h) x
-at_held f x g h e allowed = subst (λ (k : List ℕ → Held). Allows (f k) x) e allowed
+-- ---- grammars
 
-stops_at : {A : Type 0} {B : Type 0} (f : (List ℕ → Held) → Told A) (u : Told B) (g h : List ℕ → Held) → g ≡ h → StopsAll (f h) u → StopsAll (f g) u
-stops_at f u g h e all = subst (λ (k : List ℕ → Held). StopsAll (f k) u) (sym e) all
+accepted_by : {A E : Type 0} (stop : E → Stop) (read : Result A E) (x : A) → read ≡ Ok x → Allows (graded stop read) x
+accepted_by stop read x e = subst (λ r. Allows (graded stop r) x) (sym e) refl
 
--- a fault of one file of a command's
-module _ {B : Type 0} (s s' : Shelved) (files : List Reading) (u : Told B) (e : LoadError) (within : Within s s') where
-  one_board : (name : List ℕ) → (is_demo name ≡ false → IsOneOf files (record { name = name; form = AsBoard })) → StopsAll (board_told s.held name) u
-      → IsFault s' (IsBoardFile name) (board_told s'.held name) e → IsFault s (IsOneOf files) u e
-  one_board name read all h =
-      fault_of_more s s' (IsOneOf files) (IsBoardFile name) (board_told s'.held name) u e within (λ file is. subst (IsOneOf files) (sym is.0) (read is.1))
-      (stops_at (λ (g : List ℕ → Held). board_told g name) u s'.held s.held within.held all) h
+refused_by : {A E : Type 0} (stop : E → Stop) (read : Result A E) (refusal : E) → read ≡ Err refusal → AllowsStop (graded stop read) (stop refusal)
+refused_by stop read refusal e = subst (λ r. AllowsStop (graded stop r) (stop refusal)) (sym e) refl
 
-  one_image : (b : BoardValue) (side : Side) (name : List ℕ) → IsOneOf files (record { name = name; form = AsImage }) → StopsAll (image_told s.held b side name) u
-      → IsFault s' (IsFile name AsImage) (image_told s'.held b side name) e → IsFault s (IsOneOf files) u e
-  one_image b side name read all h =
-      fault_of_more s s' (IsOneOf files) (IsFile name AsImage) (image_told s'.held b side name) u e within (λ file is. subst (IsOneOf files) (sym is) read)
-      (stops_at (λ (g : List ℕ → Held). image_told g b side name) u s'.held s.held within.held all) h
+board_by : (stop : BoardRefusal → Stop) (o : Option BoardRefusal) (read : Result BoardValue BoardRefusal) → IsTold o read → AllowsRefusal (graded stop read) stop o
+board_by stop None read h = tt
+board_by stop (Some refusal) read h = refused_by stop read refusal h
 
-  one_script : (n m : ℕ) (name : List ℕ) → n ≡ m → (is_none_script name ≡ false → IsOneOf files (record { name = name; form = AsScript })) → StopsAll (script_told s.held m name) u
-      → IsFault s' (IsScriptFile name) (script_told s'.held n name) e → IsFault s (IsOneOf files) u e
-  one_script n m name many read all h =
-      fault_of_more s s' (IsOneOf files) (IsScriptFile name) (script_told s'.held m name) u e within (λ file is. subst (IsOneOf files) (sym is.0) (read is.1))
-      (stops_at (λ (g : List ℕ → Held). script_told g m name) u s'.held s.held within.held all)
-      (subst (λ (k : ℕ). IsFault s' (IsScriptFile name) (script_told s'.held k name) e) many h)
+script_by : (stop : ScriptRefusal → Stop) (o : Option ScriptRefusal) (read : Result (List Timed) ScriptRefusal) → IsToldScript o read → AllowsRefusal (graded stop read) stop o
+script_by stop None read h = tt
+script_by stop (Some refusal) read h = refused_by stop read refusal h
 
--- ---- the files of a run
+image_by : (stop : Refusal → Stop) (e : ElfError) (read : Result ImageValue Refusal) → IsImageRefusal e read → AllowsRefusal (graded stop read) stop (image_refusal e)
+image_by stop elf.Magic read h = refused_by stop read _ h
+image_by stop elf.ClassOrOrder read h = refused_by stop read _ h
+image_by stop elf.TypeOrMachine read h = refused_by stop read _ h
+image_by stop elf.HeaderCut read h = refused_by stop read _ h
+image_by stop (elf.SegmentCut index) read h = refused_by stop read _ h
+image_by stop (elf.Outside index) read h = refused_by stop read _ h
+image_by stop (elf.WrongSide index) read h = refused_by stop read _ h
+image_by stop (elf.Overlap earlier index) read h = refused_by stop read _ h
+image_by stop (elf.Hex line) read h = refused_by stop read _ h
+image_by stop elf.Memory read h = tt
 
-module _ (held : List ℕ → Held) (r : RunWords) where
-  nonsecure_stops : StopsAll (nonsecure_told held r) (start_told held r)
-  nonsecure_stops stop of h = then_stop (nonsecure_told held r) _ stop h
+state_by : (stop : StateRefusal → Stop) (e : SnapError) (read : Result SavedState StateRefusal) → IsStateRefusal e read → AllowsRefusal (graded stop read) stop (state_refusal e)
+state_by stop snap.Magic read h = refused_by stop read _ h
+state_by stop snap.Board read h = refused_by stop read _ h
+state_by stop snap.Length read h = refused_by stop read _ h
+state_by stop (snap.Value index) read h = refused_by stop read _ h
+state_by stop snap.Memory read h = tt
 
-  secure_stops : StopsAll (secure_told held r) (start_told held r)
-  secure_stops stop of h = nonsecure_stops stop of (then_stop (secure_told held r) _ stop h)
+source_by : {A : Type 0} (stop : AsmRefusal → Stop) (e : AsmError) (read : Result A AsmRefusal) → IsRefusal e read → AllowsRefusal (graded stop read) stop (source_refusal e)
+source_by stop (asm.Token line) read h = refused_by stop read _ h
+source_by stop (asm.Mnemonic line) read h = refused_by stop read _ h
+source_by stop (asm.Operands line) read h = refused_by stop read _ h
+source_by stop (asm.Range line) read h = refused_by stop read _ h
+source_by stop (asm.NoLabel line) read h = refused_by stop read _ h
+source_by stop (asm.TwoLabels line) read h = refused_by stop read _ h
+source_by stop (asm.OrgBackwards line) read h = refused_by stop read _ h
+source_by stop (asm.TooLarge line) read h = refused_by stop read _ h
+source_by stop asm.Memory read h = tt
 
-  pub with_secure : (b : BoardValue) (i : ImageValue) → Allows (board_told held r.board) b → Allows (image_told held b sides.Secure r.secure) i
-      → Allows (secure_told held r) (record { board = b; secure = i; nonsecure = no_image; script = [] })
-  with_secure b i hb hi =
-      joined_allows (board_told held r.board) (λ x. image_told held x sides.Secure r.secure) (λ x y. record { board = x; secure = y; nonsecure = no_image; script = [] }) b i hb hi
+-- ---- files by their forms
 
-  pub with_nonsecure : (s : Start) (i : ImageValue) → Allows (secure_told held r) s → Allows (image_told held s.board sides.NonSecure r.nonsecure) i
-      → Allows (nonsecure_told held r) (record s { nonsecure = i })
-  with_nonsecure s i hs hi = joined_allows (secure_told held r) (λ x. image_told held x.board sides.NonSecure r.nonsecure) (λ x y. record x { nonsecure = y }) s i hs hi
+-- of a shelf that was not asked
+pub nothing_read : {A : Type 0} (a : Standing) (files : (List ℕ → Held) → Settled A) (r : Result A LoadError) → IsOfFiles (between a a) (files a.held) r → IsRead a a files r
+nothing_read a files r h = record { held = refl; sound = refl; later = omega arith; answer = h }
 
-  pub with_script : (s : Start) (events : List Timed) (n : ℕ) → n ≡ s.board.interrupts → Allows (nonsecure_told held r) s → Allows (script_told held n r.script) events
-      → Allows (start_told held r) (record s { script = events })
-  with_script s events n many hs he =
-      joined_allows (nonsecure_told held r) (λ x. script_told held x.board.interrupts r.script) (λ x y. record x { script = y }) s events hs
-      (subst (λ (k : ℕ). Allows (script_told held k r.script) events) many he)
+pub demo_read : (a : Standing) (name : List ℕ) (b : BoardValue) → is_demo name ≡ true → b ≡ demo → IsRead a a (λ held. board_files held name) (Ok b)
+unfolding board_told
+demo_read a name b is e = nothing_read a (λ held. board_files held name) (Ok b) (rw is (sym e))
 
--- a fault of one of them
-module _ (s s' : Shelved) (r : RunWords) (e : LoadError) (within : Within s s') where
-  abbrev pub IsRunFault : Type 0
-  IsRunFault = IsFault s (IsOneOf (run_reads s.held r)) (start_told s.held r) e
+pub none_read : (a : Standing) (interrupts : ℕ) (name : List ℕ) (s : List Timed) → is_none_script name ≡ true → s ≡ [] → IsRead a a (λ held. script_files held interrupts name) (Ok s)
+unfolding script_told
+none_read a interrupts name s is e = nothing_read a (λ held. script_files held interrupts name) (Ok s) (rw is (sym e))
 
-  pub board_fault : IsFault s' (IsBoardFile r.board) (board_told s'.held r.board) e → IsRunFault
-  board_fault h =
-      one_board s s' (run_reads s.held r) (start_told s.held r) e within r.board (run_board s.held r)
-      (λ stop of stops. secure_stops s.held r stop of (then_stop (board_told s.held r.board) _ stop stops)) h
+module _ (a b : Standing) (name : Bor (List ℕ)) where
+  abbrev pub BytesRead : Form → ℕ → Result (List ℕ) LoadError → Type 0
+  BytesRead form limit r = IsRead a b (λ held. one_file true (record { name = name.now; form = form }) (file_with name.now limit (held name.now))) r
 
-  pub secure_fault : (b : BoardValue) → Allows (board_told s.held r.board) b → IsFault s' (IsFile r.secure AsImage) (image_told s'.held b sides.Secure r.secure) e → IsRunFault
-  secure_fault b hb h =
-      one_image s s' (run_reads s.held r) (start_told s.held r) e within b sides.Secure r.secure (run_secure s.held r (goes (board_told s.held r.board) b hb))
-      (λ stop of stops. secure_stops s.held r stop of (joined_stops (board_told s.held r.board) (λ x. image_told s.held x sides.Secure r.secure)
-      (λ x y. record { board = x; secure = y; nonsecure = no_image; script = [] }) b hb stop of stops)) h
+  -- the board's
+  board_graded : (r : Result BoardValue LoadError) → is_demo name.now ≡ false
+      → IsRead a b (Graded a b (record { name = name.now; form = AsBoard }) board_limit (λ bytes. graded (BadBoard name.now) (board_of bytes))) r → IsRead a b (λ held. board_files held name.now) r
+  unfolding board_told board_file
+  board_graded r is h =
+      subst (λ (v : Bool). IsRead a b (λ held. one_file (not v) (record { name = name.now; form = AsBoard })
+      (cond v (Gives demo) (told_then (file_with name.now board_limit (held name.now)) (λ bytes. graded (BadBoard name.now) (board_of bytes))))) r) (sym is) h
 
-  pub nonsecure_fault : (x : Start) → Allows (secure_told s.held r) x → IsFault s' (IsFile r.nonsecure AsImage) (image_told s'.held x.board sides.NonSecure r.nonsecure) e → IsRunFault
-  nonsecure_fault x hx h =
-      one_image s s' (run_reads s.held r) (start_told s.held r) e within x.board sides.NonSecure r.nonsecure (run_nonsecure s.held r (goes (secure_told s.held r) x hx))
-      (λ stop of stops. nonsecure_stops s.held r stop of
-      (joined_stops (secure_told s.held r) (λ y. image_told s.held y.board sides.NonSecure r.nonsecure) (λ y i. record y { nonsecure = i }) x hx stop of stops)) h
+  pub board_unread : (e : LoadError) → is_demo name.now ≡ false → BytesRead AsBoard board_limit (Err e) → IsRead a b (λ held. board_files held name.now) (Err e)
+  board_unread e is h = board_graded (Err e) is (unread a b (record { name = name.now; form = AsBoard }) board_limit (λ bytes. graded (BadBoard name.now) (board_of bytes)) e h)
 
-  pub script_fault : (x : Start) → Allows (nonsecure_told s.held r) x → (n : ℕ) → n ≡ x.board.interrupts → IsFault s' (IsScriptFile r.script) (script_told s'.held n r.script) e → IsRunFault
-  script_fault x hx n many h =
-      one_script s s' (run_reads s.held r) (start_told s.held r) e within n x.board.interrupts r.script many (λ is. run_script s.held r is (goes (nonsecure_told s.held r) x hx))
-      (joined_stops (nonsecure_told s.held r) (λ y. script_told s.held y.board.interrupts r.script) (λ y events. record y { script = events }) x hx) h
+  pub board_accepted : (bytes : List ℕ) (x : BoardValue) → is_demo name.now ≡ false → BytesRead AsBoard board_limit (Ok bytes) → board_of bytes ≡ Ok x → IsRead a b (λ held. board_files held name.now) (Ok x)
+  board_accepted bytes x is h e =
+      board_graded (Ok x) is
+      (graded_read a b (record { name = name.now; form = AsBoard }) board_limit (λ bs. graded (BadBoard name.now) (board_of bs)) bytes (Ok x) h (accepted_by (BadBoard name.now) (board_of bytes) x e))
 
--- ---- the files of a pair
+  pub board_refused : (bytes : List ℕ) (e : BoardError) → is_demo name.now ≡ false → BytesRead AsBoard board_limit (Ok bytes) → IsBoardRefusal e (board_of bytes)
+      → IsRead a b (λ held. board_files held name.now) (Err (Board name e))
+  board_refused bytes e is h refused =
+      board_graded (Err (Board name e)) is
+      (graded_read a b (record { name = name.now; form = AsBoard }) board_limit (λ bs. graded (BadBoard name.now) (board_of bs)) bytes (Err (Board name e)) h
+      (inl refl, board_by (BadBoard name.now) (refusal_of e) (board_of bytes) refused))
 
-module _ (held : List ℕ → Held) (p : PairWords) where
-  third_stops : StopsAll (third_told held p) (pair_start_told held p)
-  third_stops stop of h = then_stop (third_told held p) _ stop h
+  -- an image's
+  module _ (board : BoardValue) (side : Side) where
+    pub image_unread : (e : LoadError) → BytesRead AsImage image_limit (Err e) → IsRead a b (λ held. image_files held board side name.now) (Err e)
+    unfolding image_told
+    image_unread e h = unread a b (record { name = name.now; form = AsImage }) image_limit (λ bytes. graded (BadImage name.now) (image_of bytes board side)) e h
 
-  second_stops : StopsAll (second_told held p) (pair_start_told held p)
-  second_stops stop of h = third_stops stop of (then_stop (second_told held p) _ stop h)
+    pub image_accepted : (bytes : List ℕ) (x : ImageValue) → BytesRead AsImage image_limit (Ok bytes) → image_of bytes board side ≡ Ok x → IsRead a b (λ held. image_files held board side name.now) (Ok x)
+    unfolding image_told
+    image_accepted bytes x h e =
+        graded_read a b (record { name = name.now; form = AsImage }) image_limit (λ bs. graded (BadImage name.now) (image_of bs board side)) bytes (Ok x) h
+        (accepted_by (BadImage name.now) (image_of bytes board side) x e)
 
-  first_stops : StopsAll (first_told held p) (pair_start_told held p)
-  first_stops stop of h = second_stops stop of (then_stop (first_told held p) _ stop h)
+    pub image_refused : (bytes : List ℕ) (e : ElfError) → BytesRead AsImage image_limit (Ok bytes) → IsImageRefusal e (image_of bytes board side)
+        → IsRead a b (λ held. image_files held board side name.now) (Err (Image name e))
+    unfolding image_told
+    image_refused bytes e h refused =
+        graded_read a b (record { name = name.now; form = AsImage }) image_limit (λ bs. graded (BadImage name.now) (image_of bs board side)) bytes (Err (Image name e)) h
+        (inl refl, image_by (BadImage name.now) e (image_of bytes board side) refused)
 
-  pub with_first : (b : BoardValue) (i : ImageValue) → Allows (board_told held p.board) b → Allows (image_told held b sides.Secure p.first) i
-      → Allows (first_told held p) (record { board = b; first = i; second = no_image; nonsecure = no_image; script = [] })
-  with_first b i hb hi =
-      joined_allows (board_told held p.board) (λ x. image_told held x sides.Secure p.first)
-      (λ x y. record { board = x; first = y; second = no_image; nonsecure = no_image; script = [] }) b i hb hi
+  -- a state's
+  module _ (board : BoardValue) where
+    pub state_unread : (e : LoadError) → BytesRead AsState image_limit (Err e) → IsRead a b (λ held. state_files held board name.now) (Err e)
+    unfolding state_told
+    state_unread e h = unread a b (record { name = name.now; form = AsState }) image_limit (λ bytes. graded (BadState name.now) (saved_of board bytes)) e h
 
-  pub with_second : (s : PairStart) (i : ImageValue) → Allows (first_told held p) s → Allows (image_told held s.board sides.Secure p.second) i → Allows (second_told held p) (record s { second = i })
-  with_second s i hs hi = joined_allows (first_told held p) (λ x. image_told held x.board sides.Secure p.second) (λ x y. record x { second = y }) s i hs hi
+    pub state_accepted : (bytes : List ℕ) (x : SavedState) → BytesRead AsState image_limit (Ok bytes) → saved_of board bytes ≡ Ok x → IsRead a b (λ held. state_files held board name.now) (Ok x)
+    unfolding state_told
+    state_accepted bytes x h e =
+        graded_read a b (record { name = name.now; form = AsState }) image_limit (λ bs. graded (BadState name.now) (saved_of board bs)) bytes (Ok x) h
+        (accepted_by (BadState name.now) (saved_of board bytes) x e)
 
-  pub with_third : (s : PairStart) (i : ImageValue) → Allows (second_told held p) s → Allows (image_told held s.board sides.NonSecure p.nonsecure) i → Allows (third_told held p) (record s { nonsecure = i })
-  with_third s i hs hi = joined_allows (second_told held p) (λ x. image_told held x.board sides.NonSecure p.nonsecure) (λ x y. record x { nonsecure = y }) s i hs hi
+    pub state_refused : (bytes : List ℕ) (e : SnapError) → BytesRead AsState image_limit (Ok bytes) → IsStateRefusal e (saved_of board bytes)
+        → IsRead a b (λ held. state_files held board name.now) (Err (State name e))
+    unfolding state_told
+    state_refused bytes e h refused =
+        graded_read a b (record { name = name.now; form = AsState }) image_limit (λ bs. graded (BadState name.now) (saved_of board bs)) bytes (Err (State name e)) h
+        (inl refl, state_by (BadState name.now) e (saved_of board bytes) refused)
 
-  pub with_events : (s : PairStart) (events : List Timed) (n : ℕ) → n ≡ s.board.interrupts → Allows (third_told held p) s → Allows (script_told held n p.script) events
-      → Allows (pair_start_told held p) (record s { script = events })
-  with_events s events n many hs he =
-      joined_allows (third_told held p) (λ x. script_told held x.board.interrupts p.script) (λ x y. record x { script = y }) s events hs
-      (subst (λ (k : ℕ). Allows (script_told held k p.script) events) many he)
+  -- the script's
+  module _ (interrupts : ℕ) where
+    script_graded : (r : Result (List Timed) LoadError) → is_none_script name.now ≡ false
+        → IsRead a b (Graded a b (record { name = name.now; form = AsScript }) script_limit (λ bytes. graded (BadScript name.now) (script_of bytes interrupts))) r
+        → IsRead a b (λ held. script_files held interrupts name.now) r
+    unfolding script_told script_file
+    script_graded r is h =
+        subst (λ (v : Bool). IsRead a b (λ held. one_file (not v) (record { name = name.now; form = AsScript })
+        (cond v (Gives []) (told_then (file_with name.now script_limit (held name.now)) (λ bytes. graded (BadScript name.now) (script_of bytes interrupts))))) r) (sym is) h
 
--- a fault of one of them
-module _ (s s' : Shelved) (p : PairWords) (e : LoadError) (within : Within s s') where
-  abbrev pub IsPairFault : Type 0
-  IsPairFault = IsFault s (IsOneOf (pair_reads s.held p)) (pair_start_told s.held p) e
+    pub script_unread : (e : LoadError) → is_none_script name.now ≡ false → BytesRead AsScript script_limit (Err e) → IsRead a b (λ held. script_files held interrupts name.now) (Err e)
+    script_unread e is h =
+        script_graded (Err e) is (unread a b (record { name = name.now; form = AsScript }) script_limit (λ bytes. graded (BadScript name.now) (script_of bytes interrupts)) e h)
 
-  pub paired_board_fault : IsFault s' (IsBoardFile p.board) (board_told s'.held p.board) e → IsPairFault
-  paired_board_fault h =
-      one_board s s' (pair_reads s.held p) (pair_start_told s.held p) e within p.board (pair_board s.held p)
-      (λ stop of stops. first_stops s.held p stop of (then_stop (board_told s.held p.board) _ stop stops)) h
+    pub script_accepted : (bytes : List ℕ) (x : List Timed) → is_none_script name.now ≡ false → BytesRead AsScript script_limit (Ok bytes) → script_of bytes interrupts ≡ Ok x
+        → IsRead a b (λ held. script_files held interrupts name.now) (Ok x)
+    script_accepted bytes x is h e =
+        script_graded (Ok x) is
+        (graded_read a b (record { name = name.now; form = AsScript }) script_limit (λ bs. graded (BadScript name.now) (script_of bs interrupts)) bytes (Ok x) h
+        (accepted_by (BadScript name.now) (script_of bytes interrupts) x e))
 
-  pub first_fault : (b : BoardValue) → Allows (board_told s.held p.board) b → IsFault s' (IsFile p.first AsImage) (image_told s'.held b sides.Secure p.first) e → IsPairFault
-  first_fault b hb h =
-      one_image s s' (pair_reads s.held p) (pair_start_told s.held p) e within b sides.Secure p.first (pair_first s.held p (goes (board_told s.held p.board) b hb))
-      (λ stop of stops. first_stops s.held p stop of (joined_stops (board_told s.held p.board) (λ x. image_told s.held x sides.Secure p.first)
-      (λ x y. record { board = x; first = y; second = no_image; nonsecure = no_image; script = [] }) b hb stop of stops)) h
+    pub script_refused : (bytes : List ℕ) (e : ScriptError) → is_none_script name.now ≡ false → BytesRead AsScript script_limit (Ok bytes) → IsScriptRefusal e (script_of bytes interrupts)
+        → IsRead a b (λ held. script_files held interrupts name.now) (Err (Script name e))
+    script_refused bytes e is h refused =
+        script_graded (Err (Script name e)) is
+        (graded_read a b (record { name = name.now; form = AsScript }) script_limit (λ bs. graded (BadScript name.now) (script_of bs interrupts)) bytes (Err (Script name e)) h
+        (inl refl, script_by (BadScript name.now) (script_refusal_of e) (script_of bytes interrupts) refused))
 
-  pub second_fault : (x : PairStart) → Allows (first_told s.held p) x → IsFault s' (IsFile p.second AsImage) (image_told s'.held x.board sides.Secure p.second) e → IsPairFault
-  second_fault x hx h =
-      one_image s s' (pair_reads s.held p) (pair_start_told s.held p) e within x.board sides.Secure p.second (pair_second s.held p (goes (first_told s.held p) x hx))
-      (λ stop of stops. second_stops s.held p stop of
-      (joined_stops (first_told s.held p) (λ y. image_told s.held y.board sides.Secure p.second) (λ y i. record y { second = i }) x hx stop of stops)) h
+  -- a source's
+  module _ (form : AsmForm) where
+    pub source_unread : (e : LoadError) → BytesRead AsSource source_limit (Err e) → IsRead a b (λ held. source_files held form name.now) (Err e)
+    unfolding source_told
+    source_unread e h = unread a b (record { name = name.now; form = AsSource }) source_limit (λ bytes. graded (BadSource name.now) (assembly_in form bytes)) e h
 
-  pub third_fault : (x : PairStart) → Allows (second_told s.held p) x → IsFault s' (IsFile p.nonsecure AsImage) (image_told s'.held x.board sides.NonSecure p.nonsecure) e → IsPairFault
-  third_fault x hx h =
-      one_image s s' (pair_reads s.held p) (pair_start_told s.held p) e within x.board sides.NonSecure p.nonsecure (pair_nonsecure s.held p (goes (second_told s.held p) x hx))
-      (λ stop of stops. third_stops s.held p stop of
-      (joined_stops (second_told s.held p) (λ y. image_told s.held y.board sides.NonSecure p.nonsecure) (λ y i. record y { nonsecure = i }) x hx stop of stops)) h
+    pub source_accepted : (bytes x : List ℕ) → BytesRead AsSource source_limit (Ok bytes) → assembly_in form bytes ≡ Ok x → IsRead a b (λ held. source_files held form name.now) (Ok x)
+    unfolding source_told
+    source_accepted bytes x h e =
+        graded_read a b (record { name = name.now; form = AsSource }) source_limit (λ bs. graded (BadSource name.now) (assembly_in form bs)) bytes (Ok x) h
+        (accepted_by (BadSource name.now) (assembly_in form bytes) x e)
 
-  pub events_fault : (x : PairStart) → Allows (third_told s.held p) x → (n : ℕ) → n ≡ x.board.interrupts → IsFault s' (IsScriptFile p.script) (script_told s'.held n p.script) e → IsPairFault
-  events_fault x hx n many h =
-      one_script s s' (pair_reads s.held p) (pair_start_told s.held p) e within n x.board.interrupts p.script many (λ is. pair_script s.held p is (goes (third_told s.held p) x hx))
-      (joined_stops (third_told s.held p) (λ y. script_told s.held y.board.interrupts p.script) (λ y events. record y { script = events }) x hx) h
-
--- ---- the files of a disassembly
-
--- a fault of one of them
-module _ (s s' : Shelved) (d : DisWords) (e : LoadError) (within : Within s s') where
-  abbrev pub IsListedFault : Type 0
-  IsListedFault = IsFault s (IsOneOf (dis_reads s.held d)) (listed_told s.held d) e
-
-  pub listed_board_fault : IsFault s' (IsBoardFile d.board) (board_told s'.held d.board) e → IsListedFault
-  listed_board_fault h =
-      one_board s s' (dis_reads s.held d) (listed_told s.held d) e within d.board (dis_board s.held d) (λ stop of stops. then_stop (board_told s.held d.board) _ stop stops) h
-
-  pub listed_fault : (b : BoardValue) → Allows (board_told s.held d.board) b → IsFault s' (IsFile d.image AsImage) (image_told s'.held b d.side d.image) e → IsListedFault
-  listed_fault b hb h =
-      one_image s s' (dis_reads s.held d) (listed_told s.held d) e within b d.side d.image (dis_image s.held d (goes (board_told s.held d.board) b hb))
-      (λ stop of stops. after_stop (board_told s.held d.board) _ b stop hb of stops) h
+    pub source_refused : (bytes : List ℕ) (e : AsmError) → BytesRead AsSource source_limit (Ok bytes) → IsRefusal e (assembly_in form bytes)
+        → IsRead a b (λ held. source_files held form name.now) (Err (Source name e))
+    unfolding source_told
+    source_refused bytes e h refused =
+        graded_read a b (record { name = name.now; form = AsSource }) source_limit (λ bs. graded (BadSource name.now) (assembly_in form bs)) bytes (Err (Source name e)) h
+        (inl refl, source_by (BadSource name.now) e (assembly_in form bytes) refused)

@@ -2,8 +2,9 @@
 use Rattle.std.specs.Prelude.{◌≡◌, ◌⊎◌, ℕ, ◌+◌, ◌≤◌, Bool, List, [], ◌++◌, length, codes, Option, Some, None, IsTrue, IfSome}
 use Rattle.tz_model.specs.Outside.{Held, Absent, Rose, Gains}
 use Rattle.tz_cli.specs.Commands.{Command, command_of, longest, names_of}
-use Rattle.tz_cli.specs.Told.{Stop, BadWords, TooManySteps, Unread, TooLong, BadBoard, BadImage, BadScript, BadSource, Told, Unknown, Stops, Gives, Task, told, IsDone}
-use Rattle.tz_cli.specs.Reads.{Reading, Form, reads_of, IsOneOf, TellsOf}
+use Rattle.tz_cli.specs.Told.{Stop, BadWords, TooManySteps, Unread, TooLong, BadBoard, BadImage, BadState, BadScript, BadSource, TooFar, Told, Unknown, Stops, Gives}
+use Rattle.tz_cli.specs.Reads.{Reading, Form, IsOneOf, TellsOf}
+use Rattle.tz_cli.specs.Tasks.{Task, told, reads_of, IsDone}
 use Rattle.tz_cli.specs.Lines.{stop_line, status_of, unread_line}
 
 -- what is settled allows a value, or a stop
@@ -20,8 +21,10 @@ IsOfFile (Unread name) = Unit {0}
 IsOfFile (TooLong name) = Unit {0}
 IsOfFile (BadBoard name refusal) = Unit {0}
 IsOfFile (BadImage name refusal) = Unit {0}
+IsOfFile (BadState name refusal) = Unit {0}
 IsOfFile (BadScript name refusal) = Unit {0}
 IsOfFile (BadSource name refusal) = Unit {0}
+IsOfFile (TooFar name) = Unit {0}
 
 abbrev pub AllowsStop : {A : Type 0} → Told A → Stop → Type 0
 AllowsStop Unknown stop = IsOfFile stop
@@ -56,8 +59,10 @@ IsCaused command s (Unread name) = IsUnread (reads_of s.held command) s name
 IsCaused command s (TooLong name) = IsSettled command s (TooLong name)
 IsCaused command s (BadBoard name refusal) = IsSettled command s (BadBoard name refusal)
 IsCaused command s (BadImage name refusal) = IsSettled command s (BadImage name refusal)
+IsCaused command s (BadState name refusal) = IsSettled command s (BadState name refusal)
 IsCaused command s (BadScript name refusal) = IsSettled command s (BadScript name refusal)
 IsCaused command s (BadSource name refusal) = IsSettled command s (BadSource name refusal)
+IsCaused command s (TooFar name) = IsSettled command s (TooFar name)
 
 -- a line for standard error: that of a stop with its cause, or want of memory
 abbrev pub IsLine : Option Command → Shelved → List ℕ → Type 0

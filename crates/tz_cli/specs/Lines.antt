@@ -1,5 +1,6 @@
 -- The lines on standard error, and the statuses that go with them.
-use Rattle.std.specs.Prelude.{ℕ, List, ◌++◌, codes, decimal}
+use Rattle.std.specs.Prelude.{ℕ, List, ◌++◌, codes, decimal, Result, Ok, Err}
+use Rattle.tz_model.specs.declared.outside.SinkError.{SinkError}
 use Rattle.tz_elf.specs.Images.{Refusal, Magic, ClassOrOrder, TypeOrMachine, HeaderCut, SegmentCut, Outside, WrongSide, Hex}
 use Rattle.tz_elf.specs.Images as images
 use Rattle.tz_board.specs.Scripts.{ScriptRefusal, BadLine, OutOfOrder, NoSuchInterrupt}
@@ -8,7 +9,9 @@ use Rattle.tz_board.specs.Boards.{BoardRefusal, NotToml, Missing, WrongKind, Ran
 use Rattle.tz_board.specs.Boards as boards
 use Rattle.tz_asm.specs.Refusals.{Refusal as AsmRefusal}
 use Rattle.tz_asm.specs.Refusals as sources
-use Rattle.tz_cli.specs.Told.{Stop, BadWords, TooManySteps, Unread, TooLong, BadBoard, BadImage, BadScript, BadSource}
+use Rattle.tz_snap.specs.StateFile as states
+use Rattle.tz_snap.specs.StateFile.{Refusal as StateRefusal}
+use Rattle.tz_cli.specs.Told.{Stop, BadWords, TooManySteps, Unread, TooLong, BadBoard, BadImage, BadState, BadScript, BadSource, TooFar}
 
 abbrev pub image_code : Refusal → List ℕ
 image_code Magic = codes "L1"
@@ -20,6 +23,12 @@ image_code (Outside index) = codes "L6 " ++ decimal index
 image_code (WrongSide index) = codes "L7 " ++ decimal index
 image_code (images.Overlap earlier index) = codes "L8 " ++ decimal earlier ++ codes " " ++ decimal index
 image_code (Hex line) = codes "L9 " ++ decimal line
+
+abbrev pub state_code : StateRefusal → List ℕ
+state_code states.Magic = codes "S1"
+state_code states.Board = codes "S2"
+state_code states.Length = codes "S3"
+state_code (states.Value index) = codes "S4 " ++ decimal index
 
 abbrev pub script_code : ScriptRefusal → List ℕ
 script_code (BadLine line) = codes "C1 " ++ decimal line
@@ -67,8 +76,10 @@ stop_line (Unread name) = unread_line name
 stop_line (TooLong name) = limit_line name
 stop_line (BadBoard name refusal) = refused_line name (board_code refusal)
 stop_line (BadImage name refusal) = refused_line name (image_code refusal)
+stop_line (BadState name refusal) = refused_line name (state_code refusal)
 stop_line (BadScript name refusal) = refused_line name (script_code refusal)
 stop_line (BadSource name refusal) = refused_line name (source_code refusal)
+stop_line (TooFar name) = codes "limit steps\n"
 
 abbrev pub status_of : Stop → ℕ
 status_of BadWords = 2
@@ -77,5 +88,12 @@ status_of (Unread name) = 3
 status_of (TooLong name) = 6
 status_of (BadBoard name refusal) = 5
 status_of (BadImage name refusal) = 5
+status_of (BadState name refusal) = 5
 status_of (BadScript name refusal) = 5
 status_of (BadSource name refusal) = 5
+status_of (TooFar name) = 6
+
+-- the status of a text that is put
+abbrev pub put_status : Result Unit SinkError → ℕ
+put_status (Ok done) = 0
+put_status (Err error) = 4

@@ -7,7 +7,7 @@ ghost use Rattle.tz_cli.specs.Commands.{Asm};
 ghost use Rattle.tz_cli.specs.Answer.{CommandAnswer, shelved, sunk};
 
 use crate::files::load_assembled;
-use crate::lines::refuse_fault;
+use crate::lines::{put_status, refuse_fault};
 use crate::words::{AsmWords, Form};
 use std::alloc::Global;
 use tz_model::{Shelf, Sink, SinkError};
@@ -68,8 +68,5 @@ pub fn asm_files<H: Shelf, O: Sink, E: Sink>(
         Ok(file) => file,
         Err(fault) => return refuse_fault(alloc, fault, err),
     };
-    match put_file(words.form, &file, out) {
-        Ok(()) => 0,
-        Err(_) => 4,
-    }
+    put_status(put_file(words.form, &file, out))
 }

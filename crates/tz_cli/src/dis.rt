@@ -5,7 +5,7 @@ ghost use Rattle.tz_cli.specs.Commands.{Dis};
 ghost use Rattle.tz_cli.specs.Answer.{CommandAnswer, shelved, sunk};
 
 use crate::files::load_listed;
-use crate::lines::refuse_fault;
+use crate::lines::{put_status, refuse_fault};
 use crate::words::DisWords;
 use std::alloc::Global;
 use tz_model::{Shelf, Sink};
@@ -26,8 +26,5 @@ pub fn dis_files<H: Shelf, O: Sink, E: Sink>(
         Ok(image) => image,
         Err(fault) => return refuse_fault(alloc, fault, err),
     };
-    match disassemble(image, out) {
-        Ok(()) => 0,
-        Err(_) => 4,
-    }
+    put_status(disassemble(image, out))
 }

@@ -1,24 +1,26 @@
 //! The files of a command: each is read, then its length, then its form, in the order of the words.
 
-ghost use Rattle.std.specs.Prelude.{◌≡◌, ◌≤◌, ◌<◌, ◌^◌, length, IfOk, IfErr, Ok};
-ghost use Rattle.tz_cli.specs.Run.{run_in};
+ghost use Rattle.std.specs.Prelude.{◌≡◌, ◌≤◌, ◌<◌, ◌^◌, true, length, IfOk, IfErr, Ok};
 ghost use Rattle.tz_asm.specs.Errors.{IsRefusal};
 ghost use Rattle.tz_asm.specs.declared.error.AsmError.TheVariants.{Memory};
-ghost use Rattle.tz_cli.specs.Asm.{asm_in};
-ghost use Rattle.tz_cli.specs.Dis.{dis_in};
+ghost use Rattle.tz_cli.specs.StartWords.{start_in};
+ghost use Rattle.tz_cli.specs.Resume.{resume_in};
 ghost use Rattle.tz_cli.specs.Pair.{pair_in};
-ghost use Rattle.tz_cli.specs.Told.{assembly_in, file_with, board_told, image_told, script_told, source_told, start_told, pair_start_told, listed_told};
-ghost use Rattle.tz_cli.specs.Reads.{Form, AsImage, AsSource, IsOneOf, run_reads, pair_reads, dis_reads};
-ghost use Rattle.tz_cli.specs.Answer.{Allows, shelved};
-ghost use Rattle.tz_cli.specs.Faults.{IsFile, IsBoardFile, IsScriptFile, IsFault, start_in, pair_start_in};
+ghost use Rattle.tz_cli.specs.Dis.{dis_in};
+ghost use Rattle.tz_cli.specs.Told.{assembly_in, file_with};
+ghost use Rattle.tz_cli.specs.Reads.{Form, one_file};
+ghost use Rattle.tz_cli.specs.Starts.{board_files, image_files, state_files, script_files, source_files, start_files, saved_files, pair_start_files, listed_files};
+ghost use Rattle.tz_cli.specs.Faults.{IsRead, standing, read_as, start_value, pair_value, saved_value};
 
 use crate::stops::LoadError;
-use crate::words::{AsmWords, DisWords, Form as AsmForm, PairWords, RunWords};
+use crate::words::{AsmWords, DisWords, Form as AsmForm, PairWords, ResumeWords, StartWords};
 use std::alloc::{AllocError, Global};
 use tz_asm::{AsmError, assemble, list};
 use tz_board::{Script, demo_board, read_board, read_script};
+use tz_core::Machine;
 use tz_elf::{read_image, write_image, write_plain};
 use tz_model::{Board, Image, Shelf, ShelfError, Side};
+use tz_snap::Saved;
 
 /// What the files of a run give.
 #[derive(Drop)]
@@ -36,6 +38,15 @@ pub struct PairFiles {
     pub first: Image,
     pub second: Image,
     pub nonsecure: Image,
+    pub script: Script,
+}
+
+/// What the files of a run that goes on give.
+#[derive(Drop)]
+pub struct SavedFiles {
+    pub board: Board,
+    pub machine: Machine,
+    pub step: u32,
     pub script: Script,
 }
 
@@ -59,12 +70,8 @@ fn read<'a, H: Shelf>(
     limit: usize,
 ) -> Result<Vec<u8>, LoadError<'a>>
     requires { limit < 2 ^ 31 }
-    ensures ok { IfOk result (λ v. Allows (file_with name.now limit (H.held shelf.old name.now)) v.items) }
+    ensures files { (form : Form) → IsRead (standing H.held H.sound H.faults shelf.old) (standing H.held H.sound H.faults shelf.new) (λ held. one_file true (record { name = name.now; form = form }) (file_with name.now limit (held name.now))) (read_as (λ v. v.items) result) }
     ensures short { IfOk result (λ v. length v.items ≤ limit) }
-    ensures err { (form : Form) → IfErr result (λ e. IsFault (shelved H.held H.sound H.faults shelf.old shelf.new) (IsFile name.now form) (file_with name.now limit (H.held shelf.old name.now)) e) }
-    ensures later { H.faults shelf.old ≤ H.faults shelf.new }
-    ensures sound { H.sound shelf.new ≡ H.sound shelf.old }
-    ensures held { H.held shelf.new ≡ H.held shelf.old }
 {
     let mut bytes = Vec::new(alloc);
     match shelf.get(name, limit, &mut bytes) {
@@ -76,17 +83,12 @@ fn read<'a, H: Shelf>(
 }
 
 /// The board of a name: the built-in one, or a file.
-#[tactic(auto, unfolding(crate::specs::Told::board_told, crate::specs::Told::board_file))]
 fn load_board<'a, H: Shelf>(
     alloc: Global,
     shelf: &mut H,
     name: &'a str,
 ) -> Result<Board, LoadError<'a>>
-    ensures ok { IfOk result (λ b. Allows (board_told (H.held shelf.old) name.now) b) }
-    ensures err { IfErr result (λ e. IsFault (shelved H.held H.sound H.faults shelf.old shelf.new) (IsBoardFile name.now) (board_told (H.held shelf.old) name.now) e) }
-    ensures later { H.faults shelf.old ≤ H.faults shelf.new }
-    ensures sound { H.sound shelf.new ≡ H.sound shelf.old }
-    ensures held { H.held shelf.new ≡ H.held shelf.old }
+    ensures { IsRead (standing H.held H.sound H.faults shelf.old) (standing H.held H.sound H.faults shelf.new) (λ held. board_files held name.now) result }
 {
     if name == "@demo" {
         return match demo_board(alloc) {
@@ -105,7 +107,6 @@ fn load_board<'a, H: Shelf>(
 }
 
 /// The image of a name, for a side of a board.
-#[tactic(auto, unfolding(crate::specs::Told::image_told))]
 fn load_image<'a, H: Shelf>(
     alloc: Global,
     shelf: &mut H,
@@ -113,11 +114,7 @@ fn load_image<'a, H: Shelf>(
     board: &Board,
     side: Side,
 ) -> Result<Image, LoadError<'a>>
-    ensures ok { IfOk result (λ i. Allows (image_told (H.held shelf.old) board.now side name.now) i) }
-    ensures err { IfErr result (λ e. IsFault (shelved H.held H.sound H.faults shelf.old shelf.new) (IsFile name.now AsImage) (image_told (H.held shelf.old) board.now side name.now) e) }
-    ensures later { H.faults shelf.old ≤ H.faults shelf.new }
-    ensures sound { H.sound shelf.new ≡ H.sound shelf.old }
-    ensures held { H.held shelf.new ≡ H.held shelf.old }
+    ensures { IsRead (standing H.held H.sound H.faults shelf.old) (standing H.held H.sound H.faults shelf.new) (λ held. image_files held board.now side name.now) result }
 {
     let bytes = match read(alloc, shelf, name, IMAGE_LIMIT) {
         Ok(bytes) => bytes,
@@ -129,17 +126,33 @@ fn load_image<'a, H: Shelf>(
     }
 }
 
+/// The machine of a name, with the number of its steps, for a board. Its file has the limit of an image.
+fn load_state<'a, H: Shelf>(
+    alloc: Global,
+    shelf: &mut H,
+    name: &'a str,
+    board: &Board,
+) -> Result<Saved, LoadError<'a>>
+    ensures { IsRead (standing H.held H.sound H.faults shelf.old) (standing H.held H.sound H.faults shelf.new) (λ held. state_files held board.now name.now) (read_as (λ x. record { state = x.machine; step = x.step }) result) }
+{
+    let bytes = match read(alloc, shelf, name, IMAGE_LIMIT) {
+        Ok(bytes) => bytes,
+        Err(fault) => return Err(fault),
+    };
+    match tz_snap::load(alloc, board, &bytes) {
+        Ok(saved) => Ok(saved),
+        Err(error) => Err(LoadError::State(name, error)),
+    }
+}
+
 /// The script of a name: the empty one, or a file.
-#[tactic(auto, unfolding(crate::specs::Told::script_told, crate::specs::Told::script_file))]
 fn load_script<'a, H: Shelf>(
     alloc: Global,
     shelf: &mut H,
     name: &'a str,
     interrupts: u16,
 ) -> Result<Script, LoadError<'a>>
-    ensures ok { IfOk result (λ s. Allows (script_told (H.held shelf.old) interrupts name.now) s) }
-    ensures err { IfErr result (λ e. IsFault (shelved H.held H.sound H.faults shelf.old shelf.new) (IsScriptFile name.now) (script_told (H.held shelf.old) interrupts name.now) e) }
-    ensures later { H.faults shelf.old ≤ H.faults shelf.new }
+    ensures { IsRead (standing H.held H.sound H.faults shelf.old) (standing H.held H.sound H.faults shelf.new) (λ held. script_files held interrupts name.now) result }
 {
     if name == "@none" {
         return match Script::of(alloc, &[]) {
@@ -161,11 +174,9 @@ fn load_script<'a, H: Shelf>(
 pub fn load<'a, H: Shelf>(
     alloc: Global,
     shelf: &mut H,
-    words: &RunWords<'a>,
+    words: &StartWords<'a>,
 ) -> Result<Files, LoadError<'a>>
-    ensures ok { IfOk result (λ f. Allows (start_told (H.held shelf.old) (run_in words.now)) (start_in f)) }
-    ensures err { IfErr result (λ e. IsFault (shelved H.held H.sound H.faults shelf.old shelf.new) (IsOneOf (run_reads (H.held shelf.old) (run_in words.now))) (start_told (H.held shelf.old) (run_in words.now)) e) }
-    ensures later { H.faults shelf.old ≤ H.faults shelf.new }
+    ensures { IsRead (standing H.held H.sound H.faults shelf.old) (standing H.held H.sound H.faults shelf.new) (λ held. start_files held (start_in words.now)) (read_as start_value result) }
 {
     let board = match load_board(alloc, shelf, words.board) {
         Ok(board) => board,
@@ -196,9 +207,7 @@ pub fn load_pair<'a, H: Shelf>(
     shelf: &mut H,
     words: &PairWords<'a>,
 ) -> Result<PairFiles, LoadError<'a>>
-    ensures ok { IfOk result (λ f. Allows (pair_start_told (H.held shelf.old) (pair_in words.now)) (pair_start_in f)) }
-    ensures err { IfErr result (λ e. IsFault (shelved H.held H.sound H.faults shelf.old shelf.new) (IsOneOf (pair_reads (H.held shelf.old) (pair_in words.now))) (pair_start_told (H.held shelf.old) (pair_in words.now)) e) }
-    ensures later { H.faults shelf.old ≤ H.faults shelf.new }
+    ensures { IsRead (standing H.held H.sound H.faults shelf.old) (standing H.held H.sound H.faults shelf.new) (λ held. pair_start_files held (pair_in words.now)) (read_as pair_value result) }
 {
     let board = match load_board(alloc, shelf, words.board) {
         Ok(board) => board,
@@ -228,15 +237,40 @@ pub fn load_pair<'a, H: Shelf>(
     }
 }
 
+/// The files of a run that goes on, in the order of its words.
+pub fn load_saved<'a, H: Shelf>(
+    alloc: Global,
+    shelf: &mut H,
+    words: &ResumeWords<'a>,
+) -> Result<SavedFiles, LoadError<'a>>
+    ensures { IsRead (standing H.held H.sound H.faults shelf.old) (standing H.held H.sound H.faults shelf.new) (λ held. saved_files held (resume_in words.now)) (read_as saved_value result) }
+{
+    let board = match load_board(alloc, shelf, words.board) {
+        Ok(board) => board,
+        Err(fault) => return Err(fault),
+    };
+    let Saved { machine, step } = match load_state(alloc, shelf, words.state, &board) {
+        Ok(saved) => saved,
+        Err(fault) => return Err(fault),
+    };
+    match load_script(alloc, shelf, words.script, board.interrupts) {
+        Ok(script) => Ok(SavedFiles {
+            board,
+            machine,
+            step,
+            script,
+        }),
+        Err(fault) => Err(fault),
+    }
+}
+
 /// The image of a disassembly, for the board that is read first.
 pub fn load_listed<'a, H: Shelf>(
     alloc: Global,
     shelf: &mut H,
     words: &DisWords<'a>,
 ) -> Result<Image, LoadError<'a>>
-    ensures ok { IfOk result (λ i. Allows (listed_told (H.held shelf.old) (dis_in words.now)) i) }
-    ensures err { IfErr result (λ e. IsFault (shelved H.held H.sound H.faults shelf.old shelf.new) (IsOneOf (dis_reads (H.held shelf.old) (dis_in words.now))) (listed_told (H.held shelf.old) (dis_in words.now)) e) }
-    ensures later { H.faults shelf.old ≤ H.faults shelf.new }
+    ensures { IsRead (standing H.held H.sound H.faults shelf.old) (standing H.held H.sound H.faults shelf.new) (λ held. listed_files held (dis_in words.now)) result }
 {
     let board = match load_board(alloc, shelf, words.board) {
         Ok(board) => board,
@@ -280,15 +314,12 @@ fn assembly_in(alloc: Global, form: AsmForm, source: &[u8]) -> Result<Vec<u8>, A
 }
 
 /// What an assembly writes.
-#[tactic(auto, unfolding(crate::specs::Told::source_told))]
 pub fn load_assembled<'a, H: Shelf>(
     alloc: Global,
     shelf: &mut H,
     words: &AsmWords<'a>,
 ) -> Result<Vec<u8>, LoadError<'a>>
-    ensures ok { IfOk result (λ v. Allows (source_told (H.held shelf.old) (asm_in words.now)) v.items) }
-    ensures err { IfErr result (λ e. IsFault (shelved H.held H.sound H.faults shelf.old shelf.new) (IsFile (asm_in words.now).source AsSource) (source_told (H.held shelf.old) (asm_in words.now)) e) }
-    ensures later { H.faults shelf.old ≤ H.faults shelf.new }
+    ensures { IsRead (standing H.held H.sound H.faults shelf.old) (standing H.held H.sound H.faults shelf.new) (λ held. source_files held words.now.form words.now.source.now) (read_as (λ v. v.items) result) }
 {
     let bytes = match read(alloc, shelf, words.source, SOURCE_LIMIT) {
         Ok(bytes) => bytes,

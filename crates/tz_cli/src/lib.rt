@@ -1,6 +1,6 @@
-//! tzrun: runs a Secure and a Non-secure image on a board and writes the trace of their steps, tells where the
-//! runs of two Secure images disagree, writes an image from its source, or an image as the text of its
-//! instructions.
+//! tzrun: runs a Secure and a Non-secure image on a board and writes the trace of their steps, where they enter
+//! Secure code, or the file of the state after them, from which a run goes on; tells where the runs of two Secure
+//! images disagree; writes an image from its source, or an image as the text of its instructions.
 //!
 //! `top` does all that the program does, over any shelf of files and any two sinks.
 //!
@@ -19,6 +19,7 @@ mod output;
 mod pair;
 mod process;
 mod program;
+mod resume;
 mod run;
 mod shelf;
 mod stops;
@@ -29,4 +30,6 @@ pub use output::OutSink;
 pub use process::run_process;
 pub use program::top;
 pub use shelf::{FileShelf, read_to_limit};
-pub use words::{AsmWords, Command, DisWords, Form, PairWords, RunWords, command_words};
+pub use words::{
+    AsmWords, Command, DisWords, Form, PairWords, ResumeWords, StartWords, Work, command_words,
+};

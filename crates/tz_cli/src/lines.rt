@@ -7,8 +7,8 @@ ghost use Rattle.tz_elf.specs.Images.{Refusal};
 ghost use Rattle.tz_board.specs.BoardErrors.{refusal_of, place_of};
 ghost use Rattle.tz_board.specs.ScriptErrors.{script_refusal_of};
 ghost use Rattle.tz_cli.specs.Answer.{IsTold};
-ghost use Rattle.tz_cli.specs.Lines.{board_code, image_code, script_code, source_code, place_text};
-ghost use Rattle.tz_cli.specs.Faults.{image_refusal, source_refusal, line_with, name_told, status_with, stop_of, code_with};
+ghost use Rattle.tz_cli.specs.Lines.{board_code, image_code, script_code, source_code, state_code, place_text, put_status};
+ghost use Rattle.tz_cli.specs.Faults.{image_refusal, source_refusal, state_refusal, line_with, name_told, status_with, stop_of, code_with};
 
 use crate::stops::LoadError;
 use itoa::Buffer;
@@ -16,7 +16,8 @@ use std::alloc::{AllocError, Global};
 use tz_asm::AsmError;
 use tz_board::{BoardError, Place, ScriptError};
 use tz_elf::ElfError;
-use tz_model::Sink;
+use tz_model::{Sink, SinkError};
+use tz_snap::SnapError;
 
 /// Appends a text.
 fn push_text(line: &mut Vec<u8>, text: &str) -> Result<(), AllocError>
@@ -115,6 +116,21 @@ fn push_board_error(line: &mut Vec<u8>, error: BoardError) -> Result<(), AllocEr
     }
 }
 
+/// Appends the code of a state file's refusal with its place; its error is want of memory.
+fn push_state_error(line: &mut Vec<u8>, error: SnapError) -> Result<(), AllocError>
+    ensures bytes { OnOk result (line.new.items ≡ line.old.items ++ code_with state_code (state_refusal error)) }
+    ensures len { OnOk result (vec_len line.new ≤ vec_len line.old + 24) }
+    ensures told { OnOk result (IsSome (state_refusal error)) }
+{
+    match error {
+        SnapError::Magic => push_text(line, "S1"),
+        SnapError::Board => push_text(line, "S2"),
+        SnapError::Length => push_text(line, "S3"),
+        SnapError::Value(index) => push_code(line, "S4 ", index),
+        SnapError::Memory => Err(AllocError),
+    }
+}
+
 /// Appends the code of a script's refusal with its line; its error is want of memory.
 fn push_script_error(line: &mut Vec<u8>, error: ScriptError) -> Result<(), AllocError>
     ensures bytes { OnOk result (line.new.items ≡ line.old.items ++ code_with script_code (script_refusal_of error)) }
@@ -181,6 +197,10 @@ fn push_fault(line: &mut Vec<u8>, fault: LoadError<'_>) -> Result<(), AllocError
             push_name(line, name)?;
             push_image_error(line, error)
         }
+        LoadError::State(name, error) => {
+            push_name(line, name)?;
+            push_state_error(line, error)
+        }
         LoadError::Script(name, error) => {
             push_name(line, name)?;
             push_script_error(line, error)
@@ -213,6 +233,16 @@ fn fault_status(fault: LoadError<'_>) -> u8
         LoadError::Unread(_) => 3,
         LoadError::Long(_) => 6,
         _ => 5,
+    }
+}
+
+/// The status of a text that is put: 0, or 4 where it can't be.
+pub fn put_status(outcome: Result<(), SinkError>) -> u8
+    ensures { result ≡ put_status outcome }
+{
+    match outcome {
+        Ok(()) => 0,
+        Err(_) => 4,
     }
 }
 

@@ -4,10 +4,9 @@ ghost use Rattle.std.specs.Prelude.{[], IfOk, IfErr};
 ghost use Rattle.tz_model.specs.Outside.{Gains};
 ghost use Rattle.tz_cli.specs.Pair.{pair_in};
 ghost use Rattle.tz_cli.specs.Commands.{Pair as PairCommand};
-ghost use Rattle.tz_cli.specs.PairLine.{pair_status};
-ghost use Rattle.tz_cli.specs.Told.{difference_of, pair_task};
+ghost use Rattle.tz_cli.specs.Tasks.{pair_task};
 ghost use Rattle.tz_cli.specs.Answer.{CommandAnswer, shelved, sunk, IsTold};
-ghost use Rattle.tz_cli.specs.Faults.{pair_start_in};
+ghost use Rattle.tz_cli.specs.Faults.{pair_value};
 
 use crate::comparison::pair_run;
 use crate::files::{PairFiles, load_pair};
@@ -26,7 +25,7 @@ fn pair_started<O: Sink>(
     words: &PairWords<'_>,
     out: &mut O,
 ) -> Result<u8, AllocError>
-    ensures ran { let task = pair_task (record { words = pair_in words.now; start = pair_start_in files.now }) in
+    ensures ran { let task = pair_task (record { words = pair_in words.now; start = pair_value files.now }) in
         IfOk result (λ status. IsTold status task.text task.status (O.written out.old) (O.written out.new) (O.space out.old) (O.faults out.old) (O.faults out.new)) }
     ensures quiet { IfErr result (λ _. Gains (O.written out.old) (O.written out.new) []) }
 {

@@ -5,6 +5,13 @@
 //! own, and joins here by its word.
 
 ghost use Rattle.std.specs.Prelude.{◌≡◌, ◌≢◌, ◌⊎◌, ◌<◌, ◌≤◌, ◌+◌, ◌++◌, ℕ, List, [], length, map, Ok, Some, None, IsTrue, IfSome, codes};
+ghost use Rattle.tz_state.specs.State.{State};
+ghost use Rattle.tz_sem.specs.Run.{state_after};
+ghost use Rattle.tz_gates.specs.Gates.{gates_of};
+ghost use Rattle.tz_gates.specs.Entries.{entries_at};
+ghost use Rattle.tz_gates.specs.GatesText.{gates_text};
+ghost use Rattle.tz_gates.specs.Stays.{KeepsGatesFor, HasEvenPcFor};
+ghost use Rattle.tz_snap.specs.StateFile.{file_of};
 ghost use Rattle.std.specs.String.{string_bytes};
 ghost use Rattle.tz_table.specs.declared.units.Side.TheVariants.{Secure};
 ghost use Rattle.tz_model.specs.declared.report.View.TheVariants.{Ns};
@@ -19,9 +26,12 @@ ghost use Rattle.tz_cli.specs.Run.{RunWords};
 ghost use Rattle.tz_iso.specs.declared.answer.What.{What};
 ghost use Rattle.tz_cli.specs.Pair.{PairWords};
 ghost use Rattle.tz_cli.specs.PairLine.{FirstApart, agree_line, differ_line};
-ghost use Rattle.tz_cli.specs.Commands.{Run, Pair, command_of};
-ghost use Rattle.tz_cli.specs.Told.{Stop, Job, Task, Stops, Gives, IsDone, told, job_told, trace_of, state_of, PairJob, pair_told, first_state, second_state};
-ghost use Rattle.tz_cli.specs.Reads.{reads_of};
+ghost use Rattle.tz_cli.specs.Commands.{Run, Pair, Gates, Snap, Resume, command_of};
+ghost use Rattle.tz_cli.specs.StartWords.{StartWords};
+ghost use Rattle.tz_cli.specs.Resume.{ResumeWords};
+ghost use Rattle.tz_cli.specs.Told.{Stop, Stops, Gives};
+ghost use Rattle.tz_cli.specs.Starts.{Start, SavedStart, state_of, first_state, second_state};
+ghost use Rattle.tz_cli.specs.Tasks.{Job, Task, IsDone, told, reads_of, begin_told, job_told, trace_of, end_of, counted_gates, resume_told, resumed_text, PairJob, pair_told};
 ghost use Rattle.tz_cli.specs.Lines.{stop_line, status_of};
 ghost use Rattle.tz_cli.specs.Answer.{Answer, shelved, sunk, CutsLine, Excused, GainsFront, IsRefusedBy, IsStatus, IsText, NamesUnread, line_room};
 
@@ -29,7 +39,8 @@ use crate::asm::asm_files;
 use crate::dis::dis_files;
 use crate::lines::refuse;
 use crate::pair::pair_files;
-use crate::run::run_files;
+use crate::resume::resume_answer;
+use crate::run::work_files;
 use crate::words::{Command, command_words};
 use std::alloc::Global;
 use tz_model::{Shelf, Sink};
@@ -98,6 +109,26 @@ pub fn top<H: Shelf, O: Sink, E: Sink>(
     ensures differ { result ≡ 1 → (p : PairWords) → command_of (map string_bytes words.now) ≡ Some (Pair p) → (job : PairJob) → pair_told (H.held shelf.old) p ≡ Gives job →
         (k : ℕ) × (what : What) × FirstApart (events_of job.start.script) (first_state job.start) (second_state job.start) job.words.steps k what
         × Gains (O.written out.old) (O.written out.new) (differ_line k what) }
+
+    // At status 0 of `gates` each gate of the machine as it starts is written with the number of steps that enter there,
+    // and behind them the number of other entries. That is 0 where the gates stay what they are.
+    ensures gates { result ≡ 0 → (s : StartWords) → command_of (map string_bytes words.now) ≡ Some (Gates s) → (start : Start) → begin_told (H.held shelf.old) s ≡ Gives start →
+        Gains (O.written out.old) (O.written out.new) (counted_gates (events_of start.script) (state_of start) s.steps (gates_of (state_of start))) }
+    ensures unlisted { result ≡ 0 → (s : StartWords) → command_of (map string_bytes words.now) ≡ Some (Gates s) → (start : Start) → begin_told (H.held shelf.old) s ≡ Gives start →
+        KeepsGatesFor (state_of start) (events_of start.script) (state_of start) s.steps → HasEvenPcFor (events_of start.script) (state_of start) s.steps →
+        Gains (O.written out.old) (O.written out.new) (gates_text (gates_of (state_of start)) (map (entries_at (events_of start.script) 0 (state_of start) s.steps) (gates_of (state_of start))) 0) }
+
+    // At status 0 of `snap` the file of the state after all steps is written. At status 0 of `resume` the lines are
+    // written that follow the state of a file: those behind the first ones of every run with that script which comes
+    // to this state in so many steps.
+    ensures snap { result ≡ 0 → (s : StartWords) → command_of (map string_bytes words.now) ≡ Some (Snap s) → (start : Start) → begin_told (H.held shelf.old) s ≡ Gives start →
+        Gains (O.written out.old) (O.written out.new) (file_of (end_of start s.steps) s.steps) }
+    ensures resumed { result ≡ 0 → (w : ResumeWords) → command_of (map string_bytes words.now) ≡ Some (Resume w) → (start : SavedStart) → resume_told (H.held shelf.old) w ≡ Gives start →
+        Gains (O.written out.old) (O.written out.new) (resumed_text w start) }
+    ensures continued { result ≡ 0 → (w : ResumeWords) → command_of (map string_bytes words.now) ≡ Some (Resume w) → (start : SavedStart) → resume_told (H.held shelf.old) w ≡ Gives start →
+        (s : State) (rest : List ℕ) → state_after (events_of start.script) 0 s start.step ≡ start.state →
+        text_from w.view (events_of start.script) 0 s (start.step + w.steps) ≡ text_from w.view (events_of start.script) 0 s start.step ++ rest →
+        Gains (O.written out.old) (O.written out.new) rest }
 {
     answer(alloc, words, shelf, out, err)
 }
@@ -124,9 +155,10 @@ fn answer<H: Shelf, O: Sink, E: Sink>(
         Err(_) => return refuse(err, b"no memory\n", 7),
     };
     match command {
-        Command::Run(words) => run_files(alloc, &words, shelf, out, err),
+        Command::Start(words, work) => work_files(alloc, &words, &work, shelf, out, err),
         Command::Pair(words) => pair_files(alloc, &words, shelf, out, err),
         Command::Asm(words) => asm_files(alloc, &words, shelf, out, err),
         Command::Dis(words) => dis_files(alloc, &words, shelf, out, err),
+        Command::Resume(words) => resume_answer(alloc, &words, shelf, out, err),
     }
 }

@@ -12,29 +12,37 @@ mod counts;
 mod dis;
 mod leaf;
 mod pair;
+mod resume;
 mod run;
+mod start;
+mod views;
 
 use crate::words::asm::asm_command;
 use crate::words::dis::dis_command;
 use crate::words::pair::pair_command;
+use crate::words::resume::resume_command;
 use crate::words::run::run_command;
+use crate::words::start::start_command;
 pub use asm::{AsmWords, Form};
 pub use dis::DisWords;
 pub use pair::PairWords;
-pub use run::RunWords;
+pub use resume::ResumeWords;
+pub use start::{StartWords, Work};
 use std::alloc::{AllocError, Global};
 
 /// A command with what its words say.
 #[derive(Clone, Copy)]
 pub enum Command<'a> {
-    /// A run of two images on a board.
-    Run(RunWords<'a>),
+    /// A run of two images on a board, and what is done with it.
+    Start(StartWords<'a>, Work),
     /// Two runs beside each other, of two Secure images.
     Pair(PairWords<'a>),
     /// An image from its source.
     Asm(AsmWords<'a>),
     /// An image as the text of its instructions.
     Dis(DisWords<'a>),
+    /// A run that goes on from a state's file.
+    Resume(ResumeWords<'a>),
 }
 
 /// The command of a command line, which begins with the program's name; `None` where the words are
@@ -51,6 +59,9 @@ pub fn command_words<'a>(
             "pair" => pair_command(alloc, rest),
             "asm" => asm_command(alloc, rest),
             "dis" => dis_command(alloc, rest),
+            "gates" => start_command(alloc, Work::Gates, rest),
+            "snap" => start_command(alloc, Work::Save, rest),
+            "resume" => resume_command(alloc, rest),
             _ => Ok(None),
         },
         _ => Ok(None),

@@ -1,57 +1,16 @@
-//! The words of `run`: four names of files, a number of steps, and the option `--view`.
+//! The words of `run`: those that begin a run, and the option `--view`.
 
-ghost use Rattle.std.specs.Prelude.{◌≡◌, [], IfOk, map, string_bytes, option_map, unwrap_or};
+ghost use Rattle.std.specs.Prelude.{◌≡◌, IfOk, map, string_bytes, option_map};
 ghost use Rattle.tz_cli.specs.Found.{parts_in};
 ghost use Rattle.tz_cli.specs.Commands.{Run, command_in};
-ghost use Rattle.tz_cli.specs.Run.{run_behind, run_parts, view_named, view_of};
+ghost use Rattle.tz_cli.specs.Run.{run_behind, run_parts};
 
 use crate::words::Command;
-use crate::words::counts::count_in;
 use crate::words::leaf::matches;
+use crate::words::start::{Work, start_of};
+use crate::words::views::{VIEWS, view_in};
 use clap::ArgMatches;
 use std::alloc::{AllocError, Global};
-use tz_model::View;
-
-static VIEWS: [&str; 2] = ["ns", "all"];
-
-/// What `run` is told.
-#[derive(Clone, Copy)]
-pub struct RunWords<'a> {
-    /// The name of the board's file.
-    pub board: &'a str,
-    /// The name of the Secure image's file.
-    pub secure: &'a str,
-    /// The name of the Non-secure image's file.
-    pub nonsecure: &'a str,
-    /// The name of the script's file.
-    pub script: &'a str,
-    /// How many steps are run, below 100,000,000.
-    pub steps: u32,
-    /// What the trace shows of each step.
-    pub view: View,
-}
-
-/// The view of a name.
-fn view_named(name: &str) -> Option<View>
-    ensures { result ≡ view_named name.now }
-{
-    match name {
-        "ns" => Some(View::Ns),
-        "all" => Some(View::All),
-        _ => None,
-    }
-}
-
-/// The view that the option's values choose.
-fn view_in(values: Option<&[&str]>) -> Option<View>
-    ensures { result ≡ view_of (unwrap_or (option_map (λ s. map (λ v. v.now) s.now) values.entry) []) }
-{
-    match values {
-        None | Some([]) => Some(View::Ns),
-        Some([name]) => view_named(name),
-        _ => None,
-    }
-}
 
 /// The words of `run` in what clap found.
 fn run_found<'a>(found: &ArgMatches<'a>) -> Option<Command<'a>>
@@ -60,20 +19,10 @@ fn run_found<'a>(found: &ArgMatches<'a>) -> Option<Command<'a>>
     let Some(view) = view_in(found.get_strs("option")) else {
         return None;
     };
-    let Some(&[board, secure, nonsecure, script, steps]) = found.get_strs("words") else {
-        return None;
-    };
-    let Some(steps) = count_in(steps) else {
-        return None;
-    };
-    Some(Command::Run(RunWords {
-        board,
-        secure,
-        nonsecure,
-        script,
-        steps,
-        view,
-    }))
+    match start_of(found.get_strs("words")) {
+        Some(start) => Some(Command::Start(start, Work::Trace(view))),
+        None => None,
+    }
 }
 
 /// `BOARD SECURE NONSECURE SCRIPT STEPS [--view ns or all]`, as they stand behind `run`; `None` where

@@ -1,46 +1,20 @@
-use Rattle.std.proofs.Common.{arith, rules, tests}
-use Rattle.std.proofs.lemmas.Grind.{common_steps, elements}
-use Rattle.tz_cli.specs.Told.{image_told}
+-- Each exit is how the file was read.
+use Rattle.std.proofs.Common.{◌∙◌, sym, subst, ap, List, ℕ}
+use Rattle.tz_elf.specs.Images.{image_of}
+use Rattle.tz_elf.specs.Refusals.{IsImageRefusal}
 use Rattle.tz_cli.specs.Reads.{AsImage}
-use Rattle.tz_cli.proofs.Stages.{unread_image}
+use Rattle.tz_cli.proofs.Stages.{image_unread, image_accepted, image_refused}
 use Rattle.tz_cli.proofs.files.load_image.Goals as goal
 
--- What the tactics try, by name: a body that is refused is then told without a search for what to offer.
-pub returns-in-Err-clause-ok : goal.returns-in-Err-clause-ok
-unfolding image_told
-returns-in-Err-clause-ok g c = first_of (assumption, search (tests, rules), grind (arith, common_steps), grind (arith, elements))
+pub returns-in-Err : goal.returns-in-Err
+returns-in-Err g c = image_unread _ _ c.args.name c.args.board.now c.args.side c.in-Err.fault (c.in-Err.ensures.files AsImage)
 
-pub returns-in-Err-clause-err : goal.returns-in-Err-clause-err
-returns-in-Err-clause-err g c = unread_image _ c.args.name.now c.in-Err.fault c.args.board.now c.args.side (c.in-Err.ensures.err AsImage)
+pub returns-in-Ok-read_image : goal.returns-in-Ok-read_image
+returns-in-Ok-read_image g c =
+    image_accepted _ _ c.args.name c.args.board.now c.args.side c.in-Ok.bytes.items c.in-Ok-read_image.image (c.in-Ok.ensures.files AsImage)
+    (ap (λ (bs : List ℕ). image_of bs c.args.board.now c.args.side) (sym c.deref.ensures.value) ∙ c.in-Ok-read_image.ensures.ok)
 
-pub returns-in-Err-clause-later : goal.returns-in-Err-clause-later
-unfolding image_told
-returns-in-Err-clause-later g c = first_of (assumption, search (tests, rules), grind (arith, common_steps), grind (arith, elements))
-
-pub returns-in-Err-clause-sound : goal.returns-in-Err-clause-sound
-unfolding image_told
-returns-in-Err-clause-sound g c = first_of (assumption, search (tests, rules), grind (arith, common_steps), grind (arith, elements))
-
-pub returns-in-Err-clause-held : goal.returns-in-Err-clause-held
-unfolding image_told
-returns-in-Err-clause-held g c = first_of (assumption, search (tests, rules), grind (arith, common_steps), grind (arith, elements))
-
-pub returns-in-Ok-read_image-clause-ok : goal.returns-in-Ok-read_image-clause-ok
-unfolding image_told
-returns-in-Ok-read_image-clause-ok g c = first_of (assumption, search (tests, rules), grind (arith, common_steps), grind (arith, elements))
-
-pub returns-in-Ok-read_image-clause-err : goal.returns-in-Ok-read_image-clause-err
-unfolding image_told
-returns-in-Ok-read_image-clause-err g c = first_of (assumption, search (tests, rules), grind (arith, common_steps), grind (arith, elements))
-
-pub returns-in-Ok-read_image-clause-later : goal.returns-in-Ok-read_image-clause-later
-unfolding image_told
-returns-in-Ok-read_image-clause-later g c = first_of (assumption, search (tests, rules), grind (arith, common_steps), grind (arith, elements))
-
-pub returns-in-Ok-read_image-clause-sound : goal.returns-in-Ok-read_image-clause-sound
-unfolding image_told
-returns-in-Ok-read_image-clause-sound g c = first_of (assumption, search (tests, rules), grind (arith, common_steps), grind (arith, elements))
-
-pub returns-in-Ok-read_image-clause-held : goal.returns-in-Ok-read_image-clause-held
-unfolding image_told
-returns-in-Ok-read_image-clause-held g c = first_of (assumption, search (tests, rules), grind (arith, common_steps), grind (arith, elements))
+pub returns : goal.returns
+returns g c =
+    image_refused _ _ c.args.name c.args.board.now c.args.side c.in-Ok.bytes.items c.in-Err-read_image.error (c.in-Ok.ensures.files AsImage)
+    (subst (λ (bs : List ℕ). IsImageRefusal c.in-Err-read_image.error (image_of bs c.args.board.now c.args.side)) c.deref.ensures.value c.in-Err-read_image.ensures.err)

@@ -5,9 +5,9 @@ use Rattle.std.specs.Prelude.{codes}
 use Rattle.tz_board.specs.BoardErrors.{refusal_of}
 use Rattle.tz_board.specs.ScriptErrors.{script_refusal_of}
 use Rattle.tz_cli.specs.declared.stops.LoadError.{LoadError}
-use Rattle.tz_cli.specs.Told.{BadBoard, BadImage, BadScript, BadSource}
-use Rattle.tz_cli.specs.Lines.{board_code, image_code, script_code, source_code}
-use Rattle.tz_cli.specs.Faults.{image_refusal, line_with, name_told, source_refusal, stop_of}
+use Rattle.tz_cli.specs.Told.{BadBoard, BadImage, BadState, BadScript, BadSource}
+use Rattle.tz_cli.specs.Lines.{board_code, image_code, script_code, source_code, state_code}
+use Rattle.tz_cli.specs.Faults.{image_refusal, line_with, name_told, source_refusal, state_refusal, stop_of}
 use Rattle.tz_cli.proofs.FaultLines.{file_told, on_ok_both, refused_told, some_stop}
 use Rattle.tz_cli.proofs.lines.push_fault.Goals as goal
 
@@ -78,6 +78,23 @@ returns-in_ok-push_name-in-Image-clause-len c =
 pub returns-in_ok-push_name-in-Image-clause-told : goal.returns-in_ok-push_name-in-Image-clause-told
 returns-in_ok-push_name-in-Image-clause-told c =
     on_ok_weaker c.push_image_error.result (some_stop c.args.fault (BadImage c.in-Image.name.now) (image_refusal c.in-Image.error) (ap stop_of c.in-Image.is)) c.push_image_error.ensures.told
+
+pub returns-in_ok-push_name-in-State-clause-bytes : goal.returns-in_ok-push_name-in-State-clause-bytes
+returns-in_ok-push_name-in-State-clause-bytes c =
+    on_ok_both c.push_state_error.result
+    (λ behind some. refused_told c.args.fault c.args.line.now.items c.in-State.name.now c.push_name-in-State.new.line.items c.push_state_error.new.line.items state_code (BadState c.in-State.name.now) (state_refusal c.in-State.error)
+    (ap stop_of c.in-State.is) (λ e. refl) c.in_ok-push_name-in-State.ensures.bytes behind some)
+    c.push_state_error.ensures.bytes c.push_state_error.ensures.told
+
+pub returns-in_ok-push_name-in-State-clause-len : goal.returns-in_ok-push_name-in-State-clause-len
+returns-in_ok-push_name-in-State-clause-len c =
+    let name = ap name_told c.in-State.is in
+    let front = c.in_ok-push_name-in-State.ensures.len in
+    on_ok_weaker c.push_state_error.result (λ l. rw name (omega (arith, front, l))) c.push_state_error.ensures.len
+
+pub returns-in_ok-push_name-in-State-clause-told : goal.returns-in_ok-push_name-in-State-clause-told
+returns-in_ok-push_name-in-State-clause-told c =
+    on_ok_weaker c.push_state_error.result (some_stop c.args.fault (BadState c.in-State.name.now) (state_refusal c.in-State.error) (ap stop_of c.in-State.is)) c.push_state_error.ensures.told
 
 pub returns-in_ok-push_name-in-Script-clause-bytes : goal.returns-in_ok-push_name-in-Script-clause-bytes
 returns-in_ok-push_name-in-Script-clause-bytes c =

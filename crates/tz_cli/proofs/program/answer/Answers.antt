@@ -1,8 +1,9 @@
 -- Each exit is its answer.
 use Rattle.std.proofs.Common.{refl, sym, arith, map, Global}
 use Rattle.std.specs.String.{string_bytes}
-use Rattle.tz_cli.specs.Commands.{Run, Pair, Asm, Dis}
-use Rattle.tz_cli.specs.Run.{run_in}
+use Rattle.tz_cli.specs.Commands.{Pair, Asm, Dis, Resume, command_with}
+use Rattle.tz_cli.specs.StartWords.{start_in}
+use Rattle.tz_cli.specs.Resume.{resume_in}
 use Rattle.tz_cli.specs.Pair.{pair_in}
 use Rattle.tz_cli.specs.Asm.{asm_in}
 use Rattle.tz_cli.specs.Dis.{dis_in}
@@ -15,10 +16,10 @@ returns-in-Ok-None g c = answer_words _ _ (sym (rw c.in-Ok-None.field-0-is at c.
 pub returns-in-Err : goal.returns-in-Err
 returns-in-Err g c = answer_memory _ _ (gains_nothing _) (omega arith) c.refuse-in-Err.ensures
 
-pub returns-in-Run : goal.returns-in-Run
-returns-in-Run g c =
-    let says = rw c.in-Run.is at (rw c.in-Ok-Some.field-0-is at c.in-Ok-Some.ensures) in
-    answer_command _ _ (map (string_bytes {Z = Global}) c.args.words.now) (Run (run_in c.in-Run.words)) refl refl (sym says) c.run_files.ensures
+pub returns-in-Start : goal.returns-in-Start
+returns-in-Start g c =
+    let says = rw c.in-Start.is at (rw c.in-Ok-Some.field-0-is at c.in-Ok-Some.ensures) in
+    answer_command _ _ (map (string_bytes {Z = Global}) c.args.words.now) (command_with (start_in c.in-Start.words) c.in-Start.work) refl refl (sym says) c.work_files.ensures
 
 pub returns-in-Pair : goal.returns-in-Pair
 returns-in-Pair g c =
@@ -34,3 +35,8 @@ pub returns-in-Dis : goal.returns-in-Dis
 returns-in-Dis g c =
     let says = rw c.in-Dis.is at (rw c.in-Ok-Some.field-0-is at c.in-Ok-Some.ensures) in
     answer_command _ _ (map (string_bytes {Z = Global}) c.args.words.now) (Dis (dis_in c.in-Dis.words)) refl refl (sym says) c.dis_files.ensures
+
+pub returns-in-Resume : goal.returns-in-Resume
+returns-in-Resume g c =
+    let says = rw c.in-Resume.is at (rw c.in-Ok-Some.field-0-is at c.in-Ok-Some.ensures) in
+    answer_command _ _ (map (string_bytes {Z = Global}) c.args.words.now) (Resume (resume_in c.in-Resume.words)) refl refl (sym says) c.resume_answer.ensures

@@ -2,6 +2,7 @@
 use Rattle.std.proofs.Common.{refl}
 use Rattle.tz_cli.proofs.Clauses.{usage_only, settled_stop, settled_task, unread_only, unwritten_only, cut_only, refused_only, memory_told, one_status, task_written, nothing_told, no_stop, quiet_else, front_written, room_suffices, sound_reads, trace_written, isolated_trace}
 use Rattle.tz_cli.proofs.PairClauses.{agreement_told, disagreement_told}
+use Rattle.tz_cli.proofs.RunClauses.{gates_written, none_unlisted, state_written, lines_written, rest_written}
 use Rattle.tz_cli.proofs.program.top.Goals as goal
 
 pub returns-clause-usage : goal.returns-clause-usage
@@ -63,3 +64,18 @@ returns-clause-agree g c = agreement_told _ _ c.answer.ensures
 
 pub returns-clause-differ : goal.returns-clause-differ
 returns-clause-differ g c = disagreement_told _ _ c.answer.ensures
+
+pub returns-clause-gates : goal.returns-clause-gates
+returns-clause-gates g c = gates_written _ _ c.answer.ensures
+
+pub returns-clause-unlisted : goal.returns-clause-unlisted
+returns-clause-unlisted g c = none_unlisted _ _ c.answer.ensures
+
+pub returns-clause-snap : goal.returns-clause-snap
+returns-clause-snap g c = state_written _ _ c.answer.ensures
+
+pub returns-clause-resumed : goal.returns-clause-resumed
+returns-clause-resumed g c = lines_written _ _ c.answer.ensures
+
+pub returns-clause-continued : goal.returns-clause-continued
+returns-clause-continued g c = rest_written _ _ c.answer.ensures

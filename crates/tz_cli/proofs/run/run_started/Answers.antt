@@ -1,23 +1,17 @@
-use Rattle.std.proofs.Common.{subst, Ok, Err}
+use Rattle.std.proofs.Common.{subst}
 use Rattle.tz_model.specs.Outside.{Put}
 use Rattle.tz_state.specs.State.{State}
 use Rattle.tz_twin.specs.Trace.{text_from}
 use Rattle.tz_run.specs.Events.{events_of}
-use Rattle.tz_cli.proofs.Exits.{failed_alone, gains_nothing, told_cut, told_put}
+use Rattle.tz_cli.proofs.Exits.{gains_nothing, told_put}
 use Rattle.tz_cli.proofs.run.run_started.Goals as goal
 
 pub returns-in-Err-clause-quiet : goal.returns-in-Err-clause-quiet
 returns-in-Err-clause-quiet g c = gains_nothing _
 
-pub returns-in-Ok-run-clause-ran : goal.returns-in-Ok-run-clause-ran
-returns-in-Ok-run-clause-ran g c =
-    told_put _ _ _ (g.O.Sink.space c.run.new.out) _ _ _
-    (subst (λ (s : State). Put (g.O.Sink.written c.args.out.now) (g.O.Sink.written c.run.new.out) (g.O.Sink.space c.args.out.now) (g.O.Sink.space c.run.new.out)
-    (text_from c.args.words.now.view (events_of c.args.files.now.script) 0 s c.args.words.now.steps) (Ok c.in-Ok-run.field-0)) c.in-Ok.ensures c.in-Ok-run.ensures.put)
-
 pub returns-clause-ran : goal.returns-clause-ran
 returns-clause-ran g c =
-    told_cut _ _ _ (g.O.Sink.space c.run.new.out) _ _ _ c.in-Err-run.field-0
+    told_put _ _ _ (g.O.Sink.space c.run.new.out) _ _ _ c.run.result _ c.put_status.ensures
     (subst (λ (s : State). Put (g.O.Sink.written c.args.out.now) (g.O.Sink.written c.run.new.out) (g.O.Sink.space c.args.out.now) (g.O.Sink.space c.run.new.out)
-    (text_from c.args.words.now.view (events_of c.args.files.now.script) 0 s c.args.words.now.steps) (Err c.in-Err-run.field-0)) c.in-Ok.ensures c.in-Err-run.ensures.put)
-    (c.in-Err-run.ensures.cause.failed (failed_alone c.in-Err-run.field-0))
+    (text_from c.args.view (events_of c.args.files.now.script) 0 s c.args.words.now.steps) c.run.result) c.in-Ok.ensures c.run.ensures.put)
+    c.run.ensures.cause

@@ -1,0 +1,95 @@
+-- What the answers of commands that run a machine say of its states.
+use Rattle.std.proofs.Common.{◌≡◌, ℕ, zero, suc, ◌+◌, ◌<◌, Bool, true, false, cond, List, ◌++◌, append_assoc, map, Option, Some, refl, sym, ap, ◌∙◌, subst, arith}
+use Rattle.std.specs.Prelude.{nat_lt}
+use Rattle.std.proofs.lemmas.List.{append_cancel_left}
+use Rattle.tz_model.specs.declared.report.View.{View}
+use Rattle.tz_model.specs.Outside.{Held, Gains}
+use Rattle.tz_state.specs.State.{State}
+use Rattle.tz_sem.specs.Step.{step}
+use Rattle.tz_sem.specs.Run.{Events, state_after}
+use Rattle.tz_text.specs.Line.{line}
+use Rattle.tz_twin.specs.Trace.{text_from}
+use Rattle.tz_run.specs.Events.{events_of}
+use Rattle.tz_gates.specs.Gates.{gates_of}
+use Rattle.tz_gates.specs.Entries.{entries_at}
+use Rattle.tz_gates.specs.GatesText.{gates_text}
+use Rattle.tz_gates.specs.Stays.{KeepsGatesFor, HasEvenPcFor}
+use Rattle.tz_gates.proofs.Elsewhere.{none_elsewhere}
+use Rattle.tz_snap.specs.StateFile.{file_of}
+use Rattle.tz_cli.specs.StartWords.{StartWords}
+use Rattle.tz_cli.specs.Resume.{ResumeWords}
+use Rattle.tz_cli.specs.Commands.{Command, Gates, Snap, Resume}
+use Rattle.tz_cli.specs.Told.{TooFar, Told, Stops, Gives, told_then, step_limit}
+use Rattle.tz_cli.specs.Starts.{Start, SavedStart, state_of}
+use Rattle.tz_cli.specs.Tasks.{Task, told, begin_told, counted_gates, gates_task, snap_task, end_of, resume_told, resume_next, resumed_text}
+use Rattle.tz_cli.specs.Answer.{Call, Answer, told_of}
+use Rattle.tz_cli.proofs.Clauses.{no_stop, task_written}
+
+-- what is settled of a command by what it begins with
+told_by : {A : Type 0} (held : List ℕ → Held) (o : Option Command) (command : Command) (t : Told A) (next : A → Told Task) (x : A)
+    → o ≡ Some command → told held (Some command) ≡ told_then t next → t ≡ Gives x → told held o ≡ next x
+told_by held o command t next x e same gives = ap (told held) e ∙ (same ∙ ap (λ u. told_then u next) gives)
+
+-- ---- gates
+
+pub gates_written : (c : Call) (result : ℕ) → Answer c result → result ≡ 0 → (s : StartWords) → c.command ≡ Some (Gates s) → (start : Start) → begin_told c.shelf.held s ≡ Gives start
+    → Gains c.out.old c.out.new (counted_gates (events_of start.script) (state_of start) s.steps (gates_of (state_of start)))
+gates_written c result a is s e start gives =
+    (task_written c result a (omega arith) (gates_task s start) (told_by c.shelf.held c.command (Gates s) (begin_told c.shelf.held s) (λ x. Gives (gates_task s x)) start e refl gives)).1
+
+pub none_unlisted : (c : Call) (result : ℕ) → Answer c result → result ≡ 0 → (s : StartWords) → c.command ≡ Some (Gates s) → (start : Start) → begin_told c.shelf.held s ≡ Gives start
+    → KeepsGatesFor (state_of start) (events_of start.script) (state_of start) s.steps → HasEvenPcFor (events_of start.script) (state_of start) s.steps
+    → Gains c.out.old c.out.new (gates_text (gates_of (state_of start)) (map (entries_at (events_of start.script) 0 (state_of start) s.steps) (gates_of (state_of start))) 0)
+none_unlisted c result a is s e start gives keeps even =
+    let events = events_of start.script in
+    let gates = gates_of (state_of start) in
+    subst (λ (n : ℕ). Gains c.out.old c.out.new (gates_text gates (map (entries_at events 0 (state_of start) s.steps) gates) n))
+    (none_elsewhere (state_of start) events (state_of start) s.steps keeps even) (gates_written c result a is s e start gives)
+
+-- ---- states
+
+pub state_written : (c : Call) (result : ℕ) → Answer c result → result ≡ 0 → (s : StartWords) → c.command ≡ Some (Snap s) → (start : Start) → begin_told c.shelf.held s ≡ Gives start
+    → Gains c.out.old c.out.new (file_of (end_of start s.steps) s.steps)
+state_written c result a is s e start gives =
+    (task_written c result a (omega arith) (snap_task s start) (told_by c.shelf.held c.command (Snap s) (begin_told c.shelf.held s) (λ x. Gives (snap_task s x)) start e refl gives)).1
+
+pub lines_written : (c : Call) (result : ℕ) → Answer c result → result ≡ 0 → (w : ResumeWords) → c.command ≡ Some (Resume w) → (start : SavedStart) → resume_told c.shelf.held w ≡ Gives start
+    → Gains c.out.old c.out.new (resumed_text w start)
+lines_written c result a is w e start gives =
+    by_limit (nat_lt step_limit (start.step + w.steps)) (told_by c.shelf.held c.command (Resume w) (resume_told c.shelf.held w) (resume_next w) start e refl gives)
+  where
+    by_limit : (past : Bool) → told_of c ≡ cond past (Stops (TooFar w.state)) (Gives (record { text = resumed_text w start; status = 0 })) → Gains c.out.old c.out.new (resumed_text w start)
+    by_limit true h = absurd (no_stop c result a (omega arith) (TooFar w.state) h)
+    by_limit false h = (task_written c result a (omega arith) (record { text = resumed_text w start; status = 0 }) h).1
+
+-- the trace of steps is that of the first of them, and that of the others from the state that these lead to
+trace_parts : (view : View) (events : Events) (n m k : ℕ) (s : State)
+    → text_from view events k s (n + m) ≡ text_from view events k s n ++ text_from view events (k + n) (state_after events k s n) m
+trace_parts view events zero m k s =
+    let none : zero + m ≡ m = omega arith in
+    let here : k ≡ k + zero = omega arith in
+    ap (text_from view events k s) none ∙ ap (λ (j : ℕ). text_from view events j s m) here
+trace_parts view events (suc n) m k s =
+    let more : suc n + m ≡ suc (n + m) = omega arith in
+    let on : k + 1 + n ≡ k + suc n = omega arith in
+    let after = step s (events k) in
+    ap (text_from view events k s) more
+    ∙ (ap (λ (text : List ℕ). line view k after.report ++ text) (trace_parts view events n m (k + 1) after.state)
+    ∙ (sym (append_assoc (line view k after.report) (text_from view events (k + 1) after.state n) _)
+    ∙ ap (λ (j : ℕ). (line view k after.report ++ text_from view events (k + 1) after.state n) ++ text_from view events j (state_after events (k + 1) after.state n) m) on))
+
+-- what follows in a run that comes to the state is what is written
+pub rest_written : (c : Call) (result : ℕ) → Answer c result → result ≡ 0 → (w : ResumeWords) → c.command ≡ Some (Resume w) → (start : SavedStart) → resume_told c.shelf.held w ≡ Gives start
+    → (s : State) (rest : List ℕ) → state_after (events_of start.script) 0 s start.step ≡ start.state
+    → text_from w.view (events_of start.script) 0 s (start.step + w.steps) ≡ text_from w.view (events_of start.script) 0 s start.step ++ rest
+    → Gains c.out.old c.out.new rest
+rest_written c result a is w e start gives s rest comes whole =
+    let events = events_of start.script in
+    let first = text_from w.view events 0 s start.step in
+    let zero_more : 0 + start.step ≡ start.step = omega arith in
+    let parts : text_from w.view events 0 s (start.step + w.steps) ≡ first ++ resumed_text w start =
+    trace_parts w.view events start.step w.steps 0 s
+    ∙ (ap (λ (k : ℕ). first ++ text_from w.view events k (state_after events 0 s start.step) w.steps) zero_more
+    ∙ ap (λ (t : State). first ++ text_from w.view events start.step t w.steps) comes) in
+    let same : resumed_text w start ≡ rest = append_cancel_left first (resumed_text w start) rest (sym parts ∙ whole) in
+    subst (λ (text : List ℕ). Gains c.out.old c.out.new text) same (lines_written c result a is w e start gives)
