@@ -1,11 +1,11 @@
 -- The word of an index among all words: of a field, of a slot, of memory.
-use Rattle.std.proofs.Common.{◌≡◌, ℕ, zero, suc, ◌+◌, ◌-◌, ◌*◌, ◌/◌, ◌%◌, ◌^◌, ◌<◌, ◌≤◌, Bool, true, false, List, [], ◌∷◌, ◌++◌, length, get_or, drop, take, Option, Some, None, slice_get, refl, sym, ap, ◌∙◌, subst, arith}
-use Rattle.std.specs.Prelude.{map, sum_by}
+use Rattle.std.proofs.Common.{◌≡◌, ℕ, zero, suc, ◌+◌, ◌*◌, ◌/◌, ◌%◌, ◌<◌, ◌≤◌, true, false, List, [], ◌∷◌, ◌++◌, length, get_or, drop, take, Some, None, slice_get, refl, sym, ap, ◌∙◌, subst, arith}
+use Rattle.std.specs.Prelude.{map}
 use Rattle.std.proofs.lemmas.List.{length-append, length-map}
 use Rattle.std.proofs.lemmas.List.Sums.{sum_by-cons, sum_by-take-le, sum_by_more_le}
 use Rattle.std.proofs.lemmas.Bool.Decides.{nat_tests}
 use Rattle.tz_model.specs.declared.board.Region.{Region}
-use Rattle.tz_model.specs.Board.{BoardValue, in_region, is_region, are_regions, bytes_of}
+use Rattle.tz_model.specs.Board.{in_region, is_region, are_regions, bytes_of}
 use Rattle.tz_state.specs.Access.{is_mapped}
 use Rattle.tz_state.specs.Memory.{Memory, word_at}
 use Rattle.tz_state.specs.State.{State}

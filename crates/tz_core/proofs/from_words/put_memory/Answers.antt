@@ -1,11 +1,10 @@
-use Rattle.std.proofs.Common.{◌≡◌, ◌+◌, ◌-◌, ◌*◌, ◌≤◌, ℕ, true, false, Some, slice_get, List, get_or, length, drop, take, length-drop, refl, sym, ap, ◌∙◌, arith}
+use Rattle.std.proofs.Common.{◌≡◌, ◌+◌, ◌-◌, ℕ, List, get_or, length, drop, take, length-drop, refl, sym, ap, ◌∙◌, arith}
 use Rattle.std.proofs.lemmas.Option.{slice_get-get_or}
 use Rattle.tz_model.specs.declared.board.Region.{Region}
 use Rattle.tz_model.specs.declared.board.RegionKind.TheVariants.{Rom}
 use Rattle.tz_model.specs.declared.board.RegionSide.TheVariants.{Secure}
 use Rattle.tz_state.specs.Memory.{with_bytes}
 use Rattle.tz_state.specs.State.{Bus, with_memory}
-use Rattle.tz_core.specs.StateWords.{memory_count}
 use Rattle.tz_core.specs.ReadWords.{with_regions, words_of}
 use Rattle.tz_core.proofs.Indexed.{block_in}
 use Rattle.tz_core.proofs.Reading.{region_fits, region_read, regions_end, rest_of}

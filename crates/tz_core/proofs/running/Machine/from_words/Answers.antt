@@ -1,4 +1,4 @@
-use Rattle.std.proofs.Common.{◌≡◌, ◌+◌, ◌*◌, ℕ, List, drop, refl, sym, ap, ◌∙◌, subst, arith}
+use Rattle.std.proofs.Common.{◌∙◌}
 use Rattle.tz_core.specs.ReadWords.{words_of}
 use Rattle.tz_core.proofs.Blank.{fresh, is_blank, fields_refused, fields_accepted}
 use Rattle.tz_core.proofs.running.Machine.from_words.Goals as goal

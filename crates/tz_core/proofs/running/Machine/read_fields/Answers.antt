@@ -1,6 +1,6 @@
-use Rattle.std.proofs.Common.{◌≡◌, ◌+◌, ◌≤◌, ℕ, true, false, length, drop, refl, sym, ap, ◌∙◌, arith}
+use Rattle.std.proofs.Common.{◌≡◌, ◌+◌, ◌≤◌, true, false, length, drop, refl, sym, ap, ◌∙◌, arith}
 use Rattle.tz_core.specs.Fields.{fields}
-use Rattle.tz_core.specs.ReadWords.{words_of, fits, read_fields, written}
+use Rattle.tz_core.specs.ReadWords.{words_of, fits, read_fields}
 use Rattle.tz_core.proofs.Order.{length_fields}
 use Rattle.tz_core.proofs.Reading.{field_read, field_refused, fields_end}
 use Rattle.tz_core.proofs.running.Machine.read_fields.Goals as goal

@@ -2,7 +2,7 @@ use Rattle.std.proofs.Common.{◌≡◌, ◌+◌, ◌≤◌, ℕ, true, false, S
 use Rattle.std.specs.Prelude.{Err}
 use Rattle.tz_core.specs.Fields.{slot_places}
 use Rattle.tz_core.specs.StateWords.{field_count}
-use Rattle.tz_core.specs.ReadWords.{words_of, slot_fits, read_slots, slot_written}
+use Rattle.tz_core.specs.ReadWords.{words_of, slot_fits, read_slots}
 use Rattle.tz_core.proofs.Order.{length_slots}
 use Rattle.tz_core.proofs.Reading.{slot_read, slot_refused, slots_end, first_of_drop, drop_twice}
 use Rattle.tz_core.proofs.running.Machine.read_slots.Goals as goal
