@@ -3,13 +3,16 @@ use Rattle.std.proofs.Common.{◌≡◌, ℕ, ◌+◌, ◌-◌, ◌%◌, ◌&&�
 use Rattle.std.specs.Prelude.{◌==◌, nat_le, nat_lt, ℤ, pos, negsuc}
 use Rattle.std.proofs.lemmas.Bool.{and_from, and_parts}
 use Rattle.std.proofs.lemmas.Bool.Decides.{nat_tests}
-use Rattle.toml.specs.Data.{Data, Members}
+use Rattle.toml.specs.Data.{Data, Members, as_integer}
 use Rattle.tz_model.specs.Board.{BoardValue, are_regions, is_region, within}
 use Rattle.tz_model.specs.declared.board.Region.{Region}
 use Rattle.tz_model.specs.declared.board.RegionKind.{RegionKind}
 use Rattle.tz_model.specs.declared.board.RegionSide.{RegionSide}
+use Rattle.tz_model.specs.declared.board.SauRegion.{SauRegion}
+use Rattle.tz_model.specs.declared.board.Profile.{Profile}
 use Rattle.tz_model.specs.Outside.{Held}
-use Rattle.tz_board.specs.Boards.{Read, Place, InRegion, Base, Size, ◌>>=◌, in_range, bounded_number_at, region_in, each, regions_listed, regions_at, first_overlap, is_small, without_overlap, within_limits, board_with, board_in, board_of}
+use Rattle.tz_board.specs.Boards.{Read, Place, Top, InRegion, ◌>>=◌, required, found_at, of_kind, in_range, bounded_number_at, kind_at, side_at, region_in, tables_in, some_table, each, regions_listed, regions_at, sau_at, numbers_at, Numbers, profile_at, first_overlap, is_small, without_overlap, within_limits, board_with, board_in, document_of, documented, board_of}
+use Rattle.tz_board.specs.Boards as keys
 use Rattle.tz_board.specs.Demo.{demo}
 use Rattle.tz_cli.specs.StartWords.{StartWords}
 use Rattle.tz_cli.specs.Told.{Told, Unknown, Stops, Gives, TooManySteps, BadBoard, told_then, graded, is_demo, board_file, board_told, board_limit, file_with, step_limit}
@@ -51,7 +54,9 @@ range_holds place low high unit (pos n) = number_by place low high unit n (withi
 range_holds place low high unit (negsuc n) = tt
 
 number_holds : (place : Place) (low high unit : ℕ) (ms : Members) → Holds (IsWithin low high unit) (bounded_number_at place low high unit ms)
-number_holds place low high unit ms = then_any (IsWithin low high unit) _ _ (λ d. then_any (IsWithin low high unit) _ _ (λ z. range_holds place low high unit z))
+number_holds place low high unit ms =
+    then_any (IsWithin low high unit) (required place (found_at place ms)) (λ (d : Data). of_kind place (as_integer d) >>= (λ (z : ℤ). in_range place low high unit z)) (λ d.
+    then_any (IsWithin low high unit) (of_kind place (as_integer d)) (λ (z : ℤ). in_range place low high unit z) (λ z. range_holds place low high unit z))
 
 -- ---- regions
 
@@ -69,11 +74,26 @@ is_region_of base size kind side hb hs =
 abbrev IsRegion : Region → Type 0
 IsRegion r = is_region r ≡ true
 
-region_holds : (index : ℕ) (ms : Members) → Holds IsRegion (region_in index ms)
-region_holds index ms =
-    then_holds (IsWithin 0 0xFFFFFFFF 32) IsRegion _ _ (number_holds (InRegion index Base) 0 0xFFFFFFFF 32 ms) (λ base hb.
-    then_holds (IsWithin 32 (0xE0000000 - base) 32) IsRegion _ _ (number_holds (InRegion index Size) 32 (0xE0000000 - base) 32 ms) (λ size hs.
-    then_any IsRegion _ _ (λ kind. then_any IsRegion _ _ (λ side. is_region_of base size kind side hb hs))))
+-- a region behind its base, its size, and its kind
+module _ (index : ℕ) (ms : Members) where
+  abbrev sided : ℕ → ℕ → RegionKind → RegionSide → Read Region
+  sided base size kind side = Ok (record { base = base; size = size; kind = kind; side = side })
+
+  abbrev with_kind : ℕ → ℕ → RegionKind → Read Region
+  with_kind base size kind = side_at (InRegion index keys.Side) ms >>= sided base size kind
+
+  abbrev with_size : ℕ → ℕ → Read Region
+  with_size base size = kind_at (InRegion index keys.Kind) ms >>= with_kind base size
+
+  abbrev with_base : ℕ → Read Region
+  with_base base = bounded_number_at (InRegion index keys.Size) 32 (0xE0000000 - base) 32 ms >>= with_size base
+
+  region_holds : Holds IsRegion (region_in index ms)
+  region_holds =
+      then_holds (IsWithin 0 0xFFFFFFFF 32) IsRegion (bounded_number_at (InRegion index keys.Base) 0 0xFFFFFFFF 32 ms) with_base (number_holds (InRegion index keys.Base) 0 0xFFFFFFFF 32 ms) (λ base hb.
+      then_holds (IsWithin 32 (0xE0000000 - base) 32) IsRegion (bounded_number_at (InRegion index keys.Size) 32 (0xE0000000 - base) 32 ms) (with_size base) (number_holds (InRegion index keys.Size) 32 (0xE0000000 - base) 32 ms) (λ size hs.
+      then_any IsRegion (kind_at (InRegion index keys.Kind) ms) (with_kind base size) (λ kind.
+      then_any IsRegion (side_at (InRegion index keys.Side) ms) (sided base size kind) (λ side. is_region_of base size kind side hb hs))))
 
 abbrev AreRegions : List Region → Type 0
 AreRegions rs = are_regions rs ≡ true
@@ -82,11 +102,16 @@ each_holds : (index : ℕ) (tables : List Members) → Holds AreRegions (each re
 unfolding each
 each_holds index [] = refl
 each_holds index (table ∷ more) =
-    then_holds IsRegion AreRegions (region_in index table) _ (region_holds index table) (λ x hx.
-    then_holds AreRegions AreRegions (each region_in (index + 1) more) _ (each_holds (index + 1) more) (λ xs hs. and_from (is_region x) (are_regions xs) hx hs))
+    then_holds IsRegion AreRegions (region_in index table) (λ (x : Region). each region_in (index + 1) more >>= (λ (xs : List Region). Ok (x ∷ xs))) (region_holds index table) (λ x hx.
+    then_holds AreRegions AreRegions (each region_in (index + 1) more) (λ (xs : List Region). Ok (x ∷ xs)) (each_holds (index + 1) more) (λ xs hs. and_from (is_region x) (are_regions xs) hx hs))
+
+listed_hold : (d : Data) → Holds AreRegions (regions_listed d)
+listed_hold d =
+    then_any AreRegions (tables_in (Top keys.Region) d) (λ (all : List Members). some_table all >>= (λ (tables : List Members). each region_in 0 tables)) (λ all.
+    then_any AreRegions (some_table all) (λ (tables : List Members). each region_in 0 tables) (λ tables. each_holds 0 tables))
 
 regions_hold : (ms : Members) → Holds AreRegions (regions_at ms)
-regions_hold ms = then_any AreRegions _ regions_listed (λ d. then_any AreRegions _ _ (λ all. then_any AreRegions _ _ (λ tables. each_holds 0 tables)))
+regions_hold ms = then_any AreRegions (required (Top keys.Region) (found_at (Top keys.Region) ms)) regions_listed listed_hold
 
 -- ---- boards
 
@@ -104,17 +129,28 @@ small_holds false r e h k = k
 limits_hold : (b : BoardValue) → HasRegions b → Holds HasRegions (within_limits b)
 limits_hold b h = small_holds (is_small b) (without_overlap (first_overlap [] b.regions) b) _ (apart_holds (first_overlap [] b.regions) b h) tt
 
-board_holds : (ms : Members) → Holds HasRegions (board_in ms)
-unfolding board_in
-board_holds ms =
-    then_any HasRegions _ _ (λ numbers.
-    then_any HasRegions _ _ (λ profile.
-    then_holds AreRegions HasRegions (regions_at ms) _ (regions_hold ms) (λ regions h.
-    then_any HasRegions _ _ (λ sau. limits_hold (board_with numbers profile regions sau) h))))
+-- a board behind its numbers, its profile, and its regions
+module _ (ms : Members) where
+  abbrev with_regions : Numbers → Profile → List Region → Read BoardValue
+  with_regions numbers profile regions = sau_at ms >>= (λ (sau : List SauRegion). within_limits (board_with numbers profile regions sau))
+
+  abbrev with_profile : Numbers → Profile → Read BoardValue
+  with_profile numbers profile = regions_at ms >>= with_regions numbers profile
+
+  abbrev with_numbers : Numbers → Read BoardValue
+  with_numbers numbers = profile_at (Top keys.Profile) ms >>= with_profile numbers
+
+  board_holds : Holds HasRegions (board_in ms)
+  unfolding board_in
+  board_holds =
+      then_any HasRegions (numbers_at ms) with_numbers (λ numbers.
+      then_any HasRegions (profile_at (Top keys.Profile) ms) (with_profile numbers) (λ profile.
+      then_holds AreRegions HasRegions (regions_at ms) (with_regions numbers profile) (regions_hold ms) (λ regions h.
+      then_any HasRegions (sau_at ms) (λ (sau : List SauRegion). within_limits (board_with numbers profile regions sau)) (λ sau. limits_hold (board_with numbers profile regions sau) h))))
 
 file_holds : (bytes : List ℕ) → Holds HasRegions (board_of bytes)
 unfolding board_of
-file_holds bytes = then_any HasRegions _ board_in board_holds
+file_holds bytes = then_any HasRegions (documented (document_of bytes)) board_in board_holds
 
 demo_holds : HasRegions demo
 unfolding demo
@@ -127,7 +163,7 @@ gives_both : {A B C : Type 0} (t : Told A) (u : A → Told B) (join : A → B �
     → (x : A) × (y : B) × (t ≡ Gives x) × (join x y ≡ z)
 gives_both Unknown u join z h = absurd (cc)
 gives_both (Stops stop) u join z h = absurd (cc)
-gives_both {B = B} {C = C} (Gives x) u join z h = by_next (u x) h
+gives_both {A = A} {B = B} {C = C} (Gives x) u join z h = by_next (u x) h
   where
     by_next : (v : Told B) → told_then v (λ y. Gives (join x y)) ≡ Gives z → (w : A) × (y : B) × (◌≡◌ {A = Told A} (Gives x) (Gives w)) × (join w y ≡ z)
     by_next Unknown e = absurd (cc)
