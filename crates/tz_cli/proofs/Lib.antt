@@ -12,6 +12,7 @@ pub mod FileNames
 pub mod Differences
 pub mod Clauses
 pub mod PairClauses
+pub mod Regions
 pub mod RunClauses
 pub mod Exits
 pub mod Settling

@@ -3,6 +3,7 @@ use Rattle.std.proofs.Common.{◌≡◌, ℕ, zero, suc, ◌+◌, ◌<◌, Bool,
 use Rattle.std.specs.Prelude.{nat_lt}
 use Rattle.std.proofs.lemmas.List.{append_cancel_left}
 use Rattle.tz_model.specs.declared.report.View.{View}
+use Rattle.tz_model.specs.Board.{BoardValue, are_regions}
 use Rattle.tz_model.specs.Outside.{Held, Gains}
 use Rattle.tz_state.specs.State.{State}
 use Rattle.tz_sem.specs.Step.{step}
@@ -13,8 +14,9 @@ use Rattle.tz_run.specs.Events.{events_of}
 use Rattle.tz_gates.specs.Gates.{gates_of}
 use Rattle.tz_gates.specs.Entries.{entries_at}
 use Rattle.tz_gates.specs.GatesText.{gates_text}
-use Rattle.tz_gates.specs.Stays.{KeepsGatesFor, HasEvenPcFor}
-use Rattle.tz_gates.proofs.Elsewhere.{none_elsewhere}
+use Rattle.tz_gates.specs.Stays.{KeepsGatesFor}
+use Rattle.tz_gates.proofs.Exact.{no_others}
+use Rattle.tz_gates.proofs.Starting.{boot_board, boot_even}
 use Rattle.tz_snap.specs.StateFile.{file_of}
 use Rattle.tz_cli.specs.StartWords.{StartWords}
 use Rattle.tz_cli.specs.Resume.{ResumeWords}
@@ -24,6 +26,7 @@ use Rattle.tz_cli.specs.Starts.{Start, SavedStart, state_of}
 use Rattle.tz_cli.specs.Tasks.{Task, told, begin_told, counted_gates, gates_task, snap_task, end_of, resume_told, resume_next, resumed_text}
 use Rattle.tz_cli.specs.Answer.{Call, Answer, told_of}
 use Rattle.tz_cli.proofs.Clauses.{no_stop, task_written}
+use Rattle.tz_cli.proofs.Regions.{begun_regions}
 
 -- what is settled of a command by what it begins with
 told_by : {A : Type 0} (held : List ℕ → Held) (o : Option Command) (command : Command) (t : Told A) (next : A → Told Task) (x : A)
@@ -38,13 +41,15 @@ gates_written c result a is s e start gives =
     (task_written c result a (omega arith) (gates_task s start) (told_by c.shelf.held c.command (Gates s) (begin_told c.shelf.held s) (λ x. Gives (gates_task s x)) start e refl gives)).1
 
 pub none_unlisted : (c : Call) (result : ℕ) → Answer c result → result ≡ 0 → (s : StartWords) → c.command ≡ Some (Gates s) → (start : Start) → begin_told c.shelf.held s ≡ Gives start
-    → KeepsGatesFor (state_of start) (events_of start.script) (state_of start) s.steps → HasEvenPcFor (events_of start.script) (state_of start) s.steps
+    → KeepsGatesFor (state_of start) (events_of start.script) (state_of start) s.steps
     → Gains c.out.old c.out.new (gates_text (gates_of (state_of start)) (map (entries_at (events_of start.script) 0 (state_of start) s.steps) (gates_of (state_of start))) 0)
-none_unlisted c result a is s e start gives keeps even =
+none_unlisted c result a is s e start gives keeps =
     let events = events_of start.script in
     let gates = gates_of (state_of start) in
+    let regions : are_regions (state_of start).bus.board.regions ≡ true =
+    ap (λ (b : BoardValue). are_regions b.regions) (boot_board start.board start.secure start.nonsecure) ∙ begun_regions c.shelf.held s start gives in
     subst (λ (n : ℕ). Gains c.out.old c.out.new (gates_text gates (map (entries_at events 0 (state_of start) s.steps) gates) n))
-    (none_elsewhere (state_of start) events (state_of start) s.steps keeps even) (gates_written c result a is s e start gives)
+    (no_others (state_of start) gates events (state_of start) s.steps regions refl keeps (boot_even start.board start.secure start.nonsecure)) (gates_written c result a is s e start gives)
 
 -- ---- states
 

@@ -10,7 +10,7 @@ ghost use Rattle.tz_sem.specs.Run.{state_after};
 ghost use Rattle.tz_gates.specs.Gates.{gates_of};
 ghost use Rattle.tz_gates.specs.Entries.{entries_at};
 ghost use Rattle.tz_gates.specs.GatesText.{gates_text};
-ghost use Rattle.tz_gates.specs.Stays.{KeepsGatesFor, HasEvenPcFor};
+ghost use Rattle.tz_gates.specs.Stays.{KeepsGatesFor};
 ghost use Rattle.tz_snap.specs.StateFile.{file_of};
 ghost use Rattle.std.specs.String.{string_bytes};
 ghost use Rattle.tz_table.specs.declared.units.Side.TheVariants.{Secure};
@@ -115,7 +115,7 @@ pub fn top<H: Shelf, O: Sink, E: Sink>(
     ensures gates { result ≡ 0 → (s : StartWords) → command_of (map string_bytes words.now) ≡ Some (Gates s) → (start : Start) → begin_told (H.held shelf.old) s ≡ Gives start →
         Gains (O.written out.old) (O.written out.new) (counted_gates (events_of start.script) (state_of start) s.steps (gates_of (state_of start))) }
     ensures unlisted { result ≡ 0 → (s : StartWords) → command_of (map string_bytes words.now) ≡ Some (Gates s) → (start : Start) → begin_told (H.held shelf.old) s ≡ Gives start →
-        KeepsGatesFor (state_of start) (events_of start.script) (state_of start) s.steps → HasEvenPcFor (events_of start.script) (state_of start) s.steps →
+        KeepsGatesFor (state_of start) (events_of start.script) (state_of start) s.steps →
         Gains (O.written out.old) (O.written out.new) (gates_text (gates_of (state_of start)) (map (entries_at (events_of start.script) 0 (state_of start) s.steps) (gates_of (state_of start))) 0) }
 
     // At status 0 of `snap` the file of the state after all steps is written. At status 0 of `resume` the lines are
