@@ -1,14 +1,116 @@
--- How many words a file has.
-use Rattle.std.proofs.Common.{◌≡◌, ℕ, ◌+◌, ◌*◌, ◌^◌, ◌<◌, ◌≤◌, ◌&&◌, nat_le, List, length, None, get_or, sym, ap, ◌∙◌, arith, length-append}
+-- How many words a state has.
+use Rattle.std.proofs.Common.{◌≡◌, ℕ, zero, suc, ◌+◌, ◌*◌, ◌/◌, ◌<◌, ◌≤◌, nat_le, ◌^◌, List, [], ◌∷◌, ◌++◌, length, map, None, get_or, refl, sym, ap, ◌∙◌, arith, length-append}
 use Rattle.std.specs.Prelude.{slice_get}
+use Rattle.std.specs.List.{range_with_len}
 use Rattle.std.proofs.lemmas.Bool.{and_parts, leb-true}
 use Rattle.std.proofs.lemmas.Option.{none-some, slice_get-get_or, slice_get_past}
+use Rattle.std.proofs.lemmas.List.{length-map}
+use Rattle.std.proofs.lemmas.List.Sums.{sum_by-cons}
+use Rattle.std.proofs.lemmas.List.FromFn.{length-range_with_len}
+use Rattle.tz_table.specs.declared.units.Side.TheVariants.{Secure, NonSecure}
+use Rattle.tz_model.specs.declared.board.Region.{Region}
 use Rattle.tz_model.specs.Board.{BoardValue, IsBoard, bytes_of, most_bytes, within}
+use Rattle.tz_state.specs.Memory.{Memory}
 use Rattle.tz_state.specs.State.{State}
-use Rattle.tz_core.specs.StateWords.{state_words, word_count}
-use Rattle.tz_core.proofs.Indexed.{length_state, memory_small}
+use Rattle.tz_state.specs.Slots.{first_interrupt_place}
+use Rattle.tz_core.specs.declared.fields.Field.TheVariants.{Running, Banked, Shared}
+use Rattle.tz_core.specs.Fields.{fields, slot_places, system_places, running_fields, banked_fields, banked_last, shared_fields, shared_last, mpu_region_fields, sau_region_fields}
+use Rattle.tz_core.specs.StateWords.{word_of, slot_word, words_from, memory_words, state_words, field_count, memory_count, word_count}
 use Rattle.tz_snap.specs.StateFile.{file_words, head_words, head_count}
 use Rattle.tz_snap.proofs.HeadWords.{length_head}
+
+-- ---- the words of a state are as many as its board says
+
+mpu_regions : (k n : ℕ) → length (mpu_region_fields k n) ≡ 2 * n
+unfolding mpu_region_fields
+mpu_regions k zero = refl
+mpu_regions k (suc n) = let more = mpu_regions (k + 1) n in omega arith
+
+sau_regions : (k n : ℕ) → length (sau_region_fields k n) ≡ 2 * n
+unfolding sau_region_fields
+sau_regions k zero = refl
+sau_regions k (suc n) = let more = sau_regions (k + 1) n in omega arith
+
+banked_count : (n : ℕ) → length (banked_fields n) ≡ 21 + 2 * n
+unfolding banked_fields
+banked_count n =
+    let regions = mpu_regions 0 n in
+    let behind = length-append (mpu_region_fields 0 n) banked_last in
+    omega arith
+
+shared_count : (n : ℕ) → length (shared_fields n) ≡ 9 + 2 * n
+unfolding shared_fields
+shared_count n =
+    let regions = sau_regions 0 n in
+    let behind = length-append (sau_region_fields 0 n) shared_last in
+    omega arith
+
+fields_count : (b : BoardValue) → length (fields b) ≡ field_count b
+unfolding fields
+fields_count b =
+    let secure = map (Banked Secure) (banked_fields b.mpu_secure) in
+    let nonsecure = map (Banked NonSecure) (banked_fields b.mpu_nonsecure) in
+    let shared = map Shared (shared_fields b.sau_regions) in
+    let one = length-append (map Running running_fields) (secure ++ (nonsecure ++ shared)) in
+    let two = length-append secure (nonsecure ++ shared) in
+    let three = length-append nonsecure shared in
+    let a = length-map running_fields Running in
+    let b' = length-map (banked_fields b.mpu_secure) (Banked Secure) in
+    let c = length-map (banked_fields b.mpu_nonsecure) (Banked NonSecure) in
+    let d = length-map (shared_fields b.sau_regions) Shared in
+    let e = banked_count b.mpu_secure in
+    let f = banked_count b.mpu_nonsecure in
+    let g = shared_count b.sau_regions in
+    omega arith
+
+slots_count : (n : ℕ) → length (slot_places n) ≡ 15 + n
+unfolding slot_places
+slots_count n =
+    let all = length-append system_places (range_with_len first_interrupt_place n) in
+    let external = length-range_with_len first_interrupt_place n in
+    omega arith
+
+from_count : (m : Memory) (a n : ℕ) → length (words_from m a n) ≡ n
+unfolding words_from
+from_count m a zero = refl
+from_count m a (suc n) = let more = from_count m (a + 4) n in omega arith
+
+memory_words_count : (m : Memory) (rs : List Region) → length (memory_words m rs) ≡ memory_count rs
+unfolding memory_words
+memory_words_count m [] = refl
+memory_words_count m (r ∷ rs) =
+    let apart = sum_by-cons (λ (q : Region). q.size / 4) r rs in
+    let both = length-append (words_from m r.base (r.size / 4)) (memory_words m rs) in
+    let here = from_count m r.base (r.size / 4) in
+    let more = memory_words_count m rs in
+    omega arith
+
+pub state_count : (s : State) → length (state_words s) ≡ word_count s.bus.board
+unfolding state_words
+state_count s =
+    let b = s.bus.board in
+    let some = map (word_of s) (fields b) in
+    let slots = map (slot_word s.exceptions) (slot_places b.interrupts) in
+    let memory = memory_words s.bus.memory b.regions in
+    let one = length-append some (slots ++ memory) in
+    let two = length-append slots memory in
+    let c = length-map (fields b) (word_of s) in
+    let d = length-map (slot_places b.interrupts) (slot_word s.exceptions) in
+    let e = fields_count b in
+    let f = slots_count b.interrupts in
+    let g = memory_words_count s.bus.memory b.regions in
+    omega arith
+
+-- ---- and they are few
+
+-- words of memory are no more than its bytes
+memory_small : (rs : List Region) → memory_count rs ≤ bytes_of rs
+memory_small [] = omega arith
+memory_small (r ∷ rs) =
+    let rest = memory_small rs in
+    let words = sum_by-cons (λ (q : Region). q.size / 4) r rs in
+    let bytes = sum_by-cons (λ (q : Region). q.size) r rs in
+    omega arith
 
 -- a board's words of a state and the head before them are few
 pub few_words : (b : BoardValue) → IsBoard b → head_count b + word_count b < 2 ^ 24
@@ -32,7 +134,7 @@ file_words_count : (s : State) (n : ℕ) → length (file_words s n) ≡ head_co
 unfolding file_words
 file_words_count s n =
     let all = length-append (head_words s.bus.board n) (state_words s) in
-    let state = length_state s in
+    let state = state_count s in
     omega arith
 
 -- below their number a word is there, and from it on none is
