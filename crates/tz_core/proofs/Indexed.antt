@@ -1,11 +1,11 @@
 -- The word of an index among all words: of a field, of a slot, of memory.
-use Rattle.std.proofs.Common.{◌≡◌, ℕ, zero, suc, ◌+◌, ◌-◌, ◌*◌, ◌/◌, ◌%◌, ◌^◌, ◌<◌, ◌≤◌, Bool, true, false, List, [], ◌∷◌, ◌++◌, length, get_or, drop, take, Option, Some, None, slice_get, refl, sym, ap, ◌∙◌, subst, arith}
-use Rattle.std.specs.Prelude.{map, sum_by}
+use Rattle.std.proofs.Common.{◌≡◌, ℕ, zero, suc, ◌+◌, ◌*◌, ◌/◌, ◌%◌, ◌<◌, ◌≤◌, true, false, List, [], ◌∷◌, ◌++◌, length, get_or, drop, take, Some, None, slice_get, refl, sym, ap, ◌∙◌, subst, arith}
+use Rattle.std.specs.Prelude.{map}
 use Rattle.std.proofs.lemmas.List.{length-append, length-map}
 use Rattle.std.proofs.lemmas.List.Sums.{sum_by-cons, sum_by-take-le, sum_by_more_le}
 use Rattle.std.proofs.lemmas.Bool.Decides.{nat_tests}
 use Rattle.tz_model.specs.declared.board.Region.{Region}
-use Rattle.tz_model.specs.Board.{BoardValue, in_region, is_region, are_regions, bytes_of}
+use Rattle.tz_model.specs.Board.{in_region, is_region, are_regions, bytes_of}
 use Rattle.tz_state.specs.Access.{is_mapped}
 use Rattle.tz_state.specs.Memory.{Memory, word_at}
 use Rattle.tz_state.specs.State.{State}
@@ -96,9 +96,9 @@ mapped_in (q ∷ rs) zero a r e is =
     let holds : in_region q a ≡ true = ap (λ (x : Region). in_region x a) same ∙ is in
     rw holds refl
 mapped_in (q ∷ rs) (suc i) a r e is = elim (in_region q a) as (λ b. in_region q a ≡ b → is_mapped (q ∷ rs) a ≡ true) [
-      | true ↦ λ h. rw h refl
-      | false ↦ λ h. rw h (mapped_in rs i a r e is)
-    ] refl
+  | true ↦ λ h. rw h refl
+  | false ↦ λ h. rw h (mapped_in rs i a r e is)
+] refl
 
 -- what a region of a board meets
 pub record IsBlock (r : Region) : Type 0 where
@@ -134,3 +134,23 @@ memory_whole rs i small =
     let part = sum_by-take-le (λ (x : Region). x.size / 4) rs i in
     let all = memory_small rs in
     omega (arith, part, all, small)
+
+-- ---- how many words there are
+
+length_memory : (m : Memory) (rs : List Region) → length (memory_words m rs) ≡ memory_count rs
+unfolding memory_words
+length_memory m [] = refl
+length_memory m (r ∷ rs) =
+    length-append (words_from m r.base (r.size / 4)) (memory_words m rs)
+    ∙ (λ i. length_words m r.base (r.size / 4) i + length_memory m rs i)
+    ∙ sym (sum_by-cons (λ (x : Region). x.size / 4) r rs)
+
+pub length_state : (s : State) → length (state_words s) ≡ word_count s.bus.board
+unfolding state_words
+length_state s =
+    let f : length (map (word_of s) (fields s.bus.board)) ≡ field_count s.bus.board = length-map (fields s.bus.board) (word_of s) ∙ length_fields s.bus.board in
+    let e : length (map (slot_word s.exceptions) (slot_places s.bus.board.interrupts)) ≡ slot_count s.bus.board = length-map (slot_places s.bus.board.interrupts) (slot_word s.exceptions) ∙ length_slots s.bus.board.interrupts in
+    let m = length_memory s.bus.memory s.bus.board.regions in
+    let behind = length-append (map (slot_word s.exceptions) (slot_places s.bus.board.interrupts)) (memory_words s.bus.memory s.bus.board.regions) in
+    let all = length-append (map (word_of s) (fields s.bus.board)) (map (slot_word s.exceptions) (slot_places s.bus.board.interrupts) ++ memory_words s.bus.memory s.bus.board.regions) in
+    omega (arith, f, e, m, behind, all)

@@ -1,4 +1,5 @@
 mod Alone
+mod Blank
 mod Indexed
 mod Named
 mod Order

@@ -1,14 +1,16 @@
 -- How words are read one by one: bytes as words, a field or a slot more, a region more.
-use Rattle.std.proofs.Common.{◌≡◌, ℕ, zero, suc, ◌+◌, ◌-◌, ◌*◌, ◌/◌, ◌%◌, ◌^◌, ◌<◌, ◌≤◌, Bool, true, false, List, [], ◌∷◌, ◌++◌, length, get_or, drop, take, Option, Some, None, slice_get, length-drop, get_or-drop, refl, sym, ap, ◌∙◌, subst, arith}
-use Rattle.std.specs.Prelude.{if◌then◌else◌, Result, Ok, Err}
+use Rattle.std.proofs.Common.{◌≡◌, ℕ, zero, suc, ◌+◌, ◌-◌, ◌*◌, ◌/◌, ◌^◌, ◌<◌, ◌≤◌, true, false, List, [], ◌∷◌, length, get_or, drop, take, Some, slice_get, length-drop, get_or-drop, refl, sym, ap, ◌∙◌, subst, arith}
+use Rattle.std.specs.Prelude.{Ok, Err}
 use Rattle.std.specs.Int.{w32, from_le_bytes, to_le_bytes}
+use Rattle.std.proofs.lemmas.List.Sums.{sum_by-cons}
 use Rattle.std.proofs.lemmas.Nat.{le_bytes_4}
 use Rattle.tz_model.specs.declared.board.Region.{Region}
 use Rattle.tz_model.specs.Words.{wrap}
 use Rattle.tz_state.specs.Memory.{Memory, with_byte, with_word, with_bytes}
 use Rattle.tz_state.specs.State.{State}
 use Rattle.tz_core.specs.declared.fields.Field.{Field}
-use Rattle.tz_core.specs.ReadWords.{written, slot_written, fits, slot_fits, read_fields, read_slots, with_words, with_regions, words_of}
+use Rattle.tz_core.specs.ReadWords.{written, slot_written, fits, slot_fits, read_fields, read_slots, with_words, with_regions, words_of, AreWords}
+use Rattle.tz_core.specs.StateWords.{memory_count}
 use Rattle.tz_core.proofs.Indexed.{IsBlock}
 
 -- ---- lists
@@ -42,6 +44,16 @@ dropped_all [] zero l = refl
 dropped_all [] (suc i) l = refl
 dropped_all (x ∷ xs) zero l = absurd (omega arith)
 dropped_all (x ∷ xs) (suc i) l = dropped_all xs i (omega arith)
+
+pub taken_all : {X : Type 0} (xs : List X) (n : ℕ) → length xs ≤ n → take n xs ≡ xs
+taken_all [] zero l = refl
+taken_all [] (suc n) l = refl
+taken_all (x ∷ xs) zero l = absurd (omega arith)
+taken_all (x ∷ xs) (suc n) l = ap (λ ys. x ∷ ys) (taken_all xs n (omega arith))
+
+-- all from an offset on
+pub rest_of : {X : Type 0} (xs : List X) (i : ℕ) → take (length xs - i) (drop i xs) ≡ drop i xs
+rest_of xs i = let size = length-drop i xs in taken_all (drop i xs) (length xs - i) (omega (arith, size))
 
 -- ---- bytes as words
 
@@ -116,12 +128,12 @@ four_bytes m a p q r t hp hq hr ht =
     let all : (i : ℕ) → get_or (p ∷ q ∷ r ∷ t ∷ []) i 0 < 256 = each in
     let back : to_le_bytes w32 (from_le_bytes w32 (p ∷ q ∷ r ∷ t ∷ [])) ≡ p ∷ q ∷ r ∷ t ∷ [] = le_bytes_4 (p ∷ q ∷ r ∷ t ∷ []) (from_le_bytes w32 (p ∷ q ∷ r ∷ t ∷ [])) refl all refl in
     ap (λ bs. with_byte (with_byte (with_byte (with_byte m a (get_or bs 0 0)) (wrap (a + 1)) (get_or bs 1 0)) (wrap (a + 2)) (get_or bs 2 0)) (wrap (a + 3)) (get_or bs 3 0)) back where
-  each : (i : ℕ) → get_or (p ∷ q ∷ r ∷ t ∷ []) i 0 < 256
-  each zero = hp
-  each (suc zero) = hq
-  each (suc (suc zero)) = hr
-  each (suc (suc (suc zero))) = ht
-  each (suc (suc (suc (suc i)))) = omega arith
+      each : (i : ℕ) → get_or (p ∷ q ∷ r ∷ t ∷ []) i 0 < 256
+      each zero = hp
+      each (suc zero) = hq
+      each (suc (suc zero)) = hr
+      each (suc (suc (suc zero))) = ht
+      each (suc (suc (suc (suc i)))) = omega arith
 
 pub words_over : (m : Memory) (a n k : ℕ) (bs : List ℕ) → k ≡ 4 * n → k ≤ length bs → a + k < 2 ^ 32 → ((i : ℕ) → get_or bs i 0 < 256) → with_words m a n (words_of bs) ≡ with_bytes m a (take k bs)
 unfolding with_words words_of with_bytes
@@ -140,10 +152,18 @@ words_over m a (suc n) (suc (suc (suc (suc k)))) (p ∷ q ∷ r ∷ t ∷ bs) e 
     let last : wrap (wrap (wrap (wrap (a + 1) + 1) + 1) + 1) ≡ a + 4 = omega arith in
     let put : Memory → ℕ → ℕ → ℕ → Memory = λ n x y z. with_bytes (with_byte (with_byte n x r) y t) z (take k bs) in
     let here : put (with_byte (with_byte m a p) (wrap (a + 1)) q) (wrap (a + 2)) (wrap (a + 3)) (a + 4) ≡ with_bytes m a (take (suc (suc (suc (suc k)))) (p ∷ q ∷ r ∷ t ∷ bs)) =
-        sym (λ i. put (with_byte (with_byte m a p) (wrap (a + 1)) q) (third i) (fourth i) (last i))
+    sym (λ i. put (with_byte (with_byte m a p) (wrap (a + 1)) q) (third i) (fourth i) (last i))
     in
     words_over (with_word m a (from_le_bytes w32 (p ∷ q ∷ r ∷ t ∷ []))) (a + 4) n k bs (omega arith) (omega arith) (omega arith) (λ i. h (suc (suc (suc (suc i)))))
     ∙ ap (λ x. with_bytes x (a + 4) (take k bs)) (four_bytes m a p q r t (h 0) (h 1) (h 2) (h 3)) ∙ here
+
+-- the bytes from an offset on hold a region more
+pub region_fits : (rs : List Region) (i n at all : ℕ) (r : Region) → n ≡ i + 1 → slice_get rs i ≡ Some r → IsBlock r → at + 4 * memory_count (drop i rs) ≡ all → (at + r.size + 4 * memory_count (drop n rs) ≡ all)
+region_fits rs i n at all r e is block f =
+    let first : memory_count (drop i rs) ≡ r.size / 4 + memory_count (drop n rs) =
+    ap memory_count (drop_at rs i n r e is) ∙ sum_by-cons (λ (x : Region). x.size / 4) r (drop n rs)
+    in
+    omega (arith, first, f, block.size)
 
 -- the words of a region, of the bytes from an offset on
 pub region_read : (m : Memory) (rs : List Region) (i n at end : ℕ) (r : Region) (bs : List ℕ) → n ≡ i + 1 → slice_get rs i ≡ Some r → IsBlock r → end ≡ at + r.size → end ≤ length bs → ((j : ℕ) → get_or bs j 0 < 256) →
@@ -153,13 +173,30 @@ region_read m rs i n at end r bs e is block f l h =
     let size = length-drop at bs in
     let words : r.size ≡ 4 * (r.size / 4) = omega (arith, block.size) in
     let put : with_words m r.base (r.size / 4) (words_of (drop at bs)) ≡ with_bytes m r.base (take r.size (drop at bs)) =
-        words_over m r.base (r.size / 4) r.size (drop at bs) words (omega (arith, size)) (omega (arith, block.low)) (λ j. rw (get_or-drop at bs j 0) (h (at + j)))
+    words_over m r.base (r.size / 4) r.size (drop at bs) words (omega (arith, size)) (omega (arith, block.low)) (λ j. rw (get_or-drop at bs j 0) (h (at + j)))
     in
     let rest : drop (r.size / 4) (words_of (drop at bs)) ≡ words_of (drop end bs) =
-        sym (drop_words (r.size / 4) r.size (drop at bs) words (omega (arith, size))) ∙ ap words_of (drop_twice at r.size end bs f)
+    sym (drop_words (r.size / 4) r.size (drop at bs) words (omega (arith, size))) ∙ ap words_of (drop_twice at r.size end bs f)
     in
     ap (λ qs. with_regions m qs (words_of (drop at bs))) (drop_at rs i n r e is) ∙ (λ i. with_regions (put i) (drop n rs) (rest i))
 
 pub regions_end : (m : Memory) (rs : List Region) (i : ℕ) (ws : List ℕ) → length rs ≤ i → with_regions m (drop i rs) ws ≡ m
 unfolding with_regions
 regions_end m rs i ws l = rw (dropped_all rs i l) refl
+
+-- ---- words of bytes are numbers of 32 bits
+
+word_small : (p q r t : ℕ) → p < 256 → q < 256 → r < 256 → t < 256 → from_le_bytes w32 (p ∷ q ∷ r ∷ t ∷ []) < 2 ^ 32
+word_small p q r t hp hq hr ht = omega arith
+
+pub words_small : (bs : List ℕ) → ((k x : ℕ) → slice_get bs k ≡ Some x → x < 256) → AreWords (words_of bs)
+unfolding words_of
+words_small [] h k w e = absurd cc
+words_small (p ∷ []) h k w e = absurd cc
+words_small (p ∷ q ∷ []) h k w e = absurd cc
+words_small (p ∷ q ∷ r ∷ []) h k w e = absurd cc
+words_small (p ∷ q ∷ r ∷ t ∷ bs) h zero w e =
+    let small = word_small p q r t (h 0 p refl) (h 1 q refl) (h 2 r refl) (h 3 t refl) in
+    let same : from_le_bytes w32 (p ∷ q ∷ r ∷ t ∷ []) ≡ w = cc in
+    subst (λ x. x < 2 ^ 32) same small
+words_small (p ∷ q ∷ r ∷ t ∷ bs) h (suc k) w e = words_small bs (λ j x g. h (suc (suc (suc (suc j)))) x g) k w e

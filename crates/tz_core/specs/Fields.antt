@@ -1,8 +1,7 @@
 -- The fields of a state that have a word of their own, in the order of their words: what runs, the Secure side, the
 -- Non-secure side, what both share.
-use Rattle.std.specs.Prelude.{ℕ, zero, suc, ◌+◌, ◌*◌, List, [], ◌∷◌, ◌++◌, map}
+use Rattle.std.specs.Prelude.{ℕ, zero, suc, ◌+◌, List, [], ◌∷◌, ◌++◌, map}
 use Rattle.std.specs.List.{range_with_len}
-use Rattle.tz_table.specs.declared.units.Side.{Side}
 use Rattle.tz_table.specs.declared.units.Side.TheVariants.{Secure, NonSecure}
 use Rattle.tz_model.specs.Board.{BoardValue}
 use Rattle.tz_core.specs.declared.fields.Field.{Field}

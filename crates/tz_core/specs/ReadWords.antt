@@ -1,6 +1,6 @@
 -- A state from its words. A word is in range where it is a value that its field can hold: written to the field, of which
 -- each keeps the bits that it has, it reads back.
-use Rattle.std.specs.Prelude.{ℕ, zero, suc, ◌+◌, ◌*◌, ◌/◌, ◌%◌, ◌^◌, ◌<◌, ◌≡◌, ◌==◌, Bool, true, false, not, ◌&&◌, nat_lt, if◌then◌else◌, List, [], ◌∷◌, length, drop, slice_get, slice_set, bit_and, Option, Some, None, is_some, Result, Ok, Err, ⊤}
+use Rattle.std.specs.Prelude.{ℕ, zero, suc, ◌+◌, ◌*◌, ◌/◌, ◌%◌, ◌^◌, ◌<◌, ◌≡◌, ◌==◌, Bool, false, not, ◌&&◌, nat_lt, if◌then◌else◌, List, [], ◌∷◌, length, drop, slice_get, slice_set, bit_and, Option, Some, None, is_some, Result, Ok, Err, ⊤}
 use Rattle.std.specs.FinMap.{get}
 use Rattle.std.specs.Int.{w32, from_le_bytes}
 use Rattle.tz_table.specs.declared.units.Side.{Side}
@@ -28,8 +28,8 @@ use Rattle.tz_state.specs.declared.units.SauRegister.TheVariants as sau
 use Rattle.tz_state.specs.Access.{is_mapped}
 use Rattle.tz_state.specs.Memory.{Memory, byte_at, with_word}
 use Rattle.tz_state.specs.SlotChanges.{with_prigroup, with_timer, is_fault_side_held}
-use Rattle.tz_state.specs.Slots.{ExceptionsValue, places, first_interrupt_place, idle, at, with_slot, is_place, exception_number, is_always_enabled, has_fixed_priority, timer_of, reset_exceptions}
-use Rattle.tz_state.specs.State.{State, Bus, mpu_of, with_mpu, with_core, with_bus, with_exceptions, with_registers, with_monitor}
+use Rattle.tz_state.specs.Slots.{places, first_interrupt_place, idle, at, with_slot, is_place, exception_number, is_always_enabled, has_fixed_priority, timer_of, reset_exceptions}
+use Rattle.tz_state.specs.State.{State, mpu_of, with_mpu, with_core, with_bus, with_exceptions, with_registers, with_monitor}
 use Rattle.tz_state.specs.SysTickBits.{syst_csr_bits}
 use Rattle.tz_state.specs.UnitRegisters.{with_rbar, with_rlar, with_sau_value, with_mpu_value, rlar_bits, reset_bus}
 use Rattle.tz_state.specs.Zeros.{zero_memory}
@@ -44,7 +44,7 @@ use Rattle.tz_core.specs.declared.fields.BankedField.TheVariants.{Msp, Psp, Mspl
 use Rattle.tz_core.specs.declared.fields.SharedField.{SharedField}
 use Rattle.tz_core.specs.declared.fields.SharedField.TheVariants.{SauCtrl, SauRnr, SauRbar, SauRlar, Sfsr, Sfar, Bfsr, Bfar, Hfsr, Pris, Bfhfnmins}
 use Rattle.tz_core.specs.Fields.{fields, slot_places}
-use Rattle.tz_core.specs.StateWords.{word_of, slot_word, held_address, field_count, slot_count, word_count}
+use Rattle.tz_core.specs.StateWords.{word_of, slot_word, held_address, field_count, slot_count}
 
 -- ---- numbers as values
 

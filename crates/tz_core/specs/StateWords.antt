@@ -1,5 +1,5 @@
 -- A state as words: a field each, then a slot each, then the bytes of the board's regions, four to a word.
-use Rattle.std.specs.Prelude.{ℕ, zero, suc, ◌+◌, ◌*◌, ◌/◌, ◌^◌, Bool, List, [], ◌∷◌, ◌++◌, map, sum_by, slice_index, Option, Some, None}
+use Rattle.std.specs.Prelude.{ℕ, zero, suc, ◌+◌, ◌*◌, ◌/◌, ◌^◌, List, [], ◌∷◌, ◌++◌, map, sum_by, slice_index, Option, Some, None}
 use Rattle.tz_table.specs.declared.units.Side.{Side}
 use Rattle.tz_table.specs.declared.units.Size.{Size}
 use Rattle.tz_table.specs.declared.units.Size.TheVariants.{Byte, Half, Word}

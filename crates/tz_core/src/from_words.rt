@@ -1,6 +1,8 @@
 //! A machine from its words: memory first, then each field and each slot, whose word has to be one that it can hold.
 
-ghost use Rattle.std.specs.Prelude.{◌≡◌, ◌≤◌, ◌+◌, ◌*◌, Ok, Err, Some, MatchResult, IfOk, length, drop, slice_get};
+ghost use Rattle.std.specs.Prelude.{◌≡◌, ◌≤◌, ◌+◌, ◌*◌, Ok, Err, Some, MatchResult, IfOk, true, length, drop, take, slice_get};
+ghost use Rattle.tz_model.specs.Board.{are_regions};
+ghost use Rattle.tz_state.specs.Memory.{with_bytes};
 ghost use Rattle.tz_state.specs.State.{with_memory};
 ghost use Rattle.tz_state.specs.Zeros.{zero_memory};
 ghost use Rattle.tz_core.specs.Fields.{fields, slot_places};
@@ -12,7 +14,7 @@ use crate::words::{field_at, field_count, slot_count, slot_place};
 use std::alloc::{AllocError, Global};
 use thiserror::Error;
 use tz_access::Bus;
-use tz_model::{Board, Segment};
+use tz_model::{Board, Region, Segment};
 use tz_nvic::Exceptions;
 use tz_regs::Core;
 
@@ -36,21 +38,35 @@ fn word_at(bytes: &[u8], index: usize) -> u32
     u32::from_le_bytes([bytes[at], bytes[at + 1], bytes[at + 2], bytes[at + 3]])
 }
 
-/// Puts words into the regions of a board, given as bytes.
-fn put_memory(alloc: Global, bus: &mut Bus, board: &Board, bytes: &[u8]) -> Result<(), AllocError>
-    requires { length bytes.now ≡ 4 * memory_count board.now.regions }
-    ensures { IfOk result (λ _. bus.new ≡ with_memory bus.old (with_regions bus.old.memory board.now.regions (words_of bytes.now))) }
+/// Puts the bytes of a region, which stand first.
+fn put_region(alloc: Global, bus: &mut Bus, region: &Region, bytes: &[u8]) -> Result<(), AllocError>
+    requires { region.now.size ≤ length bytes.now }
+    ensures { IfOk result (λ _. bus.new ≡ with_memory bus.old (with_bytes bus.old.memory region.now.base (take region.now.size bytes.now))) }
+{
+    let bytes = Vec::from_slice(alloc, &bytes[..region.size as usize])?;
+    let segment = Segment {
+        base: region.base,
+        bytes,
+    };
+    bus.put_segment(&segment);
+    Ok(())
+}
+
+/// Puts words into regions, given as bytes.
+fn put_memory(
+    alloc: Global,
+    bus: &mut Bus,
+    regions: &[Region],
+    bytes: &[u8],
+) -> Result<(), AllocError>
+    requires blocks { are_regions regions.now ≡ true }
+    requires long { length bytes.now ≡ 4 * memory_count regions.now }
+    ensures { IfOk result (λ _. bus.new ≡ with_memory bus.old (with_regions bus.old.memory regions.now (words_of bytes.now))) }
 {
     let mut at = 0;
-    for region in &board.regions {
-        let end = at + region.size as usize;
-        let bytes = Vec::from_slice(alloc, &bytes[at..end])?;
-        let segment = Segment {
-            base: region.base,
-            bytes,
-        };
-        bus.put_segment(&segment);
-        at = end;
+    for region in regions {
+        put_region(alloc, bus, region, &bytes[at..])?;
+        at += region.size as usize;
     }
     Ok(())
 }
@@ -97,7 +113,7 @@ impl Machine {
     {
         let exceptions = Exceptions::new(alloc, board.interrupts)?;
         let mut bus = Bus::new(alloc, board)?;
-        put_memory(alloc, &mut bus, board, memory)?;
+        put_memory(alloc, &mut bus, &board.regions, memory)?;
         Ok(Machine {
             core: Core::reset(0, 0, 0, 0, false),
             exceptions,

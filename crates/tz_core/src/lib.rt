@@ -24,6 +24,6 @@ mod waiting;
 mod words;
 
 pub use from_words::WordsError;
-pub use laws::words_tell_states;
+pub use laws::words_are_counted;
 pub use running::Machine;
 pub use words::word_count;

@@ -1,6 +1,6 @@
-use Rattle.std.proofs.Common.{◌≡◌, ◌+◌, ◌-◌, ◌*◌, ap, arith}
+use Rattle.std.proofs.Common.{◌≡◌, ◌+◌, ◌-◌, ap, arith}
 use Rattle.tz_model.specs.Board.{BoardValue}
-use Rattle.tz_core.proofs.Order.{running_here, secure_here, nonsecure_here, shared_here}
+use Rattle.tz_core.proofs.Order.{secure_here, nonsecure_here, shared_here}
 use Rattle.tz_core.proofs.words.field_at.Goals as goal
 
 pub returns-then-index-nonsecure : goal.returns-then-index-nonsecure

@@ -1,6 +1,5 @@
-use Rattle.std.proofs.Common.{◌≡◌, ◌≤◌, ℕ, arith}
+use Rattle.std.proofs.Common.{◌≤◌, arith}
 use Rattle.std.proofs.lemmas.Bool.Decides.{nat_tests}
-use Rattle.tz_model.specs.declared.board.Region.{Region}
 use Rattle.tz_model.specs.declared.board.RegionKind.TheVariants.{Rom}
 use Rattle.tz_model.specs.declared.board.RegionSide.TheVariants.{Secure}
 use Rattle.tz_model.specs.Board.{bytes_of}

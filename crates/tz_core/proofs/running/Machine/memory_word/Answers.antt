@@ -1,9 +1,8 @@
-use Rattle.std.proofs.Common.{◌≡◌, ◌+◌, ◌-◌, ◌*◌, ◌/◌, ℕ, get_or, drop, Some, None, slice_get, refl, sym, ap, ◌∙◌, arith}
+use Rattle.std.proofs.Common.{◌+◌, ◌-◌, ◌/◌, get_or, Some, refl, sym, ap, ◌∙◌, arith}
 use Rattle.std.proofs.lemmas.Option.{slice_get-get_or}
 use Rattle.tz_model.specs.declared.board.Region.{Region}
 use Rattle.tz_model.specs.declared.board.RegionKind.TheVariants.{Rom}
 use Rattle.tz_model.specs.declared.board.RegionSide.TheVariants.{Secure}
-use Rattle.tz_core.specs.StateWords.{memory_words}
 use Rattle.tz_core.proofs.Indexed.{memory_here, memory_end, memory_next_region, mapped_in, block_in}
 use Rattle.tz_core.proofs.running.Machine.memory_word.Goals as goal
 

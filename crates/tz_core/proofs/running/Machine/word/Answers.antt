@@ -1,4 +1,4 @@
-use Rattle.std.proofs.Common.{◌≡◌, ◌+◌, ◌-◌, ℕ, Some, None, slice_get, refl, sym, ap, ◌∙◌, arith}
+use Rattle.std.proofs.Common.{◌≡◌, ◌-◌, Some, sym, ap, ◌∙◌, arith}
 use Rattle.tz_model.specs.Board.{BoardValue}
 use Rattle.tz_state.specs.State.{State}
 use Rattle.tz_core.specs.StateWords.{field_count, slot_count}
@@ -20,6 +20,6 @@ returns c =
     let slots : c.slot_count-slots.result ≡ slot_count c.args.self.now.bus.board = rw board at c.slot_count-slots.ensures.is in
     let told = memory_told c.args.self.now c.args.index (c.args.index - c.field_count-fields.result - c.slot_count-slots.result) (omega (arith, fields, slots, c.if-index-fields.false, c.if-index-fields-2.false)) in
     let regions : c.deref.result.now ≡ c.args.self.now.bus.board.regions =
-        c.deref.ensures.value ∙ ap (λ (b : BoardValue). b.regions) c.board.view_is ∙ ap (λ (b : BoardValue). b.regions) board
+    c.deref.ensures.value ∙ ap (λ (b : BoardValue). b.regions) c.board.view_is ∙ ap (λ (b : BoardValue). b.regions) board
     in
     (rw regions at c.memory_word.ensures) ∙ sym told

@@ -1,0 +1,12 @@
+use Rattle.std.proofs.Common.{◌≡◌, ◌+◌, ◌*◌, drop, length}
+use Rattle.tz_state.specs.State.{with_memory}
+use Rattle.tz_core.specs.ReadWords.{with_regions, words_of}
+use Rattle.tz_core.specs.StateWords.{memory_count}
+use Rattle.tz_core.proofs.from_words.put_memory.Given as goal
+
+abbrev pub invariant-loop-region : goal.invariant-loop-region
+invariant-loop-region l =
+    record {
+      told : with_memory l.fn.bus (with_regions l.fn.bus.memory l.regions (words_of l.bytes)) ≡ with_memory l.bus (with_regions l.bus.memory (drop l.region-index l.regions) (words_of (drop l.at l.bytes)));
+      left : l.at + 4 * memory_count (drop l.region-index l.regions) ≡ length l.bytes;
+    }
