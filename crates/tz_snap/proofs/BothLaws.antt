@@ -1,17 +1,17 @@
 -- The two laws of state files.
-use Rattle.std.proofs.Common.{◌≡◌, ℕ, zero, suc, ◌+◌, ◌-◌, ◌*◌, ◌^◌, ◌<◌, ◌≤◌, List, [], ◌∷◌, ◌++◌, length, drop, Some, None, Ok, refl, sym, ap, ◌∙◌, subst, arith, length-drop}
-use Rattle.std.specs.Prelude.{slice_get, slice_index}
+use Rattle.std.proofs.Common.{◌≡◌, ℕ, zero, suc, ◌+◌, ◌<◌, ◌≤◌, List, [], ◌∷◌, ◌++◌, length, drop, Some, Ok, sym, ap, ◌∙◌, arith, length-drop}
+use Rattle.std.specs.Prelude.{slice_get}
 use Rattle.std.proofs.lemmas.Option.{get_or_from_slice_get}
 use Rattle.tz_model.specs.Board.{BoardValue, IsBoard}
 use Rattle.tz_state.specs.State.{State}
 use Rattle.tz_core.specs.StateWords.{state_words, word_count}
 use Rattle.tz_core.specs.ReadWords.{read_words, words_of, AreWords, IsState}
 use Rattle.tz_snap.specs.FileWords.{bytes_of_words}
-use Rattle.tz_snap.specs.StateFile.{SavedState, head_words, head_count, file_words, file_of, file_length, saved_of, most_steps}
-use Rattle.tz_snap.proofs.Words.{AreBytes, drop_words, length_words}
+use Rattle.tz_snap.specs.StateFile.{SavedState, head_words, head_count, file_words, file_of, saved_of, most_steps}
+use Rattle.tz_snap.proofs.Words.{AreBytes, length_words}
 use Rattle.tz_snap.proofs.Counts.{state_count}
 use Rattle.tz_snap.proofs.StateFits.{state_fits}
-use Rattle.tz_snap.proofs.Files.{Accepted, accepted, tests_of, same_bytes}
+use Rattle.tz_snap.proofs.Files.{accepted, tests_of, same_bytes}
 
 pub reads_back : (b : BoardValue) (s : State) (n : ℕ) → IsBoard b → IsState b s → n ≤ most_steps → read_words b (state_words s) ≡ Ok s → saved_of b (file_of s n) ≡ Ok (record { state = s; step = n })
 unfolding file_of file_words

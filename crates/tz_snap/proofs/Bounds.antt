@@ -1,5 +1,5 @@
 -- The first word out of range is one of those that are read.
-use Rattle.std.proofs.Common.{◌≡◌, ◌⊎◌, inl, inr, ⊎_elim, ℕ, suc, ◌+◌, ◌-◌, ◌<◌, ◌≤◌, Bool, true, false, if◌then◌else◌, List, [], ◌∷◌, length, drop, Result, Ok, Err, refl, arith, length-drop}
+use Rattle.std.proofs.Common.{◌≡◌, ◌⊎◌, inl, inr, ⊎_elim, ℕ, ◌+◌, ◌<◌, Bool, true, false, if◌then◌else◌, List, [], ◌∷◌, length, drop, Result, Ok, Err, refl, arith, length-drop}
 use Rattle.tz_model.specs.Board.{BoardValue}
 use Rattle.tz_state.specs.State.{State}
 use Rattle.tz_state.specs.Zeros.{zero_memory}

@@ -1,6 +1,6 @@
 -- How many words a state has.
-use Rattle.std.proofs.Common.{◌≡◌, ℕ, zero, suc, ◌+◌, ◌*◌, ◌/◌, ◌<◌, ◌≤◌, ◌&&◌, nat_le, ◌^◌, List, [], ◌∷◌, ◌++◌, length, map, Some, None, get_or, refl, sym, ap, ◌∙◌, arith, length-append}
-use Rattle.std.specs.Prelude.{slice_get, sum_by}
+use Rattle.std.proofs.Common.{◌≡◌, ℕ, zero, suc, ◌+◌, ◌*◌, ◌/◌, ◌<◌, ◌≤◌, nat_le, ◌^◌, List, [], ◌∷◌, ◌++◌, length, map, None, get_or, refl, sym, ap, ◌∙◌, arith, length-append}
+use Rattle.std.specs.Prelude.{slice_get}
 use Rattle.std.specs.List.{range_with_len}
 use Rattle.std.proofs.lemmas.Bool.{and_parts, leb-true}
 use Rattle.std.proofs.lemmas.Option.{none-some, slice_get-get_or, slice_get_past}
@@ -14,8 +14,8 @@ use Rattle.tz_state.specs.Memory.{Memory}
 use Rattle.tz_state.specs.State.{State}
 use Rattle.tz_state.specs.Slots.{first_interrupt_place}
 use Rattle.tz_core.specs.declared.fields.Field.TheVariants.{Running, Banked, Shared}
-use Rattle.tz_core.specs.Fields.{fields, slot_places, system_places, running_fields, banked_fields, banked_first, banked_last, shared_fields, shared_first, shared_last, mpu_region_fields, sau_region_fields}
-use Rattle.tz_core.specs.StateWords.{word_of, slot_word, words_from, memory_words, state_words, field_count, slot_count, memory_count, word_count}
+use Rattle.tz_core.specs.Fields.{fields, slot_places, system_places, running_fields, banked_fields, banked_last, shared_fields, shared_last, mpu_region_fields, sau_region_fields}
+use Rattle.tz_core.specs.StateWords.{word_of, slot_word, words_from, memory_words, state_words, field_count, memory_count, word_count}
 use Rattle.tz_snap.specs.StateFile.{file_words, head_words, head_count}
 use Rattle.tz_snap.proofs.HeadWords.{length_head}
 
@@ -32,12 +32,14 @@ sau_regions k zero = refl
 sau_regions k (suc n) = let more = sau_regions (k + 1) n in omega arith
 
 banked_count : (n : ℕ) → length (banked_fields n) ≡ 21 + 2 * n
+unfolding banked_fields
 banked_count n =
     let regions = mpu_regions 0 n in
     let behind = length-append (mpu_region_fields 0 n) banked_last in
     omega arith
 
 shared_count : (n : ℕ) → length (shared_fields n) ≡ 9 + 2 * n
+unfolding shared_fields
 shared_count n =
     let regions = sau_regions 0 n in
     let behind = length-append (sau_region_fields 0 n) shared_last in

@@ -1,19 +1,19 @@
 -- The file of a state is accepted, and what is accepted is the file of a state.
-use Rattle.std.proofs.Common.{◌≡◌, ℕ, suc, ◌+◌, ◌-◌, ◌*◌, ◌^◌, ◌<◌, ◌≤◌, ◌==◌, Bool, true, false, not, ◌&&◌, if◌then◌else◌, nat_lt, List, [], ◌∷◌, ◌++◌, length, drop, take, Option, Some, None, Result, Ok, Err, refl, sym, ap, ◌∙◌, subst, arith, length-append, length-drop}
+use Rattle.std.proofs.Common.{◌≡◌, ℕ, suc, ◌+◌, ◌-◌, ◌*◌, ◌^◌, ◌<◌, ◌≤◌, ◌==◌, Bool, true, false, not, if◌then◌else◌, nat_lt, List, [], ◌∷◌, ◌++◌, length, drop, take, Option, Some, None, Result, Ok, Err, refl, sym, ap, ◌∙◌, subst, arith, length-append, length-drop}
 use Rattle.std.proofs.lemmas.Bool.{eqb-true, eq-eqb, le-ltb, ltb-false}
 use Rattle.std.proofs.lemmas.Option.{cond_some}
 use Rattle.std.proofs.lemmas.List.{drop_at, take_rest}
 use Rattle.tz_model.specs.Board.{BoardValue, IsBoard}
 use Rattle.tz_state.specs.State.{State}
-use Rattle.tz_core.specs.StateWords.{state_words, word_count}
-use Rattle.tz_core.specs.ReadWords.{read_words, words_of, AreWords, IsState, IsWordsRefusal}
+use Rattle.tz_core.specs.StateWords.{word_count}
+use Rattle.tz_core.specs.ReadWords.{read_words, words_of, AreWords, IsWordsRefusal}
 use Rattle.tz_core.specs.declared.from_words.WordsError.{WordsError}
 use Rattle.tz_core.specs.declared.from_words.WordsError.TheVariants as WordsErrors
 use Rattle.tz_snap.specs.FileWords.{bytes_of_words}
-use Rattle.tz_snap.specs.StateFile.{SavedState, Refusal, Magic, Board, Length, Value, board_words, head_words, file_words, file_of, begins_with, step_in, head_count, file_length, behind_head, values_of, saved_by, saved_of, most_steps, magic}
+use Rattle.tz_snap.specs.StateFile.{SavedState, Refusal, Board, Length, Value, board_words, head_words, begins_with, step_in, head_count, file_length, behind_head, values_of, saved_by, saved_of, most_steps, magic}
 use Rattle.tz_snap.proofs.Words.{AreBytes, both_words, words_of_bytes, bytes_of_words_of, length_bytes, drop_words, length_words}
 use Rattle.tz_snap.proofs.Bounds.{among_words}
-use Rattle.tz_snap.proofs.Lists.{front_of_both, front_split, same_front}
+use Rattle.tz_snap.proofs.Lists.{front_of_both, front_split}
 use Rattle.tz_snap.proofs.Fits.{head_fits}
 
 -- ---- what is written is accepted

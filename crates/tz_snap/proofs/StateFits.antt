@@ -1,6 +1,6 @@
 -- The words of a state of a board are words.
-use Rattle.std.proofs.Common.{◌≡◌, ⊎_elim, ℕ, zero, suc, ◌+◌, ◌*◌, ◌%◌, ◌/◌, ◌^◌, ◌<◌, ◌≤◌, Bool, true, false, if◌then◌else◌, List, [], ◌∷◌, ◌++◌, length, map, Option, Some, None, refl, sym, ap, ◌∙◌, subst, arith}
-use Rattle.std.specs.Prelude.{slice_get, slice_set, slice_index_or, option_map}
+use Rattle.std.proofs.Common.{◌≡◌, ⊎_elim, ℕ, zero, suc, ◌+◌, ◌%◌, ◌/◌, ◌^◌, ◌<◌, ◌≤◌, Bool, true, false, List, [], ◌∷◌, length, map, Some, refl, sym, ap, ◌∙◌, subst, arith}
+use Rattle.std.specs.Prelude.{slice_get}
 use Rattle.std.proofs.lemmas.Bool.{cases_lt, cond_both}
 use Rattle.std.proofs.lemmas.List.{get_or-set_same, get_or_past}
 use Rattle.tz_table.specs.declared.units.Side.{Side}
@@ -10,11 +10,11 @@ use Rattle.tz_model.specs.Board.{BoardValue}
 use Rattle.tz_regs.specs.Special.{number_of}
 use Rattle.tz_state.specs.Memory.{Memory, byte_at, word_at}
 use Rattle.tz_state.specs.State.{State}
-use Rattle.tz_state.specs.Slots.{ExceptionsValue, at, idle, exception_number, has_fixed_priority, is_enabled}
+use Rattle.tz_state.specs.Slots.{at, idle, exception_number, has_fixed_priority, is_enabled}
 use Rattle.tz_core.specs.declared.fields.Field.{Field}
 use Rattle.tz_core.specs.Fields.{fields, slot_places}
 use Rattle.tz_core.specs.StateWords.{side_number, word_of, slot_word, words_from, memory_words, state_words}
-use Rattle.tz_core.specs.ReadWords.{AreWords, IsState, IsTold, IsSlotTold, slot_from, slot_written}
+use Rattle.tz_core.specs.ReadWords.{AreWords, IsState, IsTold, IsSlotTold, slot_from}
 use Rattle.tz_snap.proofs.Words.{no_words, one_more_word, both_words}
 
 -- ---- fields

@@ -8,11 +8,9 @@
 
 mod error;
 mod head;
-mod laws;
 mod reading;
 mod writing;
 
 pub use error::SnapError;
-pub use laws::{file_reads_back, only_files_are_read};
 pub use reading::{Saved, load};
 pub use writing::save;
