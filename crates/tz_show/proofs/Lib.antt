@@ -1,0 +1,4 @@
+pub mod Labels
+pub mod Ranges
+pub mod Regions
+pub mod Texts

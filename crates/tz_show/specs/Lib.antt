@@ -1,0 +1,10 @@
+pub mod Bits
+pub mod Rows
+pub mod Registers
+pub mod Masks
+pub mod Faults
+pub mod Exceptions
+pub mod Units
+pub mod Frames
+pub mod Dump
+pub mod Page
