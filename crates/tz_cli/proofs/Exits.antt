@@ -15,17 +15,17 @@ use Rattle.tz_cli.specs.Pair.{PairWords}
 use Rattle.tz_cli.specs.PairLine.{is_agreed, pair_line, pair_status}
 use Rattle.tz_cli.specs.declared.words.start.Work.{Work}
 use Rattle.tz_cli.specs.declared.words.start.Work.TheVariants as works
-use Rattle.tz_cli.specs.Commands.{Command, Run, Pair, Resume, command_of, command_with, longest, names_of}
+use Rattle.tz_cli.specs.Commands.{Command, Pair, Resume, command_of, command_with, longest, names_of}
 use Rattle.tz_cli.specs.declared.stops.LoadError.{LoadError}
 use Rattle.tz_cli.specs.declared.stops.LoadError.TheVariants.{Unread, Long, Board, Image, State, Script, Source, Memory}
 use Rattle.tz_cli.specs.Told.{Stop, BadWords, TooManySteps, TooLong, BadBoard, BadImage, BadState, BadScript, BadSource, TooFar, Told, Stops, Gives, told_then, step_limit}
 use Rattle.tz_cli.specs.Told as stops
 use Rattle.tz_cli.specs.Reads.{AsBoard, AsImage, AsState, AsScript, AsSource, Reading, Settled, goes_on, read_where, settling, within_limit, IsOneOf}
 use Rattle.tz_cli.specs.Starts.{Start, PairStart, SavedStart, board_files, start_files, kept_files, saved_files, pair_start_files}
-use Rattle.tz_cli.specs.Tasks.{Task, PairJob, pair_task, resumed_text, resume_next, work_task, told, reads_of, files_of, IsDone, difference_of}
+use Rattle.tz_cli.specs.Tasks.{Task, pair_task, resumed_text, resume_next, work_task, told, reads_of, files_of, IsDone}
 use Rattle.tz_cli.specs.Lines.{stop_line, status_of, put_status}
-use Rattle.tz_cli.specs.Answer.{Allows, AllowsStop, Shelved, IsSettled, IsCaused, IsLine, Call, told_of, GainsFront, Exceeds, IsTold, Answer, Done, Broken, Stopped, Wanting, Silent}
-use Rattle.tz_cli.specs.Faults.{AllowsRefusal, IsFault, Standing, between, IsRead, image_refusal, state_refusal, source_refusal, name_told, stop_of, stop_with, line_with, status_with}
+use Rattle.tz_cli.specs.Answer.{Allows, AllowsStop, IsCaused, IsLine, Call, told_of, GainsFront, Exceeds, IsTold, Answer, Done, Broken, Stopped, Wanting, Silent}
+use Rattle.tz_cli.specs.Faults.{AllowsRefusal, IsFault, image_refusal, state_refusal, source_refusal, name_told, stop_of, stop_with, line_with, status_with}
 use Rattle.tz_cli.proofs.FileNames.{names_of-longest}
 use Rattle.tz_cli.proofs.Reached.{sure_command}
 use Rattle.tz_cli.proofs.Settling.{then_stop, after_stop, then_allows, allows_given, allowed_goes, goes_first, read_here, settling_twice, limit_kept, limit_passed, one_of_first, one_of_second, past, fits}

@@ -1,9 +1,8 @@
 -- The files of commands, each behind those before it.
-use Rattle.std.proofs.Common.{◌≡◌, not, ℕ, true, List, [], Result, Ok, Err, sym, subst}
+use Rattle.std.proofs.Common.{◌≡◌, not, ℕ, true, List, [], Result, Ok, Err, subst}
 use Rattle.tz_table.specs.declared.units.Side.TheVariants as sides
 use Rattle.tz_model.specs.Board.{BoardValue}
 use Rattle.tz_model.specs.Image.{ImageValue}
-use Rattle.tz_model.specs.Outside.{Held}
 use Rattle.tz_board.specs.Scripts.{Timed}
 use Rattle.tz_snap.specs.StateFile.{SavedState}
 use Rattle.tz_cli.specs.StartWords.{StartWords}
@@ -12,7 +11,7 @@ use Rattle.tz_cli.specs.Dis.{DisWords}
 use Rattle.tz_cli.specs.Resume.{ResumeWords}
 use Rattle.tz_cli.specs.declared.stops.LoadError.{LoadError}
 use Rattle.tz_cli.specs.Told.{is_none_script, image_told, state_told, script_told}
-use Rattle.tz_cli.specs.Reads.{AsImage, AsState, AsScript, Reading}
+use Rattle.tz_cli.specs.Reads.{AsImage, AsState, AsScript}
 use Rattle.tz_cli.specs.Starts.{Start, PairStart, SavedStart, no_image, board_files, image_files, state_files, script_files, secure_files, nonsecure_files, start_files, kept_files, saved_files, first_files, second_files, third_files, pair_start_files, listed_files}
 use Rattle.tz_cli.specs.Faults.{Standing, IsRead}
 use Rattle.tz_cli.proofs.Stages.{first_failed, next_failed, both_read}

@@ -15,7 +15,7 @@ use Rattle.tz_cli.specs.PairLine.{FirstApart, agree_line, differ_line, pair_line
 use Rattle.tz_cli.specs.Commands.{Command, Pair}
 use Rattle.tz_cli.specs.Told.{Told, Gives, told_then}
 use Rattle.tz_cli.specs.Starts.{PairStart, first_state, second_state}
-use Rattle.tz_cli.specs.Tasks.{Task, PairJob, pair_task, pair_told, told, difference_of}
+use Rattle.tz_cli.specs.Tasks.{PairJob, pair_task, pair_told, told, difference_of}
 use Rattle.tz_cli.specs.Answer.{Call, Answer}
 use Rattle.tz_cli.proofs.Clauses.{task_written}
 

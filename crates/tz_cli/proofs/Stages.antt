@@ -28,7 +28,7 @@ use Rattle.tz_asm.specs.declared.error.AsmError.{AsmError}
 use Rattle.tz_asm.specs.declared.error.AsmError.TheVariants as asm
 use Rattle.tz_cli.specs.declared.stops.LoadError.{LoadError}
 use Rattle.tz_cli.specs.declared.stops.LoadError.TheVariants.{Unread, Long, Board, Image, State, Script, Source, Memory}
-use Rattle.tz_cli.specs.Told.{Stop, TooLong, BadBoard, BadImage, BadState, BadScript, BadSource, Told, Unknown, Stops, Gives, told_then, graded, is_demo, is_none_script, board_limit, image_limit, script_limit, source_limit, file_with, board_file, board_told, image_told, state_told, script_file, script_told, assembly_in, source_told}
+use Rattle.tz_cli.specs.Told.{Stop, TooLong, BadBoard, BadImage, BadState, BadScript, BadSource, Told, Stops, Gives, told_then, graded, is_demo, is_none_script, board_limit, image_limit, script_limit, source_limit, file_with, board_file, board_told, image_told, state_told, script_file, script_told, assembly_in, source_told}
 use Rattle.tz_cli.specs.Reads.{Form, AsBoard, AsImage, AsState, AsScript, AsSource, Reading, Settled, goes_on, read_where, one_file, and_file, IsOneOf}
 use Rattle.tz_cli.specs.declared.words.asm.Form.{Form as AsmForm}
 use Rattle.tz_cli.specs.Starts.{board_files, image_files, state_files, script_files, source_files}

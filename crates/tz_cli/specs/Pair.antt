@@ -1,5 +1,5 @@
 -- What the words behind `pair` mean.
-use Rattle.std.specs.Prelude.{ℕ, List, [], ◌∷◌, Option, Some, None, option_map, option_and_then}
+use Rattle.std.specs.Prelude.{ℕ, List, [], ◌∷◌, Option, None, option_map, option_and_then}
 use Rattle.tz_cli.specs.Parts.{Text, Parts, AnyWord, parts_of}
 use Rattle.tz_cli.specs.Counts.{count_of}
 use Rattle.tz_cli.specs.declared.words.pair.PairWords.{PairWords as ReadWords}

@@ -1,5 +1,5 @@
 -- What the files of a command give, each read in the order of the words.
-use Rattle.std.specs.Prelude.{ℕ, ◌∷◌, List, [], Bool, true, not}
+use Rattle.std.specs.Prelude.{ℕ, List, [], true, not}
 use Rattle.tz_table.specs.declared.units.Side.{Side}
 use Rattle.tz_table.specs.declared.units.Side.TheVariants.{Secure, NonSecure}
 use Rattle.tz_model.specs.Board.{BoardValue}

@@ -19,7 +19,7 @@ use Rattle.tz_cli.specs.Run.{RunWords, run_of, start_of}
 use Rattle.tz_cli.specs.Pair.{PairWords}
 use Rattle.tz_cli.specs.PairLine.{pair_line, pair_status}
 use Rattle.tz_cli.specs.Commands.{Command, Run, Pair, Asm, Dis, Gates, Snap, Resume}
-use Rattle.tz_cli.specs.Told.{Stop, BadWords, TooFar, Told, Stops, Gives, step_limit}
+use Rattle.tz_cli.specs.Told.{BadWords, TooFar, Told, Stops, Gives, step_limit}
 use Rattle.tz_cli.specs.Reads.{Reading, Settled, settling, within_limit}
 use Rattle.tz_cli.specs.Starts.{Start, PairStart, SavedStart, start_files, state_of, pair_start_files, first_state, second_state, saved_files, source_files, listed_files}
 use Rattle.tz_cli.specs.declared.words.start.Work.{Work}

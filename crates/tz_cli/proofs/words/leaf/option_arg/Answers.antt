@@ -1,7 +1,6 @@
-use Rattle.std.proofs.Common.{rules, ◌≡◌, ◌∙◌, refl, ap, false}
+use Rattle.std.proofs.Common.{rules, ◌∙◌, refl, ap, false}
 use Rattle.clap.specs.ValueTests.{accepts}
 use Rattle.clap.specs.declared.builder.value_parser.ValueParser.{ValueParser}
-use Rattle.tz_cli.specs.Leaf.{Leaf, option_rule}
 use Rattle.tz_cli.proofs.WordAnswers.{any_named}
 use Rattle.tz_cli.proofs.words.leaf.option_arg.Goals as goal
 
