@@ -17,4 +17,5 @@ mod start;
 mod taking;
 mod waiting;
 
+pub use changes::Stores;
 pub use running::Machine;

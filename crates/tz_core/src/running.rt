@@ -14,7 +14,7 @@ use tz_access::Bus;
 use tz_decode::{Decoded, decode};
 use tz_excret::takes_first_uncounted;
 use tz_gate::secure_gateway;
-use tz_model::{Board, Code, Fault, Insn, Outcome, Report, ScriptEvent, Side, Sleep};
+use tz_model::{Board, Code, Fault, Insn, Outcome, Report, ScriptEvent, Side, Sleep, Way};
 use tz_nvic::Exceptions;
 use tz_prio::is_negative;
 use tz_regs::Core;
@@ -70,7 +70,7 @@ impl Machine {
     ghost use Rattle.tz_state.specs.State.{side_of};
     ghost use Rattle.tz_sem.specs.Exec.{executed};
     ghost use Rattle.tz_model.specs.Codes.{meaning_of};
-    ghost use Rattle.tz_sem.specs.Step.{past, goes_next, skips, goes_on, concludes, executes, faulting, placed, decoded, runs_gateway, touches_secure, unready, course_in, instructs, idles, by_sleep, takes_exception, ended, step};
+    ghost use Rattle.tz_sem.specs.Step.{past, goes_next, skips, goes_on, concludes, executes, faulting, placed, decoded, runs_gateway, touches_secure, unready, course_in, instructs, idles, by_sleep, takes_exception, started, ended, step};
     ghost use Rattle.tz_twin.specs.Integrity.{LeavesSecure, EntersSecure};
     ghost use Rattle.tz_twin.specs.Ways.{TellsWay};
 
@@ -398,6 +398,20 @@ impl Machine {
         self.start(due);
         let ending = self.make_step(&mut report.stores);
         self.tell(&before, &ending, report);
+    }
+
+    /// Makes one step at which these events are due, and tells of it the way out of Secure state alone. In `stores` are
+    /// then those of its instruction, with those before a fault.
+    pub fn step_way(&mut self, due: &[ScriptEvent], stores: &mut Stores) -> Option<Way>
+        ensures steps { self.new ≡ (step self.old due.now).state }
+        ensures way { result ≡ (step self.old due.now).report.way }
+        ensures stores { stores.new.items ≡ (ended (started self.old due.now)).stores }
+    {
+        let start = self.core.running_side();
+        stores.clear();
+        self.start(due);
+        let ending = self.make_step(stores);
+        self.way(start, &ending)
     }
 
     /// Makes one step at which these events are due, and tells in `report` what it did.

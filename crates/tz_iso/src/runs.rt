@@ -12,8 +12,8 @@ use crate::answer::{PairStep, What};
 use crate::crossed::what_by;
 use std::alloc::{AllocError, Global};
 use std::marker::Model;
-use tz_core::Machine;
-use tz_model::{Board, Image, Report, ScriptEvent};
+use tz_core::{Machine, Stores};
+use tz_model::{Board, Image, ScriptEvent};
 
 /// Two machines of one board and one Non-secure image, beside each other. As long as nothing differed at a
 /// crossing out of Secure state, Non-secure code sees the same in both.
@@ -23,9 +23,8 @@ pub struct Pair {
     second: Machine,
     steps: u32,
     found: Option<(u32, What)>,
-    /// What the last step of each told, which the next one overwrites.
-    told: Report,
-    other: Report,
+    /// Room for the stores of a step.
+    stores: Stores,
 }
 
 impl Model for Pair {
@@ -47,9 +46,8 @@ impl Model for Pair {
 /// Makes the step of two linked machines, at which these events are due, and tells what differs first.
 fn step_both(
     first: &mut Machine,
-    told: &mut Report,
     second: &mut Machine,
-    other: &mut Report,
+    stores: &mut Stores,
     due: &[ScriptEvent],
 ) -> Option<What>
     requires { IsLinked first.old second.old }
@@ -60,9 +58,9 @@ fn step_both(
     ensures lines { result ≡ None → (k : ℕ) → line Ns k (step first.old due.now).report ≡ line Ns k (step second.old due.now).report }
     ensures linked { result ≡ None → IsLinked first.new second.new }
 {
-    first.step_into(due, told);
-    second.step_into(due, other);
-    what_by(&told.way, &other.way, first, second)
+    let way = first.step_way(due, stores);
+    let other = second.step_way(due, stores);
+    what_by(&way, &other, first, second)
 }
 
 impl Pair {
@@ -86,8 +84,7 @@ impl Pair {
             second: two,
             steps: 0,
             found: None,
-            told: Report::new(),
-            other: Report::new(),
+            stores: Stores::new(),
         })
     }
 
@@ -116,13 +113,7 @@ impl Pair {
         ensures linked { result ≡ PairStep.Kept → IsLinked self.new.first self.new.second }
     {
         let step = self.steps;
-        let what = step_both(
-            &mut self.first,
-            &mut self.told,
-            &mut self.second,
-            &mut self.other,
-            due,
-        );
+        let what = step_both(&mut self.first, &mut self.second, &mut self.stores, due);
         self.steps = step + 1;
         match what {
             None => PairStep::Kept,
