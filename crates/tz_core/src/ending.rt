@@ -3,12 +3,31 @@
 ghost use Rattle.std.specs.Prelude.{◌≡◌};
 ghost use Rattle.arrayvec.specs.ArrayVec.{array_vec_len};
 ghost use Rattle.tz_sem.specs.Ended.{kind_of_entry, kind_of, lr_of, kind_without};
+ghost use Rattle.tz_twin.specs.Writing.{changes_handler};
 
 use crate::changes::tell_changes;
 use crate::running::Machine;
 use tz_model::{CrossKind, Report, Side, StepKind, Way};
 use tz_regs::{Before, Core};
 use tz_sem::{Cause, Ending};
+
+/// What is told of a step that has no report: its way out of Secure state, where it crossed out, and whether an
+/// exception was taken or returned or the machine is locked.
+#[derive(Clone, Copy)]
+pub struct Passage {
+    pub way: Option<Way>,
+    pub exceptional: bool,
+}
+
+/// Whether an exception was taken or returned.
+pub(crate) fn changes_handler(cause: Cause) -> bool
+    ensures { result ≡ changes_handler cause }
+{
+    match cause {
+        Cause::Taken | Cause::Resumed => true,
+        _ => false,
+    }
+}
 
 /// The kind of a crossing that takes a Non-secure exception: EXC_RETURN.S in LR tells that Secure code was
 /// interrupted.

@@ -18,4 +18,5 @@ mod taking;
 mod waiting;
 
 pub use changes::Stores;
+pub use ending::Passage;
 pub use running::Machine;

@@ -7,6 +7,7 @@ ghost use Rattle.tz_model.specs.Codes.{second_of};
 ghost use Rattle.tz_sem.specs.Step.{length_of, sleep_of};
 
 use crate::changes::Stores;
+use crate::ending::{Passage, changes_handler};
 use crate::exchange::{is_call, ran_by};
 use crate::it_rules::{ignores_condition, is_misplaced, is_passed_over};
 use std::marker::Model;
@@ -14,7 +15,7 @@ use tz_access::Bus;
 use tz_decode::{Decoded, decode};
 use tz_excret::takes_first_uncounted;
 use tz_gate::secure_gateway;
-use tz_model::{Board, Code, Fault, Insn, Outcome, Report, ScriptEvent, Side, Sleep, Way};
+use tz_model::{Board, Code, Fault, Insn, Outcome, Report, ScriptEvent, Side, Sleep};
 use tz_nvic::Exceptions;
 use tz_prio::is_negative;
 use tz_regs::Core;
@@ -73,6 +74,7 @@ impl Machine {
     ghost use Rattle.tz_sem.specs.Step.{past, goes_next, skips, goes_on, concludes, executes, faulting, placed, decoded, runs_gateway, touches_secure, unready, course_in, instructs, idles, by_sleep, takes_exception, started, ended, step};
     ghost use Rattle.tz_twin.specs.Integrity.{LeavesSecure, EntersSecure};
     ghost use Rattle.tz_twin.specs.Ways.{TellsWay};
+    ghost use Rattle.tz_twin.specs.Writing.{is_exceptional};
 
     /// The side whose code runs; of a locked machine the Secure one.
     pub fn side(&self) -> Side
@@ -400,18 +402,22 @@ impl Machine {
         self.tell(&before, &ending, report);
     }
 
-    /// Makes one step at which these events are due, and tells of it the way out of Secure state alone. In `stores` are
-    /// then those of its instruction, with those before a fault.
-    pub fn step_way(&mut self, due: &[ScriptEvent], stores: &mut Stores) -> Option<Way>
+    /// Makes one step at which these events are due, and tells of it the way out of Secure state, and whether it was
+    /// exceptional. In `stores` are then those of its instruction, with those before a fault.
+    pub fn step_way(&mut self, due: &[ScriptEvent], stores: &mut Stores) -> Passage
         ensures steps { self.new ≡ (step self.old due.now).state }
-        ensures way { result ≡ (step self.old due.now).report.way }
+        ensures way { result.way ≡ (step self.old due.now).report.way }
+        ensures exceptional { result.exceptional ≡ is_exceptional (step self.old due.now).state.core (ended (started self.old due.now)).ending.cause }
         ensures stores { stores.new.items ≡ (ended (started self.old due.now)).stores }
     {
         let start = self.core.running_side();
         stores.clear();
         self.start(due);
         let ending = self.make_step(stores);
-        self.way(start, &ending)
+        Passage {
+            way: self.way(start, &ending),
+            exceptional: self.core.run.locked || changes_handler(ending.cause),
+        }
     }
 
     /// Makes one step at which these events are due, and tells in `report` what it did.

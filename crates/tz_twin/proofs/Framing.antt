@@ -1,5 +1,5 @@
 -- What entries and returns write lies in frames at the stack pointers of the side that ran.
-use Rattle.std.proofs.Common.{◌≡◌, ℕ, zero, suc, ◌+◌, ◌-◌, ◌*◌, ◌/◌, ◌%◌, ◌^◌, ◌==◌, ◌<◌, ◌≤◌, Bool, true, false, ◌&&◌, ◌||◌, not, cond, List, [], ◌∷◌, Option, Some, None, Result, Ok, Err, refl, sym, ◌∙◌, subst, arith}
+use Rattle.std.proofs.Common.{◌≡◌, ℕ, zero, suc, ◌+◌, ◌-◌, ◌*◌, ◌/◌, ◌%◌, ◌^◌, ◌==◌, ◌<◌, ◌≤◌, Bool, true, false, ◌&&◌, ◌||◌, not, cond, List, [], ◌∷◌, Option, Some, None, Result, Ok, Err, ◌⊎◌, inl, inr, refl, sym, ◌∙◌, subst, arith}
 use Rattle.std.specs.Prelude.{nat_lt}
 use Rattle.std.specs.FinMap.{get}
 use Rattle.std.proofs.lemmas.Bool.{le-ltb, ltb-true, ltb-false}
@@ -70,24 +70,50 @@ far_from_word : (from a : ℕ) → from < 2 ^ 32 → 4 ≤ distance from a → e
 far_from_word from a below away =
     all_true _ _ _ _ (far_from_first from a below away) (far from a 1 below (omega arith) away) (far from a 2 below (omega arith) away) (far from a 3 below (omega arith) away)
 
--- the next word is nearer by four
-nearer : (from a : ℕ) → from < 2 ^ 32 → 4 ≤ distance from a → distance (wrap (from + 4)) a + 4 ≡ distance from a
-nearer from a below away = omega (arith, below, away)
+-- what is no address is none of them either
+above : (x a : ℕ) → x < 2 ^ 32 → 2 ^ 32 ≤ a → not (x == a) ≡ true
+above x a below high = apart x a (λ e. too_high x a below high e) where
+  too_high : (x a : ℕ) → x < 2 ^ 32 → 2 ^ 32 ≤ a → x ≡ a → ⊥
+  too_high x a below high e = omega arith
 
 wrapped : (n : ℕ) → wrap n < 2 ^ 32
 wrapped n = omega arith
+
+above_word : (from a : ℕ) → from < 2 ^ 32 → 2 ^ 32 ≤ a → every (λ x. not (x == a)) from Word ≡ true
+above_word from a below high =
+    all_true _ _ _ _ (above from a below high) (above (wrap (from + 1)) a (wrapped (from + 1)) high) (above (wrap (from + 2)) a (wrapped (from + 2)) high) (above (wrap (from + 3)) a (wrapped (from + 3)) high)
+
+-- the next word is nearer by four
+nearer : (from a : ℕ) → from < 2 ^ 32 → 4 ≤ distance from a → distance (wrap (from + 4)) a + 4 ≡ distance from a
+nearer from a below away = omega (arith, below, away)
 
 -- the place of a basic frame is an address
 base_below : (n : ℕ) → n < 2 ^ 32 → n / 8 * 8 + n % 4 < 2 ^ 32
 base_below n below = omega (arith, below)
 
+-- no address, or far enough
+Away : ℕ → ℕ → ℕ → Type 0
+Away size from a = (2 ^ 32 ≤ a) ⊎ (size ≤ distance from a)
+
+away : (size from a : ℕ) → is_within size from a ≡ false → Away size from a
+unfolding Away
+away size from a h = go (nat_lt a (2 ^ 32)) refl h where
+  go : (t : Bool) → nat_lt a (2 ^ 32) ≡ t → (t && nat_lt (distance from a) size) ≡ false → (2 ^ 32 ≤ a) ⊎ (size ≤ distance from a)
+  go true is e = inr (ltb-false (distance from a) size e)
+  go false is e = inl (ltb-false a (2 ^ 32) is)
+
+-- what is far from one place is far from another, as distances tell
+farther : (size more from other a : ℕ) → (more ≤ distance other a → size ≤ distance from a) → is_within more other a ≡ false → is_within size from a ≡ false
+farther size more from other a far h = go (nat_lt a (2 ^ 32)) h where
+  go : (t : Bool) → (t && nat_lt (distance other a) more) ≡ false → (t && nat_lt (distance from a) size) ≡ false
+  go true e = le-ltb (distance from a) size (far (ltb-false (distance other a) more e))
+  go false e = refl
+
 -- what isn't among more bytes isn't among fewer
 narrower : (size more from a : ℕ) → size ≤ more → is_within more from a ≡ false → is_within size from a ≡ false
-narrower size more from a few h = go (distance from a) h where
-  go : (d : ℕ) → nat_lt d more ≡ false → nat_lt d size ≡ false
-  go d h = le-ltb d size (trans size more d few (ltb-false d more h)) where
-    trans : (x y z : ℕ) → x ≤ y → y ≤ z → x ≤ z
-    trans x y z h k = omega arith
+narrower size more from a few h = farther size more from from a (λ e. trans size more (distance from a) few e) h where
+  trans : (x y z : ℕ) → x ≤ y → y ≤ z → x ≤ z
+  trans x y z h k = omega arith
 
 -- an additional frame lies 40 bytes below a basic one
 below_basic : (sp a : ℕ) → sp < 2 ^ 32 → 72 ≤ distance (wrap (sp + (2 ^ 32 - 40))) a → 32 ≤ distance sp a
@@ -119,16 +145,25 @@ first_word n d h = omega arith
 other_words : (n d e : ℕ) → 4 + n ≤ d → e + 4 ≡ d → n ≤ e
 other_words n d e h next = omega arith
 
-written_within : (side : Side) (privileged : Bool) (words : List ℕ) (f : Framed) (from a : ℕ) → from < 2 ^ 32 → bytes_in words ≤ distance from a
+away_from_word : (n from a : ℕ) → from < 2 ^ 32 → Away (4 + n) from a → every (λ x. not (x == a)) from Word ≡ true
+unfolding Away
+away_from_word n from a below (inl high) = above_word from a below high
+away_from_word n from a below (inr far) = far_from_word from a below (first_word n (distance from a) far)
+
+away_from_next : (n from a : ℕ) → from < 2 ^ 32 → Away (4 + n) from a → Away n (wrap (from + 4)) a
+unfolding Away
+away_from_next n from a below (inl high) = inl high
+away_from_next n from a below (inr far) =
+    inr (other_words n (distance from a) (distance (wrap (from + 4)) a) far (nearer from a below (first_word n (distance from a) far)))
+
+written_within : (side : Side) (privileged : Bool) (words : List ℕ) (f : Framed) (from a : ℕ) → from < 2 ^ 32 → Away (bytes_in words) from a
     → get (written framed side privileged f from words).0.bus.memory a ≡ get f.bus.memory a
 unfolding written bytes_in
-written_within side privileged [] f from a below away = refl
-written_within side privileged (word ∷ words) f from a below away =
-    let near : 4 ≤ distance from a = first_word (bytes_in words) (distance from a) away in
-    let rest = other_words (bytes_in words) (distance from a) (distance (wrap (from + 4)) a) away (nearer from a below near) in
+written_within side privileged [] f from a below out = refl
+written_within side privileged (word ∷ words) f from a below out =
     after_store_within f (framed f (FrameStore from side privileged word)) (λ left. written framed side privileged left (wrap (from + 4)) words) a
-    (store_within (frame_verdict f Write from side privileged) f from word a (far_from_word from a below near))
-    (λ g. written_within side privileged words g (wrap (from + 4)) a (wrapped (from + 4)) rest)
+    (store_within (frame_verdict f Write from side privileged) f from word a (away_from_word (bytes_in words) from a below out))
+    (λ g. written_within side privileged words g (wrap (from + 4)) a (wrapped (from + 4)) (away_from_next (bytes_in words) from a below out))
 
 -- ---- an entry under way
 
@@ -188,7 +223,7 @@ staged_cond side old secure thread false x y h k = k refl
 outside : (side : Side) (privileged : Bool) (words : List ℕ) (size : ℕ) (f : Framed) (base a : ℕ) → bytes_in words ≡ size → base < 2 ^ 32 → is_within size base a ≡ false
     → get (written framed side privileged f base words).0.bus.memory a ≡ get f.bus.memory a
 outside side privileged words size f base a is below out =
-    written_within side privileged words f base a below (subst (λ n. n ≤ distance base a) (sym is) (ltb-false (distance base a) size out))
+    written_within side privileged words f base a below (subst (λ n. Away n base a) (sym is) (away size base a out))
 
 -- the basic frame
 basic_staged : (side : Side) (c : Core) (f : Framed) (process privileged thread : Bool) (base : ℕ) (words : List ℕ) → bytes_in words ≡ 32 → base < 2 ^ 32
@@ -237,16 +272,16 @@ additional_ends side old c f secure skip thread process privileged due same (One
     let one : other ≡ process = is_process ∙ sym same in
     let sp_below : sp < 2 ^ 32 = subst (λ p. sp_of p c.stacks_s < 2 ^ 32) one below in
     let low_most : low ≤ sp = subst (λ p. splim_of p c.stacks_s ≤ sp_of p c.stacks_s) one most in
-    let before : (a : ℕ) → 32 ≤ distance sp a → get f.bus.memory a ≡ get old a =
-    λ a away. h a (subst (λ p. is_within 32 (sp_of p c.stacks_s) a ≡ false) (sym one) (le-ltb (distance sp a) 32 away)) in
+    let before : (a : ℕ) → is_within 32 sp a ≡ false → get f.bus.memory a ≡ get old a =
+    λ a out. h a (subst (λ p. is_within 32 (sp_of p c.stacks_s) a ≡ false) (sym one) out) in
     ends_cond side old (nat_lt base low) _ _
     (λ under a out.
-    let away = ltb-false (distance low a) 72 (moved_within process low c.stacks_s a (framed_secure side (with_sp process low c.stacks_s) c.stacks_ns a is out)) in
-    before a (below_limit sp low a sp_below (ltb-true base low under) low_most away))
+    let inside = moved_within process low c.stacks_s a (framed_secure side (with_sp process low c.stacks_s) c.stacks_ns a is out) in
+    before a (farther 32 72 sp low a (below_limit sp low a sp_below (ltb-true base low under) low_most) inside))
     (λ over a out.
     let inside = moved_within process base c.stacks_s a (framed_secure side (with_sp process base c.stacks_s) c.stacks_ns a is out) in
     outside Secure privileged (callee_words c.registers.general) 40 f base a refl (wrapped (sp + (2 ^ 32 - 40))) (narrower 40 72 base a (omega arith) inside)
-    ∙ before a (below_basic sp a sp_below (ltb-false (distance base a) 72 inside)))
+    ∙ before a (farther 32 72 sp base a (below_basic sp a sp_below) inside))
 
 -- ---- one choice
 

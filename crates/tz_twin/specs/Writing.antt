@@ -41,9 +41,9 @@ are_in_memory (store ∷ more) = not (is_private store.addr) && are_in_memory mo
 abbrev pub distance : ℕ → ℕ → ℕ
 distance from a = wrap (a + (2 ^ 32 - from))
 
--- it is one of so many bytes from another on
+-- it is one of so many bytes from another on, of which the lowest address follows the highest
 abbrev pub is_within : ℕ → ℕ → ℕ → Bool
-is_within size from a = nat_lt (distance from a) size
+is_within size from a = nat_lt a (2 ^ 32) && nat_lt (distance from a) size
 
 -- it is one of the bytes that two frames have which begin at a stack pointer of a side
 abbrev pub is_framed : Stacks → ℕ → Bool
