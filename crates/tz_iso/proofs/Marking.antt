@@ -1,11 +1,11 @@
 -- Marks: what was marked stays so, and what isn't marked is beside all stores and frames.
-use Rattle.std.proofs.Common.{◌≡◌, ℕ, zero, suc, ◌+◌, ◌-◌, ◌/◌, ◌%◌, ◌^◌, ◌==◌, ◌<◌, ◌≤◌, ◌⊎◌, inl, inr, Bool, true, false, ◌&&◌, ◌||◌, not, cond, List, [], ◌∷◌, ◌++◌, length, drop, get_or, refl, sym, ap, ◌∙◌, subst, arith}
-use Rattle.std.specs.Prelude.{nat_le, nat_lt, slice_set, slice_index_or}
+use Rattle.std.proofs.Common.{◌≡◌, ℕ, zero, suc, ◌+◌, ◌-◌, ◌/◌, ◌^◌, ◌==◌, ◌<◌, ◌≤◌, ◌⊎◌, inl, inr, Bool, true, false, ◌&&◌, ◌||◌, not, List, [], ◌∷◌, ◌++◌, length, drop, get_or, refl, sym, ap, ◌∙◌, subst, arith}
+use Rattle.std.specs.Prelude.{nat_lt, slice_set, slice_index_or}
 use Rattle.std.specs.List.{refill}
 use Rattle.std.proofs.lemmas.Grind.{common_steps}
 use Rattle.std.proofs.lemmas.List.{drop_all}
 use Rattle.std.proofs.Math.Seq.{drop-cons}
-use Rattle.std.proofs.lemmas.Bool.{le-ltb, lt-ltb, ltb-true, ltb-false}
+use Rattle.std.proofs.lemmas.Bool.{ltb-true}
 use Rattle.std.proofs.lemmas.Bool.Decides.{nat_tests}
 use Rattle.tz_table.specs.declared.units.Size.{Size}
 use Rattle.tz_table.specs.declared.units.Size.TheVariants.{Byte, Half, Word}
@@ -15,7 +15,6 @@ use Rattle.tz_state.specs.Access.{is_private}
 use Rattle.tz_state.specs.Memory.{every}
 use Rattle.tz_access.specs.Checks.{last_of}
 use Rattle.tz_twin.specs.Writing.{is_beside, are_beside, are_in_memory, distance, is_within}
-use Rattle.tz_twin.proofs.Bytes.{and_first, and_second}
 use Rattle.tz_iso.specs.declared.marks.Blocks.{Blocks}
 use Rattle.tz_iso.specs.declared.marks.Marks.{Marks}
 use Rattle.tz_iso.specs.Marks.{is_among, are_among, marks_block, marks_byte, Grows}

@@ -1,5 +1,5 @@
 -- What may differ after a step of two machines is marked.
-use Rattle.std.proofs.Common.{◌≡◌, ℕ, ◌/◌, Bool, true, false, ◌&&◌, ◌||◌, cond, List, Option, Some, None, refl, sym, ap, ◌∙◌, subst}
+use Rattle.std.proofs.Common.{◌≡◌, ℕ, ◌/◌, Bool, true, false, ◌&&◌, cond, List, Option, None, refl, sym, ap, ◌∙◌, subst}
 use Rattle.std.specs.FinMap.{get}
 use Rattle.tz_model.specs.declared.report.ScriptEvent.{ScriptEvent}
 use Rattle.tz_model.specs.Words.{is_nonsecure_side}
@@ -7,10 +7,10 @@ use Rattle.tz_regs.specs.Banks.{stacks_of}
 use Rattle.tz_state.specs.Attribution.{MapState, is_open}
 use Rattle.tz_state.specs.Due.{begun}
 use Rattle.tz_state.specs.Slots.{ExceptionsValue}
-use Rattle.tz_state.specs.State.{Bus, State, map_of, side_of}
+use Rattle.tz_state.specs.State.{State, map_of, side_of}
 use Rattle.tz_sem.specs.Step.{ended, started, step}
 use Rattle.tz_twin.specs.Seen.{Public, public_of, open_bytes, Seen, Hidden, Shown, seen}
-use Rattle.tz_twin.specs.Writing.{is_framed, is_exceptional, with_timers_of, KeepsElsewhere}
+use Rattle.tz_twin.specs.Writing.{is_framed, is_exceptional, with_timers_of}
 use Rattle.tz_twin.proofs.Bytes.{and_first, and_second}
 use Rattle.tz_twin.proofs.Elsewhere.{writes_told}
 use Rattle.tz_twin.proofs.Split.{board_seen, board_seen-seen, sides_alike}
