@@ -94,7 +94,7 @@ idau_blocks [] a b is e = refl
 idau_blocks (r ∷ rs) a b is e =
     rw (in_region_blocks r a b (and_parts (is_region r) (are_regions rs) is).0 e, idau_blocks rs a b (and_parts (is_region r) (are_regions rs) is).1 e) refl
 
-mapped_blocks : (rs : List Region) (a b : ℕ) → are_regions rs ≡ true → a / 32 ≡ b / 32 → is_mapped rs a ≡ is_mapped rs b
+pub mapped_blocks : (rs : List Region) (a b : ℕ) → are_regions rs ≡ true → a / 32 ≡ b / 32 → is_mapped rs a ≡ is_mapped rs b
 unfolding is_mapped
 mapped_blocks [] a b is e = refl
 mapped_blocks (r ∷ rs) a b is e =

@@ -18,6 +18,7 @@ use Rattle.tz_state.proofs.Difference.{none_differs, differs_nowhere}
 use Rattle.tz_mem.specs.Values.{MemoryValue}
 use Rattle.tz_mem.specs.Difference.{some_from, region_at, IsFilled}
 use Rattle.tz_access.specs.Checks.{IsByBlocks}
+use Rattle.tz_access.proofs.Blocks.{mapped_blocks}
 
 -- ---- addresses from one on
 
@@ -241,6 +242,36 @@ none_unmapped : (b c : Bus) (a : ℕ) → IsFilled (memory_in b) → IsFilled (m
     → byte_differs b.memory c.memory a ≡ false
 none_unmapped b c a mine others same out =
     rw (no_bytes (get b.memory a) (get c.memory a) (mine.there a ∙ out) (others.there a ∙ ap (λ rs. is_mapped rs a) (sym same) ∙ out)) refl
+
+-- ---- a block by its number
+
+-- in a region that holds it, it is a whole block
+pub held_fits : (r : Region) (block : ℕ) → is_region r ≡ true → in_region r (block * 32) ≡ true → (block - r.base / 32 + 1) * 32 ≤ r.size
+held_fits r block whole is = grind (arith, nat_tests)
+
+pub held_from : (r : Region) (block : ℕ) → is_region r ≡ true → in_region r (block * 32) ≡ true → r.base / 32 ≤ block
+held_from r block whole is = grind (arith, nat_tests)
+
+pub held_at : (r : Region) (block : ℕ) → is_region r ≡ true → in_region r (block * 32) ≡ true → r.base + (block - r.base / 32) * 32 ≡ block * 32
+held_at r block whole is = grind (arith, nat_tests)
+
+-- no region of these holds an address
+not_mapped : (rs : List Region) (a : ℕ) → ((i : ℕ) → i < length rs → in_region (region_at rs i) a ≡ false) → is_mapped rs a ≡ false
+unfolding is_mapped
+not_mapped [] a none = refl
+not_mapped (r ∷ rs) a none =
+    let first : in_region r a ≡ false = none 0 (omega arith) in
+    rw first (not_mapped rs a (λ i l. none (suc i) (omega arith)))
+
+-- a block that no region holds has no byte
+pub none_held : (b c : Bus) (block : ℕ) → IsFilled (memory_in b) → IsFilled (memory_in c) → b.board.regions ≡ c.board.regions → are_regions b.board.regions ≡ true
+    → ((i : ℕ) → i < length b.board.regions → in_region (region_at b.board.regions i) (block * 32) ≡ false) → some_from (open_byte_differs b c) (block * 32) 32 ≡ false
+none_held b c block mine others same whole none =
+    none_within (open_byte_differs b c) (block * 32) 32
+    (λ t l.
+    let one : (block * 32 + t) / 32 ≡ block * 32 / 32 = omega (arith, l) in
+    closed (is_open (map_in b) (block * 32 + t)) (is_open (map_in c) (block * 32 + t)) (byte_differs b.memory c.memory (block * 32 + t))
+    (none_unmapped b c (block * 32 + t) mine others same (mapped_blocks b.board.regions (block * 32 + t) (block * 32) whole one ∙ not_mapped b.board.regions (block * 32) none)))
 
 -- where no region has an open byte that differs, there is none
 pub none_anywhere : (b c : Bus) → IsFilled (memory_in b) → IsFilled (memory_in c) → b.board.regions ≡ c.board.regions

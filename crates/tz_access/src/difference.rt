@@ -6,6 +6,7 @@ ghost use Rattle.tz_model.specs.Board.{are_apart, is_nonsecure, is_region};
 ghost use Rattle.tz_state.specs.Difference.{byte_differs, open_byte_differs, open_bytes_differ};
 
 use crate::bus::Bus;
+use crate::units::holds;
 use tz_model::RegionSide;
 
 impl Bus {
@@ -84,6 +85,25 @@ impl Bus {
         let mine = self.is_open(addr);
         let others = other.is_open(addr);
         mine && others
+    }
+
+    /// Whether a byte that is open in both differs in a block of 32 bytes, told by its number in the address space.
+    pub fn differs_at_block(&self, other: &Bus, block: u32) -> bool
+        requires same { self.now.board.regions ≡ other.now.board.regions }
+        requires few { block < 134217728 }
+        ensures { result ≡ some_from (open_byte_differs self.now other.now) (block * 32) 32 }
+    {
+        self.know_filled();
+        other.know_filled();
+        self.know_regions();
+        for index in 0..self.region_count() {
+            if holds(&self.board.regions[index], block * 32) {
+                self.know_region(index);
+                let from = self.board.regions[index].base / 32;
+                return self.differs_in_block(other, index, (block - from) as usize);
+            }
+        }
+        false
     }
 
     /// Whether the board leaves the attribution of a region to the SAU. Else no byte of it is open.

@@ -22,7 +22,7 @@ pub fn is_private(addr: u32) -> bool
 }
 
 /// Whether a region holds an address.
-fn holds(region: &Region, addr: u32) -> bool
+pub fn holds(region: &Region, addr: u32) -> bool
     ensures { result ≡ in_region region.now addr }
 {
     region.base <= addr && addr - region.base < region.size

@@ -3,12 +3,31 @@
 ghost use Rattle.std.specs.Prelude.{◌≡◌};
 ghost use Rattle.arrayvec.specs.ArrayVec.{array_vec_len};
 ghost use Rattle.tz_sem.specs.Ended.{kind_of_entry, kind_of, lr_of, kind_without};
+ghost use Rattle.tz_twin.specs.Writing.{changes_handler};
 
 use crate::changes::tell_changes;
 use crate::running::Machine;
 use tz_model::{CrossKind, Report, Side, StepKind, Way};
 use tz_regs::{Before, Core};
 use tz_sem::{Cause, Ending};
+
+/// What is told of a step that has no report: its way out of Secure state, where it crossed out, and whether an
+/// exception was taken or returned or the machine is locked.
+#[derive(Clone, Copy)]
+pub struct Passage {
+    pub way: Option<Way>,
+    pub exceptional: bool,
+}
+
+/// Whether an exception was taken or returned.
+pub(crate) fn changes_handler(cause: Cause) -> bool
+    ensures { result ≡ changes_handler cause }
+{
+    match cause {
+        Cause::Taken | Cause::Resumed => true,
+        _ => false,
+    }
+}
 
 /// The kind of a crossing that takes a Non-secure exception: EXC_RETURN.S in LR tells that Secure code was
 /// interrupted.
@@ -62,18 +81,18 @@ fn kind_without(core: &Core, cause: Cause) -> StepKind
 }
 
 impl Machine {
-    ghost use Rattle.std.specs.Prelude.{[]};
-    ghost use Rattle.tz_sem.specs.Ended.{way_of, report_of};
+    ghost use Rattle.std.specs.Prelude.{[], None, if◌then◌else◌};
+    ghost use Rattle.tz_sem.specs.Ended.{crosses, way_by, report_of};
 
-    /// How the step crossed out of Secure state, where it did.
-    fn way(&self, before: &Before, ending: &Ending) -> Option<Way>
-        ensures { result ≡ way_of before.now (record { state = self.now; stores = []; ending = ending.now }) }
+    /// How a step that started on a side crossed out of Secure state, where it did.
+    pub(crate) fn way(&self, start: Side, ending: &Ending) -> Option<Way>
+        ensures { result ≡ if crosses (record { state = self.now; stores = []; ending = ending.now }) then way_by self.now ending.now.cause (kind_of start ending.now.cause self.now.core.registers.lr) else None }
     {
         if !ending.touched || self.side() == Side::Secure {
             return None;
         }
         let lr = self.core.registers.lr;
-        match kind_of(before.side, ending.cause, lr) {
+        match kind_of(start, ending.cause, lr) {
             Some(kind) => Some(Way {
                 kind,
                 number: self.core.registers.ipsr,
@@ -91,7 +110,7 @@ impl Machine {
         report.start = before.side;
         report.end = self.side();
         report.touched = ending.touched;
-        report.way = self.way(before, ending);
+        report.way = self.way(before.side, ending);
         if self.core.run.locked {
             report.kind = StepKind::Locked;
             report.stores.clear();

@@ -23,6 +23,8 @@ mod taking;
 mod waiting;
 mod words;
 
+pub use changes::Stores;
+pub use ending::Passage;
 pub use from_words::WordsError;
 pub use laws::words_are_counted;
 pub use running::Machine;

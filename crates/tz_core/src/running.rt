@@ -7,6 +7,7 @@ ghost use Rattle.tz_model.specs.Codes.{second_of};
 ghost use Rattle.tz_sem.specs.Step.{length_of, sleep_of};
 
 use crate::changes::Stores;
+use crate::ending::{Passage, changes_handler};
 use crate::exchange::{is_call, ran_by};
 use crate::it_rules::{ignores_condition, is_misplaced, is_passed_over};
 use std::marker::Model;
@@ -70,9 +71,10 @@ impl Machine {
     ghost use Rattle.tz_state.specs.State.{side_of};
     ghost use Rattle.tz_sem.specs.Exec.{executed};
     ghost use Rattle.tz_model.specs.Codes.{meaning_of};
-    ghost use Rattle.tz_sem.specs.Step.{past, goes_next, skips, goes_on, concludes, executes, faulting, placed, decoded, runs_gateway, touches_secure, unready, course_in, instructs, idles, by_sleep, takes_exception, ended, step};
+    ghost use Rattle.tz_sem.specs.Step.{past, goes_next, skips, goes_on, concludes, executes, faulting, placed, decoded, runs_gateway, touches_secure, unready, course_in, instructs, idles, by_sleep, takes_exception, started, ended, step};
     ghost use Rattle.tz_twin.specs.Integrity.{LeavesSecure, EntersSecure};
     ghost use Rattle.tz_twin.specs.Ways.{TellsWay};
+    ghost use Rattle.tz_twin.specs.Writing.{is_exceptional};
 
     /// The side whose code runs; of a locked machine the Secure one.
     pub fn side(&self) -> Side
@@ -398,6 +400,24 @@ impl Machine {
         self.start(due);
         let ending = self.make_step(&mut report.stores);
         self.tell(&before, &ending, report);
+    }
+
+    /// Makes one step at which these events are due, and tells of it the way out of Secure state, and whether it was
+    /// exceptional. In `stores` are then those of its instruction, with those before a fault.
+    pub fn step_way(&mut self, due: &[ScriptEvent], stores: &mut Stores) -> Passage
+        ensures steps { self.new ≡ (step self.old due.now).state }
+        ensures way { result.way ≡ (step self.old due.now).report.way }
+        ensures exceptional { result.exceptional ≡ is_exceptional (step self.old due.now).state.core (ended (started self.old due.now)).ending.cause }
+        ensures stores { stores.new.items ≡ (ended (started self.old due.now)).stores }
+    {
+        let start = self.core.running_side();
+        stores.clear();
+        self.start(due);
+        let ending = self.make_step(stores);
+        Passage {
+            way: self.way(start, &ending),
+            exceptional: self.core.run.locked || changes_handler(ending.cause),
+        }
     }
 
     /// Makes one step at which these events are due, and tells in `report` what it did.

@@ -1,8 +1,8 @@
 -- Steps and runs from linked states.
 use Rattle.std.proofs.Common.{◌≡◌, ℕ, zero, suc, ◌+◌, ◌<◌, ◌↔◌, List, Option, Some, None, refl, sym, ap, ◌∙◌, subst, arith}
-use Rattle.tz_model.specs.declared.report.Report.{Report}
 use Rattle.tz_model.specs.declared.report.ScriptEvent.{ScriptEvent}
 use Rattle.tz_model.specs.declared.report.View.TheVariants.{Ns}
+use Rattle.tz_model.specs.declared.report.Way.{Way}
 use Rattle.tz_model.specs.Board.{BoardValue}
 use Rattle.tz_model.specs.Image.{ImageValue}
 use Rattle.tz_state.specs.State.{State}
@@ -35,15 +35,14 @@ pub linked_alike : (k : ℕ) (s t : State) (due : List ScriptEvent) → IsLinked
 linked_alike k s t due linked same = linked_step k (started s due) (started t due) (seen_started s t due linked) same
 
 -- by what the steps leave and tell: they end on boards with the same regions
-pub regions_stepped : (s t : State) (due : List ScriptEvent) (s' t' : State) (r r' : Report) → IsLinked s t → step s due ≡ record { state = s'; report = r }
-    → step t due ≡ record { state = t'; report = r' } → s'.bus.board.regions ≡ t'.bus.board.regions
-regions_stepped s t due s' t' r r' linked e h =
-    (λ i. (sym e i).state.bus.board.regions) ∙ (λ i. (boards_stepped s t due linked i).regions) ∙ (λ i. (h i).state.bus.board.regions)
+pub regions_stepped : (s t : State) (due : List ScriptEvent) (s' t' : State) → IsLinked s t → s' ≡ (step s due).state → t' ≡ (step t due).state → s'.bus.board.regions ≡ t'.bus.board.regions
+regions_stepped s t due s' t' linked e h =
+    (λ i. (e i).bus.board.regions) ∙ (λ i. (boards_stepped s t due linked i).regions) ∙ (λ i. (sym h i).bus.board.regions)
 
 -- and what differs first
-pub what_stepped : (s t : State) (due : List ScriptEvent) (s' t' : State) (r r' : Report) → step s due ≡ record { state = s'; report = r }
-    → step t due ≡ record { state = t'; report = r' } → what_by r.way r'.way s' t' ≡ what_of (step s due) (step t due)
-what_stepped s t due s' t' r r' e h = λ i. what_of (sym e i) (sym h i)
+pub what_stepped : (s t : State) (due : List ScriptEvent) (s' t' : State) (way other : Option Way) → s' ≡ (step s due).state → way ≡ (step s due).report.way
+    → t' ≡ (step t due).state → other ≡ (step t due).report.way → what_by way other s' t' ≡ what_of (step s due) (step t due)
+what_stepped s t due s' t' way other e told h told' = λ i. what_by (told i) (told' i) (e i) (h i)
 
 -- nothing differs exactly where they cross alike
 pub exact_stepped : (s t : State) (due : List ScriptEvent) (what : Option What) → IsLinked s t → what ≡ what_of (step s due) (step t due)
@@ -60,10 +59,10 @@ pub lines_stepped : (s t : State) (due : List ScriptEvent) (what : Option What) 
 lines_stepped s t due what linked e none k = (kept s t due what linked e none k).line
 
 -- and they leave linked states
-pub linked_stepped : (s t : State) (due : List ScriptEvent) (s' t' : State) (r r' : Report) (what : Option What) → IsLinked s t → step s due ≡ record { state = s'; report = r }
-    → step t due ≡ record { state = t'; report = r' } → what ≡ what_of (step s due) (step t due) → what ≡ None → IsLinked s' t'
-linked_stepped s t due s' t' r r' what linked e h told none =
-    (λ i. seen (sym e i).state) ∙ (kept s t due what linked told none 0).seen ∙ (λ i. seen (h i).state)
+pub linked_stepped : (s t : State) (due : List ScriptEvent) (s' t' : State) (what : Option What) → IsLinked s t → s' ≡ (step s due).state → t' ≡ (step t due).state
+    → what ≡ what_of (step s due) (step t due) → what ≡ None → IsLinked s' t'
+linked_stepped s t due s' t' what linked e h told none =
+    (λ i. seen (e i)) ∙ (kept s t due what linked told none 0).seen ∙ (λ i. seen (sym h i))
 
 pub linked_starts : (b : BoardValue) (secure other nonsecure : ImageValue) (s t : State) → s ≡ boot b secure nonsecure → t ≡ boot b other nonsecure → IsLinked s t
 linked_starts b secure other nonsecure s t e h = ap seen e ∙ linked_boots b secure other nonsecure ∙ sym (ap seen h)

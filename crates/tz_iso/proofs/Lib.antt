@@ -4,3 +4,6 @@ pub mod Public
 pub mod Told
 pub mod Boards
 pub mod Agreement
+pub mod Marking
+pub mod Stepped
+pub mod Blockwise

@@ -1,3 +1,4 @@
 pub mod Parts
 pub mod What
 pub mod Runs
+pub mod Marks

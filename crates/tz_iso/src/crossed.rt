@@ -1,11 +1,13 @@
 //! Two steps beside each other: whether they cross out of Secure state alike.
 
 ghost use Rattle.std.specs.Prelude.{◌≡◌};
+ghost use Rattle.tz_iso.specs.Marks.{Marked};
 ghost use Rattle.tz_iso.specs.Parts.{kind_number, is_same_lr, is_same_way};
 ghost use Rattle.tz_iso.specs.What.{crossings_apart, what_by};
 
 use crate::answer::What;
 use crate::handed::handed_apart;
+use crate::marks::Marks;
 use crate::parts::public_apart;
 use tz_core::Machine;
 use tz_model::{CrossKind, Way};
@@ -44,8 +46,9 @@ fn is_same_way(w: &Way, v: &Way) -> bool
 }
 
 /// What differs first of two crossings.
-fn crossings_apart(w: &Way, v: &Way, m: &Machine, n: &Machine) -> Option<What>
-    requires { m.now.bus.board.regions ≡ n.now.bus.board.regions }
+fn crossings_apart(marks: &Marks, w: &Way, v: &Way, m: &Machine, n: &Machine) -> Option<What>
+    requires same { m.now.bus.board.regions ≡ n.now.bus.board.regions }
+    requires marked { Marked marks.now m.now n.now }
     ensures { result ≡ crossings_apart w.now v.now m.now n.now }
 {
     if !is_same_way(w, v) {
@@ -54,12 +57,20 @@ fn crossings_apart(w: &Way, v: &Way, m: &Machine, n: &Machine) -> Option<What>
     if let Some(what) = handed_apart(w.kind, &m.core().registers, &n.core().registers) {
         return Some(what);
     }
-    public_apart(m, n)
+    public_apart(marks, m, n)
 }
 
-/// What differs first of two steps, by the ways out of Secure state that they told, and by the machines after them.
-pub fn what_by(way: &Option<Way>, other: &Option<Way>, m: &Machine, n: &Machine) -> Option<What>
-    requires { m.now.bus.board.regions ≡ n.now.bus.board.regions }
+/// What differs first of two steps, by the ways out of Secure state that they told, and by the machines after them, of
+/// which what may differ is marked.
+pub fn what_by(
+    marks: &Marks,
+    way: &Option<Way>,
+    other: &Option<Way>,
+    m: &Machine,
+    n: &Machine,
+) -> Option<What>
+    requires same { m.now.bus.board.regions ≡ n.now.bus.board.regions }
+    requires marked { Marked marks.now m.now n.now }
     ensures { result ≡ what_by way.now other.now m.now n.now }
 {
     match way {
@@ -69,7 +80,7 @@ pub fn what_by(way: &Option<Way>, other: &Option<Way>, m: &Machine, n: &Machine)
         },
         Some(w) => match other {
             None => Some(What::Alone(w.kind)),
-            Some(v) => crossings_apart(w, v, m, n),
+            Some(v) => crossings_apart(marks, w, v, m, n),
         },
     }
 }

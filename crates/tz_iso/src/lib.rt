@@ -7,9 +7,11 @@
 #![tactic(auto)]
 
 mod answer;
+mod compared;
 mod crossed;
 mod handed;
 mod laws;
+mod marks;
 mod parts;
 mod runs;
 

@@ -1,12 +1,15 @@
 //! The parts of the public state, in two machines.
 
-ghost use Rattle.std.specs.Prelude.{◌≡◌, ◌==◌, not, ◌∷◌, []};
-ghost use Rattle.tz_state.specs.Difference.{sau_differs, mpu_differs, exceptions_differ};
+ghost use Rattle.std.specs.Prelude.{◌≡◌, ◌==◌, not, false, ◌∷◌, []};
+ghost use Rattle.tz_state.specs.Difference.{sau_differs, mpu_differs, exceptions_differ as differ};
+ghost use Rattle.tz_iso.specs.Marks.{Marked};
 ghost use Rattle.tz_iso.specs.Parts.{is_same_sp, is_same_limits, is_same_control, is_same_side_masks, is_same_masks, is_same_side_faults, is_same_bus_faults, is_same_faults, is_same_timer, is_same_timers, is_same_monitor, is_same_sleep, is_same_rest};
 ghost use Rattle.tz_iso.specs.What.{first_apart, public_apart};
 
 use crate::answer::What;
+use crate::compared::{bytes_differ, exceptions_differ};
 use crate::handed::is_same_flag;
+use crate::marks::Marks;
 use tz_access::Bus;
 use tz_core::Machine;
 use tz_model::{Side, Sleep};
@@ -83,7 +86,7 @@ fn is_same_timer(a: Timer, b: Timer) -> bool
 }
 
 /// Whether the timers of both sides are the same.
-fn is_same_timers(e: &Exceptions, f: &Exceptions) -> bool
+pub fn is_same_timers(e: &Exceptions, f: &Exceptions) -> bool
     ensures { result ≡ is_same_timers e.now f.now }
 {
     is_same_timer(e.timer(Side::Secure), f.timer(Side::Secure))
@@ -155,10 +158,11 @@ fn units_apart(b: &Bus, c: &Bus) -> Option<What>
 }
 
 /// What of the exceptions, or of what the core waits for, isn't the same.
-fn rest_apart(m: &Machine, n: &Machine) -> Option<What>
-    ensures { result ≡ first_apart ((not (exceptions_differ m.now.exceptions n.now.exceptions), What.Exceptions) ∷ (is_same_timers m.now.exceptions n.now.exceptions, What.Systick) ∷ (is_same_rest m.now n.now, What.Sleep) ∷ []) }
+fn rest_apart(marks: &Marks, m: &Machine, n: &Machine) -> Option<What>
+    requires { marks.now.exceptions ≡ false → m.now.exceptions ≡ n.now.exceptions }
+    ensures { result ≡ first_apart ((not (differ m.now.exceptions n.now.exceptions), What.Exceptions) ∷ (is_same_timers m.now.exceptions n.now.exceptions, What.Systick) ∷ (is_same_rest m.now n.now, What.Sleep) ∷ []) }
 {
-    if m.exceptions().differs(n.exceptions()) {
+    if exceptions_differ(marks, m.exceptions(), n.exceptions()) {
         return Some(What::Exceptions);
     }
     if !is_same_timers(m.exceptions(), n.exceptions()) {
@@ -171,8 +175,9 @@ fn rest_apart(m: &Machine, n: &Machine) -> Option<What>
 }
 
 /// What of the status registers, or of the parts after them, isn't the same.
-fn status_apart(m: &Machine, n: &Machine) -> Option<What>
-    ensures { result ≡ first_apart ((m.now.core.status.ns.vtor == n.now.core.status.ns.vtor, What.Vtor) ∷ (m.now.core.status.ns.ccr == n.now.core.status.ns.ccr, What.Ccr) ∷ (is_same_faults m.now n.now, What.Fault) ∷ (not (exceptions_differ m.now.exceptions n.now.exceptions), What.Exceptions) ∷ (is_same_timers m.now.exceptions n.now.exceptions, What.Systick) ∷ (is_same_rest m.now n.now, What.Sleep) ∷ []) }
+fn status_apart(marks: &Marks, m: &Machine, n: &Machine) -> Option<What>
+    requires { marks.now.exceptions ≡ false → m.now.exceptions ≡ n.now.exceptions }
+    ensures { result ≡ first_apart ((m.now.core.status.ns.vtor == n.now.core.status.ns.vtor, What.Vtor) ∷ (m.now.core.status.ns.ccr == n.now.core.status.ns.ccr, What.Ccr) ∷ (is_same_faults m.now n.now, What.Fault) ∷ (not (differ m.now.exceptions n.now.exceptions), What.Exceptions) ∷ (is_same_timers m.now.exceptions n.now.exceptions, What.Systick) ∷ (is_same_rest m.now n.now, What.Sleep) ∷ []) }
 {
     let a = &m.core().status.ns;
     let b = &n.core().status.ns;
@@ -185,15 +190,16 @@ fn status_apart(m: &Machine, n: &Machine) -> Option<What>
     if !is_same_faults(m, n) {
         return Some(What::Fault);
     }
-    rest_apart(m, n)
+    rest_apart(marks, m, n)
 }
 
 /// The first part of the public state that isn't the same.
-pub fn public_apart(m: &Machine, n: &Machine) -> Option<What>
-    requires { m.now.bus.board.regions ≡ n.now.bus.board.regions }
+pub fn public_apart(marks: &Marks, m: &Machine, n: &Machine) -> Option<What>
+    requires same { m.now.bus.board.regions ≡ n.now.bus.board.regions }
+    requires marked { Marked marks.now m.now n.now }
     ensures { result ≡ public_apart m.now n.now }
 {
-    if m.bus().differs_in_open_bytes(n.bus()) {
+    if bytes_differ(marks, m.bus(), n.bus()) {
         return Some(What::Bytes);
     }
     if let Some(what) = stacks_apart(&m.core().stacks_ns, &n.core().stacks_ns) {
@@ -205,5 +211,5 @@ pub fn public_apart(m: &Machine, n: &Machine) -> Option<What>
     if let Some(what) = units_apart(m.bus(), n.bus()) {
         return Some(what);
     }
-    status_apart(m, n)
+    status_apart(marks, m, n)
 }

@@ -2,18 +2,23 @@
 
 ghost use Rattle.std.specs.Prelude.{◌≡◌, ◌<◌, ◌↔◌, ℕ, None, IfOk};
 ghost use Rattle.tz_model.specs.declared.report.View.TheVariants.{Ns};
-ghost use Rattle.tz_sem.specs.Step.{step};
+ghost use Rattle.tz_regs.specs.Banks.{stacks_of};
+ghost use Rattle.tz_sem.specs.Step.{started, ended, step};
 ghost use Rattle.tz_text.specs.Line.{line};
 ghost use Rattle.tz_twin.specs.Seen.{crossing};
+ghost use Rattle.tz_twin.specs.Writing.{is_exceptional};
+ghost use Rattle.tz_iso.specs.Marks.{Notes, Marked};
 ghost use Rattle.tz_iso.specs.What.{what_of};
 ghost use Rattle.tz_iso.specs.Runs.{IsLinked};
 
 use crate::answer::{PairStep, What};
+use crate::compared::note_timers;
 use crate::crossed::what_by;
+use crate::marks::Marks;
 use std::alloc::{AllocError, Global};
 use std::marker::Model;
-use tz_core::Machine;
-use tz_model::{Board, Image, Report, ScriptEvent};
+use tz_core::{Machine, Stores};
+use tz_model::{Board, Image, ScriptEvent, Side, Way};
 
 /// Two machines of one board and one Non-secure image, beside each other. As long as nothing differed at a
 /// crossing out of Secure state, Non-secure code sees the same in both.
@@ -23,9 +28,10 @@ pub struct Pair {
     second: Machine,
     steps: u32,
     found: Option<(u32, What)>,
-    /// What the last step of each told, which the next one overwrites.
-    told: Report,
-    other: Report,
+    /// Room for the stores of a step.
+    stores: Stores,
+    /// What may differ, since the machines were last linked.
+    marks: Marks,
 }
 
 impl Model for Pair {
@@ -33,6 +39,7 @@ impl Model for Pair {
     ghost use Rattle.std.specs.FinMap as map;
     ghost use Rattle.std.specs.Ordering.{nat_cmp};
     ghost use Rattle.std.specs.Coded.{codes, coded_ℕ};
+    ghost use Rattle.tz_iso.specs.Marks.{Marked};
     ghost use Rattle.tz_iso.specs.Runs.{PairValue, IsLinked};
 
     ghost Value = { PairValue };
@@ -41,28 +48,62 @@ impl Model for Pair {
 
     ghost view = { λ p. record { first = p.first; second = p.second; steps = p.steps; found = p.found } };
 
-    ghost invariant = { λ p. p.found ≡ None → IsLinked p.first p.second };
+    ghost invariant = { λ p. p.found ≡ None → IsLinked p.first p.second × Marked p.marks p.first p.second };
+}
+
+/// Makes the step of a machine, at which these events are due, marks what it may have written, and tells its way out of
+/// Secure state.
+fn step_noted(
+    machine: &mut Machine,
+    stores: &mut Stores,
+    marks: &mut Marks,
+    due: &[ScriptEvent],
+) -> Option<Way>
+    ensures steps { machine.new ≡ (step machine.old due.now).state }
+    ensures way { result ≡ (step machine.old due.now).report.way }
+    ensures notes { Notes (ended (started machine.old due.now)).stores (is_exceptional (step machine.old due.now).state.core (ended (started machine.old due.now)).ending.cause) (stacks_of machine.old.core.run.side (step machine.old due.now).state.core) marks.old marks.new }
+{
+    let side = machine.core().run.side;
+    let passage = machine.step_way(due, stores);
+    marks.note(stores, passage.exceptional, machine.core().stacks(side));
+    passage.way
+}
+
+/// Forgets what is marked where Non-secure code runs in linked machines: nothing differs then.
+fn begin_marks(marks: &mut Marks, first: &Machine, second: &Machine)
+    requires linked { IsLinked first.now second.now }
+    requires marked { Marked marks.old first.now second.now }
+    ensures { Marked marks.new first.now second.now }
+{
+    match first.side() {
+        Side::Secure => {}
+        Side::NonSecure => marks.clear(),
+    }
 }
 
 /// Makes the step of two linked machines, at which these events are due, and tells what differs first.
 fn step_both(
     first: &mut Machine,
-    told: &mut Report,
     second: &mut Machine,
-    other: &mut Report,
+    stores: &mut Stores,
+    marks: &mut Marks,
     due: &[ScriptEvent],
 ) -> Option<What>
-    requires { IsLinked first.old second.old }
+    requires linked { IsLinked first.old second.old }
+    requires marked { Marked marks.old first.old second.old }
     ensures first { first.new ≡ (step first.old due.now).state }
     ensures second { second.new ≡ (step second.old due.now).state }
     ensures what { result ≡ what_of (step first.old due.now) (step second.old due.now) }
     ensures exact { result ≡ None ↔ crossing (step first.old due.now) ≡ crossing (step second.old due.now) }
     ensures lines { result ≡ None → (k : ℕ) → line Ns k (step first.old due.now).report ≡ line Ns k (step second.old due.now).report }
     ensures linked { result ≡ None → IsLinked first.new second.new }
+    ensures marked { Marked marks.new first.new second.new }
 {
-    first.step_into(due, told);
-    second.step_into(due, other);
-    what_by(&told.way, &other.way, first, second)
+    begin_marks(marks, first, second);
+    let way = step_noted(first, stores, marks, due);
+    let other = step_noted(second, stores, marks, due);
+    note_timers(marks, first.exceptions(), second.exceptions());
+    what_by(marks, &way, &other, first, second)
 }
 
 impl Pair {
@@ -86,8 +127,8 @@ impl Pair {
             second: two,
             steps: 0,
             found: None,
-            told: Report::new(),
-            other: Report::new(),
+            stores: Stores::new(),
+            marks: Marks::everything(),
         })
     }
 
@@ -118,9 +159,9 @@ impl Pair {
         let step = self.steps;
         let what = step_both(
             &mut self.first,
-            &mut self.told,
             &mut self.second,
-            &mut self.other,
+            &mut self.stores,
+            &mut self.marks,
             due,
         );
         self.steps = step + 1;

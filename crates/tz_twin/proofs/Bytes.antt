@@ -59,14 +59,14 @@ value_same m n n' Word a same is = word_same m n n' a same is
 -- ---- writes of the same number
 
 -- the byte of a map after a replacement
-replaced : Option ℕ → ℕ → Option ℕ
+pub replaced : Option ℕ → ℕ → Option ℕ
 replaced None v = None
 replaced (Some x) v = Some v
 
 tied : (q a : ℕ) → q ≡ a → eq_by_cmp nat_cmp q a ≡ true
 tied q a e = grind (arith, nat_tests)
 
-get-with_byte : (n : Memory) (a v q : ℕ) → get (with_byte n a v) q ≡ cond (eq_by_cmp nat_cmp q a) (replaced (get n a) v) (get n q)
+pub get-with_byte : (n : Memory) (a v q : ℕ) → get (with_byte n a v) q ≡ cond (eq_by_cmp nat_cmp q a) (replaced (get n a) v) (get n q)
 unfolding with_byte replaced
 get-with_byte n a v q = go (get n a) refl where
   none_there : (t : Bool) → eq_by_cmp nat_cmp q a ≡ t → get n a ≡ None → get n q ≡ cond t None (get n q)

@@ -33,3 +33,6 @@ pub mod Secured
 pub mod TwoRuns
 pub mod Unharmed
 pub mod WaysOut
+pub mod Noted
+pub mod Framing
+pub mod Elsewhere

@@ -2,3 +2,4 @@ pub mod Seen
 pub mod Trace
 pub mod Integrity
 pub mod Ways
+pub mod Writing

@@ -17,6 +17,7 @@ ghost use Rattle.tz_twin.specs.Seen.{Agree};
 ghost use Rattle.tz_twin.specs.Trace.{text_from};
 ghost use Rattle.tz_twin.specs.Integrity.{LeavesSecure, EntersSecure};
 ghost use Rattle.tz_twin.specs.Ways.{TellsWay};
+ghost use Rattle.tz_twin.specs.Writing.{WritesTold};
 
 /// Isolation: two runs of a board, a Non-secure image and a script, with any two Secure images, that
 /// agree in what crosses out of Secure state print the same for Non-secure code.
@@ -38,4 +39,11 @@ pub fn integrity()
 /// Non-secure.
 pub fn ways()
     ensures { (s : State) (events : List ScriptEvent) → TellsWay (step s events) }
+{}
+
+/// After what a step begins with it changes no byte but those of its stores and, where an exception is taken or returns or
+/// the machine locks, of frames at the stack pointers of the side that ran; without a store to the system registers it
+/// keeps the SAU, and where no exception is taken or returns, all of the exceptions but their timers.
+pub fn writing()
+    ensures { (s : State) (events : List ScriptEvent) → WritesTold s events }
 {}

@@ -1,0 +1,68 @@
+//! The bytes and the exceptions of two machines, of which what isn't marked is the same.
+
+ghost use Rattle.std.specs.Prelude.{◌≡◌, ◌<◌, ◌/◌, ℕ, true, false};
+ghost use Rattle.tz_state.specs.Difference.{open_byte_differs, open_bytes_differ, exceptions_differ};
+ghost use Rattle.tz_iso.specs.Marks.{is_among, Grows, AreMarked};
+ghost use Rattle.tz_iso.specs.Parts.{is_same_timers};
+
+use crate::marks::{Blocks, Marks};
+use crate::parts::is_same_timers;
+use tz_access::Bus;
+use tz_core::Machine;
+use tz_nvic::Exceptions;
+
+/// How many blocks there are.
+const BLOCKS: u32 = 1 << 27;
+
+/// Whether an open byte of some of these blocks differs.
+fn differ_among(range: Blocks, b: &Bus, c: &Bus) -> bool
+    requires same { b.now.board.regions ≡ c.now.board.regions }
+    requires few { range.last < 134217728 }
+    ensures some { result ≡ true → open_bytes_differ b.now c.now ≡ true }
+    ensures none { result ≡ false → (a : ℕ) → is_among range (a / 32) ≡ true → open_byte_differs b.now c.now a ≡ false }
+{
+    for block in range.first..range.last + 1 {
+        if b.differs_at_block(c, block) {
+            return true;
+        }
+    }
+    false
+}
+
+/// Whether an open byte differs.
+pub fn bytes_differ(marks: &Marks, b: &Bus, c: &Bus) -> bool
+    requires same { b.now.board.regions ≡ c.now.board.regions }
+    requires marked { AreMarked marks.now b.now c.now }
+    ensures { result ≡ open_bytes_differ b.now c.now }
+{
+    if marks.all {
+        return b.differs_in_open_bytes(c);
+    }
+    for range in marks.ranges.as_slice() {
+        if range.last >= BLOCKS {
+            return b.differs_in_open_bytes(c);
+        }
+        if differ_among(*range, b, c) {
+            return true;
+        }
+    }
+    false
+}
+
+/// Whether the exceptions differ in anything but their timers.
+pub fn exceptions_differ(marks: &Marks, e: &Exceptions, f: &Exceptions) -> bool
+    requires { marks.now.exceptions ≡ false → e.now ≡ f.now }
+    ensures { result ≡ exceptions_differ e.now f.now }
+{
+    marks.exceptions && e.differs(f)
+}
+
+/// Marks the exceptions where the timers differ.
+pub fn note_timers(marks: &mut Marks, e: &Exceptions, f: &Exceptions)
+    ensures grows { Grows marks.old marks.new }
+    ensures timers { marks.new.exceptions ≡ false → is_same_timers e.now f.now ≡ true }
+{
+    if !is_same_timers(e, f) {
+        marks.exceptions = true;
+    }
+}
