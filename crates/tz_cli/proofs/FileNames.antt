@@ -13,7 +13,7 @@ use Rattle.tz_cli.specs.Pair.{PairWords, pair_behind, pair_names, pair_parts, pa
 use Rattle.tz_cli.specs.Asm.{AsmWords, asm_behind, asm_names, asm_parts, asm_with, form_of}
 use Rattle.tz_cli.specs.declared.words.asm.Form.{Form}
 use Rattle.tz_cli.specs.Dis.{DisWords, dis_behind, dis_names, dis_parts, dis_with, side_named}
-use Rattle.tz_cli.specs.Commands.{Command, Run, Pair, Asm, Dis, Gates, Snap, Resume, command_behind, command_of, longest, names_of}
+use Rattle.tz_cli.specs.Commands.{Command, Run, Pair, Asm, Dis, Gates, Snap, Show, Resume, command_behind, command_of, longest, names_of}
 
 -- no positional word is longer than a bound
 abbrev pub Within : ℕ → Option Parts → Type 0
@@ -155,10 +155,12 @@ names_command name words command =
     (mapped_within start_names names_of n Gates (start_behind words) command (λ s. refl) (behind_within start_names [] start_parts (λ p. bare_in p.values p.positionals) words))
     (either (bytes_eq name (codes "snap")) (option_map Snap (start_behind words)) _ command n
     (mapped_within start_names names_of n Snap (start_behind words) command (λ s. refl) (behind_within start_names [] start_parts (λ p. bare_in p.values p.positionals) words))
+    (either (bytes_eq name (codes "show")) (option_map Show (start_behind words)) _ command n
+    (mapped_within start_names names_of n Show (start_behind words) command (λ s. refl) (behind_within start_names [] start_parts (λ p. bare_in p.values p.positionals) words))
     (either (bytes_eq name (codes "resume")) (option_map Resume (resume_behind words)) None command n
     (mapped_within resume_names names_of n Resume (resume_behind words) command (λ w. refl)
     (behind_within resume_names (codes "view") resume_parts (λ p. resume_in (view_of p.values) p.positionals) words))
-    (λ e. absurd (cc e))))))))
+    (λ e. absurd (cc e)))))))))
 
 -- a command's names are among the words
 pub names_of-longest : (words : List Text) (command : Command) → command_of words ≡ Some command → longest (names_of command) ≤ longest words

@@ -11,7 +11,7 @@ use Rattle.tz_cli.specs.Resume.{ResumeWords, resume_names}
 use Rattle.tz_cli.specs.Pair.{PairWords, pair_names}
 use Rattle.tz_cli.specs.Asm.{AsmWords, asm_names}
 use Rattle.tz_cli.specs.Dis.{DisWords, dis_names}
-use Rattle.tz_cli.specs.Commands.{Command, Run, Pair, Asm, Dis, Gates, Snap, Resume, longest, names_of}
+use Rattle.tz_cli.specs.Commands.{Command, Run, Pair, Asm, Dis, Gates, Snap, Show, Resume, longest, names_of}
 use Rattle.tz_cli.specs.Told.{Stop, TooManySteps, Unread, Told, Unknown, Stops, Gives, told_then, is_demo, is_none_script, board_told, board_file, image_told, state_told, script_told, script_file, source_told, step_limit}
 use Rattle.tz_cli.specs.Reads.{Reading, Settled, goes_on, read_where, one_file, and_file, settling, within_limit, IsOneOf}
 use Rattle.tz_cli.specs.declared.words.asm.Form.{Form as AsmForm}
@@ -179,6 +179,7 @@ module _ (held : List ℕ → Held) where
   sure_command (Dis d) = sure_settling held (longest (dis_names d)) _ _ (sure_listed d)
   sure_command (Gates s) = sure_settling held (longest (start_names s)) _ _ (sure_begun s)
   sure_command (Snap s) = sure_settling held (longest (start_names s)) _ _ (sure_begun s)
+  sure_command (Show s) = sure_settling held (longest (start_names s)) _ _ (sure_begun s)
   sure_command (Resume w) =
       let n = longest (resume_names w) in
       sure_settling held n _ _ (sure_limited held n (nat_lt step_limit w.steps) _ (sure_saved w))

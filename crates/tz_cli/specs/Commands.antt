@@ -21,6 +21,7 @@ pub data Command : Type 0 where
   Dis : DisWords → Command
   Gates : StartWords → Command
   Snap : StartWords → Command
+  Show : StartWords → Command
   Resume : ResumeWords → Command
 
 -- what is done with what begins a run
@@ -28,6 +29,7 @@ abbrev pub command_with : StartWords → Work → Command
 command_with words (works.Trace view) = Run (run_of words view)
 command_with words works.Gates = Gates words
 command_with words works.Save = Snap words
+command_with words works.Page = Show words
 
 -- what the program read, as such a command
 abbrev pub command_in : ReadCommand → Command
@@ -46,6 +48,7 @@ command_behind command words =
     else if bytes_eq command (codes "dis") then option_map Dis (dis_behind words)
     else if bytes_eq command (codes "gates") then option_map Gates (start_behind words)
     else if bytes_eq command (codes "snap") then option_map Snap (start_behind words)
+    else if bytes_eq command (codes "show") then option_map Show (start_behind words)
     else if bytes_eq command (codes "resume") then option_map Resume (resume_behind words)
     else None
 
@@ -62,6 +65,7 @@ names_of (Asm a) = asm_names a
 names_of (Dis d) = dis_names d
 names_of (Gates s) = start_names s
 names_of (Snap s) = start_names s
+names_of (Show s) = start_names s
 names_of (Resume w) = resume_names w
 
 -- the length of the longest word

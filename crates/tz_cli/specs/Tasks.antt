@@ -14,11 +14,12 @@ use Rattle.tz_gates.specs.Gates.{gates_of}
 use Rattle.tz_gates.specs.Entries.{entries_at, other_entries}
 use Rattle.tz_gates.specs.GatesText.{gates_text}
 use Rattle.tz_snap.specs.StateFile.{file_of}
+use Rattle.tz_show.specs.Page.{page}
 use Rattle.tz_cli.specs.Resume.{ResumeWords}
 use Rattle.tz_cli.specs.Run.{RunWords, run_of, start_of}
 use Rattle.tz_cli.specs.Pair.{PairWords}
 use Rattle.tz_cli.specs.PairLine.{pair_line, pair_status}
-use Rattle.tz_cli.specs.Commands.{Command, Run, Pair, Asm, Dis, Gates, Snap, Resume}
+use Rattle.tz_cli.specs.Commands.{Command, Run, Pair, Asm, Dis, Gates, Snap, Show, Resume}
 use Rattle.tz_cli.specs.Told.{BadWords, TooFar, Told, Stops, Gives, step_limit}
 use Rattle.tz_cli.specs.Reads.{Reading, Settled, settling, within_limit}
 use Rattle.tz_cli.specs.Starts.{Start, PairStart, SavedStart, start_files, state_of, pair_start_files, first_state, second_state, saved_files, source_files, listed_files}
@@ -110,6 +111,10 @@ gates_task words start = record { text = counted_gates (events_of start.script) 
 abbrev pub snap_task : StartWords → Start → Task
 snap_task words start = record { text = file_of (end_of start words.steps) words.steps; status = 0 }
 
+-- the page of that state, without memory
+abbrev pub page_task : StartWords → Start → Task
+page_task words start = record { text = page (end_of start words.steps) words.steps []; status = 0 }
+
 -- the lines of the steps behind those that a state file tells, with them within the limit of steps
 abbrev pub resumed_text : ResumeWords → SavedStart → List ℕ
 resumed_text w start = text_from w.view (events_of start.script) start.step start.state w.steps
@@ -122,6 +127,7 @@ abbrev pub work_task : Work → StartWords → Start → Task
 work_task (works.Trace view) words start = run_task (record { words = run_of words view; start = start })
 work_task works.Gates words start = gates_task words start
 work_task works.Save words start = snap_task words start
+work_task works.Page words start = page_task words start
 
 -- ---- commands
 
@@ -134,6 +140,7 @@ files_of held (Some (Asm a)) = settling (λ file. Gives (asm_task file)) (source
 files_of held (Some (Dis d)) = settling (λ image. Gives (dis_task image)) (listed_files held d)
 files_of held (Some (Gates s)) = settling (λ start. Gives (gates_task s start)) (begin_files held s)
 files_of held (Some (Snap s)) = settling (λ start. Gives (snap_task s start)) (begin_files held s)
+files_of held (Some (Show s)) = settling (λ start. Gives (page_task s start)) (begin_files held s)
 files_of held (Some (Resume w)) = settling (resume_next w) (resume_files held w)
 
 -- what is settled of a command, or of words that are refused
@@ -153,4 +160,5 @@ IsDone (Some (Asm a)) status = status ≡ 0
 IsDone (Some (Dis d)) status = status ≡ 0
 IsDone (Some (Gates s)) status = status ≡ 0
 IsDone (Some (Snap s)) status = status ≡ 0
+IsDone (Some (Show s)) status = status ≡ 0
 IsDone (Some (Resume w)) status = status ≡ 0

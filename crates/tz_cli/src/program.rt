@@ -12,6 +12,7 @@ ghost use Rattle.tz_gates.specs.Entries.{entries_at};
 ghost use Rattle.tz_gates.specs.GatesText.{gates_text};
 ghost use Rattle.tz_gates.specs.Stays.{KeepsGatesFor};
 ghost use Rattle.tz_snap.specs.StateFile.{file_of};
+ghost use Rattle.tz_show.specs.Page.{page};
 ghost use Rattle.std.specs.String.{string_bytes};
 ghost use Rattle.tz_table.specs.declared.units.Side.TheVariants.{Secure};
 ghost use Rattle.tz_model.specs.declared.report.View.TheVariants.{Ns};
@@ -26,7 +27,7 @@ ghost use Rattle.tz_cli.specs.Run.{RunWords};
 ghost use Rattle.tz_iso.specs.declared.answer.What.{What};
 ghost use Rattle.tz_cli.specs.Pair.{PairWords};
 ghost use Rattle.tz_cli.specs.PairLine.{FirstApart, agree_line, differ_line};
-ghost use Rattle.tz_cli.specs.Commands.{Run, Pair, Gates, Snap, Resume, command_of};
+ghost use Rattle.tz_cli.specs.Commands.{Run, Pair, Gates, Snap, Show, Resume, command_of};
 ghost use Rattle.tz_cli.specs.StartWords.{StartWords};
 ghost use Rattle.tz_cli.specs.Resume.{ResumeWords};
 ghost use Rattle.tz_cli.specs.Told.{Stop, Stops, Gives};
@@ -118,11 +119,13 @@ pub fn top<H: Shelf, O: Sink, E: Sink>(
         KeepsGatesFor (state_of start) (events_of start.script) (state_of start) s.steps →
         Gains (O.written out.old) (O.written out.new) (gates_text (gates_of (state_of start)) (map (entries_at (events_of start.script) 0 (state_of start) s.steps) (gates_of (state_of start))) 0) }
 
-    // At status 0 of `snap` the file of the state after all steps is written. At status 0 of `resume` the lines are
-    // written that follow the state of a file: those behind the first ones of every run with that script which comes
+    // At status 0 of `snap` the file of the state after all steps is written, and at status 0 of `show` the page of
+    // that state. At status 0 of `resume` the lines are written that follow the state of a file: those behind the first ones of every run with that script which comes
     // to this state in so many steps.
     ensures snap { result ≡ 0 → (s : StartWords) → command_of (map string_bytes words.now) ≡ Some (Snap s) → (start : Start) → begin_told (H.held shelf.old) s ≡ Gives start →
         Gains (O.written out.old) (O.written out.new) (file_of (end_of start s.steps) s.steps) }
+    ensures shown { result ≡ 0 → (s : StartWords) → command_of (map string_bytes words.now) ≡ Some (Show s) → (start : Start) → begin_told (H.held shelf.old) s ≡ Gives start →
+        Gains (O.written out.old) (O.written out.new) (page (end_of start s.steps) s.steps []) }
     ensures resumed { result ≡ 0 → (w : ResumeWords) → command_of (map string_bytes words.now) ≡ Some (Resume w) → (start : SavedStart) → resume_told (H.held shelf.old) w ≡ Gives start →
         Gains (O.written out.old) (O.written out.new) (resumed_text w start) }
     ensures continued { result ≡ 0 → (w : ResumeWords) → command_of (map string_bytes words.now) ≡ Some (Resume w) → (start : SavedStart) → resume_told (H.held shelf.old) w ≡ Gives start →

@@ -5,7 +5,7 @@ ghost use Rattle.tz_model.specs.Outside.{Gains};
 ghost use Rattle.tz_cli.specs.StartWords.{start_in};
 ghost use Rattle.tz_cli.specs.Run.{run_of};
 ghost use Rattle.tz_cli.specs.Commands.{command_with};
-ghost use Rattle.tz_cli.specs.Tasks.{trace_of, gates_task, snap_task, work_task};
+ghost use Rattle.tz_cli.specs.Tasks.{trace_of, gates_task, snap_task, page_task, work_task};
 ghost use Rattle.tz_cli.specs.Answer.{CommandAnswer, shelved, sunk, IsTold};
 ghost use Rattle.tz_cli.specs.Faults.{start_value};
 
@@ -17,6 +17,7 @@ use tz_core::Machine;
 use tz_gates::{count, list, put_gates};
 use tz_model::{Shelf, Sink, View};
 use tz_run::{make_steps, run};
+use tz_show::show;
 use tz_snap::save;
 
 /// The most steps of a run.
@@ -79,6 +80,25 @@ fn snap_started<O: Sink>(
     Ok(put_status(save(&machine, words.steps, out)))
 }
 
+/// Runs a machine of the files and writes the page of its state: 0, or 4 where it can't be written. Its error is
+/// want of memory, before anything is written.
+fn page_started<O: Sink>(
+    alloc: Global,
+    files: &Files,
+    words: &StartWords<'_>,
+    out: &mut O,
+) -> Result<u8, AllocError>
+    ensures ran { IfOk result (λ status. IsTold status (page_task (start_in words.now) (start_value files.now)).text 0 (O.written out.old) (O.written out.new) (O.space out.old) (O.faults out.old) (O.faults out.new)) }
+    ensures quiet { IfErr result (λ _. Gains (O.written out.old) (O.written out.new) []) }
+{
+    let mut reached = match Machine::new(alloc, &files.board, &files.secure, &files.nonsecure) {
+        Ok(machine) => machine,
+        Err(error) => return Err(error),
+    };
+    make_steps(&mut reached, &files.script, words.steps);
+    Ok(put_status(show(&reached, words.steps, &[], out)))
+}
+
 /// Does the work with a machine of the files: 0, or 4 where its text can't be written. Its error is want of
 /// memory, before anything is written.
 fn work_started<O: Sink>(
@@ -97,6 +117,7 @@ fn work_started<O: Sink>(
         Work::Trace(view) => run_started(alloc, files, words, view, out),
         Work::Gates => gates_started(alloc, files, words, out),
         Work::Save => snap_started(alloc, files, words, out),
+        Work::Page => page_started(alloc, files, words, out),
     }
 }
 

@@ -61,6 +61,7 @@ pub fn command_words<'a>(
             "dis" => dis_command(alloc, rest),
             "gates" => start_command(alloc, Work::Gates, rest),
             "snap" => start_command(alloc, Work::Save, rest),
+            "show" => start_command(alloc, Work::Page, rest),
             "resume" => resume_command(alloc, rest),
             _ => Ok(None),
         },

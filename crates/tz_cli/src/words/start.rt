@@ -39,6 +39,8 @@ pub enum Work {
     Gates,
     /// The file of the state after its steps.
     Save,
+    /// The page of that state.
+    Page,
 }
 
 /// What five words begin; `None` where there are others.
