@@ -5,8 +5,8 @@ is compared.
 """
 
 from full_instructions import branch_of, loads_of, returning_text
-from full_lines import BASIC, GENERAL, SAVED, digit, word
-from full_machine import EXC_RETURN, NONSECURE, SECURE, SIGNATURE, plus
+from full_lines import ABSENT, BASIC, GENERAL, SAVED, digit, word
+from full_machine import EXC_RETURN, FNC_RETURN, NONSECURE, SECURE, SIGNATURE, plus
 from full_system import EXCEPTIONS, FIRST_INTERRUPT, NUMBERS, name_of
 
 # Bytes below an address at which a store failed: those of the same instruction were stored before it.
@@ -32,8 +32,10 @@ class Entries:
         self.free = self.free | {
             "fault", "call of supervisor", "forced", "refused value", "refused frame", "refused word", "refused mode", "unwritten",
             "below limit", "additional unwritten", "additional below limit", "additional uncounted", "unread vector", "lockup",
-            "last vector", "function"}
+            "last vector"}
         side = core.side
+        if self.told["function"]:
+            self.refused_call()
         secure, thread = side == SECURE, core.is_thread()
         chained, value = bool(self.told["return"]), None
         takes = line.kind == "X"
@@ -50,6 +52,26 @@ class Entries:
             self.enter(line, secure, thread, value)
         else:
             self.lock(secure, thread)
+
+    def refused_call(self):
+        """A return from a call that is refused: its value, and the words that were to be taken."""
+        core = self.core
+        text = None if core.pc is None or core.memory.read(core.pc, 2) is None else returning_text(core.memory, core.pc) or ""
+        loads, _ = loads_of(core, text or "")
+        value = self.loaded(loads[-1]) if loads else branch_of(core, text, 2, None).target if text else None
+        if value is not None and value not in FNC_RETURN or text == "":
+            self.tell("a return from a call where no instruction returns")
+        frame = {"base": ABSENT, "back": ABSENT, "ipsr": ABSENT} if core.side == SECURE else self.call_frame()[0]
+        self.want("function", word=word(value), **frame)
+
+    def call_frame(self):
+        """The frame of a call at the Secure stack pointer: what is told of it, where it is, and its words."""
+        core = self.core
+        process = core.process(SECURE)
+        base = None if process is None else core.sp[SECURE, bool(process)]
+        back, number = (None if base is None else core.memory.read(base + at) for at in (0, 4))
+        number = None if number is None else number & 0x1FF
+        return {"base": word(base), "back": word(back), "ipsr": digit(number)}, process, base, back, number
 
     def chained(self):
         """A return that is refused, or ends in an entry; its value is that of the instruction where code stands."""
@@ -271,7 +293,7 @@ class Entries:
             enabled = True
         reason = None if enabled is None else "its priority is not above that of the code" if enabled else f"{name_of(number)} is not enabled"
         self.equal("why it escalates", reason, told.fields["why"])
-        if not self.system.is_swapped and self.system.is_boot:
+        if not self.system.is_swapped:
             self.equal("side of HardFault", SECURE, told.fields["side"])
 
     def missing(self, told):
@@ -325,7 +347,7 @@ class Entries:
         """A core that locks, and says why, but where it is locked from the start."""
         self.is_locked = True
         why = len(self.told["lockup"]) + len(self.told["last vector"])
-        if why != (0 if self.step == 0 and self.core.pc is None and self.system.is_boot else 1):
+        if why != (0 if self.step == 0 and self.core.pc is None else 1):
             self.tell(f"the core locks, and {why} lines say why")
         for told in self.told["additional"]:
             process = self.core.process(SECURE, thread)

@@ -95,6 +95,9 @@ def form_of(pattern):
 
 GRAMMAR = [(kind, rank, form_of(pattern)) for kind, rank, pattern in FORMS]
 
+# What a field that isn't there is compared with.
+ABSENT = ""
+
 # A line that is told: its kind, its rank, its fields by name.
 Told = collections.namedtuple("Told", "kind rank fields text")
 # A line that has to be there: its kind, and its fields as far as they are known.
@@ -134,7 +137,7 @@ class Verdict:
             self.passed_over[f"{kind}: {name}"] += 1
             return
         self.compared[f"{kind}: {name}"] += 1
-        if wanted != ("" if got is None and wanted == "" else got):
+        if wanted != (ABSENT if got is None and wanted == ABSENT else got):
             self.tell(step, f"{kind}: {name} is told as {got}, and has to be {wanted}")
 
     def facts(self, step, wanted, told):

@@ -98,10 +98,10 @@ def segments_of(data):
 
 
 class Memory:
-    """Bytes by their addresses; None is a byte that isn't known. What isn't written is 0, or in a run that goes on not known."""
+    """Bytes by their addresses; None is a byte that isn't known. What isn't written is 0."""
 
-    def __init__(self, board, images, blank):
-        self.board, self.bytes, self.blank = board, {}, blank
+    def __init__(self, board, images):
+        self.board, self.bytes = board, {}
         for image in images:
             for address, content in segments_of(image):
                 self.bytes.update(zip(range(address, address + len(content)), content))
@@ -109,7 +109,7 @@ class Memory:
     def read(self, address, size=4):
         """The number there; None where it isn't known, or where there is no memory."""
         places = [(address + at) & 0xFFFFFFFF for at in range(size)]
-        found = [self.bytes.get(it, self.blank) for it in places]
+        found = [self.bytes.get(it, 0) for it in places]
         if None in found or not all(self.board.is_mapped(it, 1) for it in places):
             return None
         return int.from_bytes(bytes(found), "little")
@@ -133,24 +133,19 @@ def plus(value, more):
 class Core:
     """The registers of both sides, and where code goes on."""
 
-    def __init__(self, memory, is_boot):
-        zero = 0 if is_boot else None
+    def __init__(self, memory):
         self.memory = memory
-        self.r = {f"r{number}": zero for number in range(13)}
-        self.r.update(lr=0xFFFFFFFF if is_boot else None, apsr=zero)
-        self.sp = {(side, process): zero for side in (SECURE, NONSECURE) for process in (False, True)}
+        self.r = {f"r{number}": 0 for number in range(13)}
+        self.r.update(lr=0xFFFFFFFF, apsr=0)
+        self.sp = {(side, process): 0 for side in (SECURE, NONSECURE) for process in (False, True)}
         self.limit = dict(self.sp)
-        self.spsel = {SECURE: False if is_boot else None, NONSECURE: False if is_boot else None}
+        self.spsel = {SECURE: False, NONSECURE: False}
         self.npriv = dict(self.spsel)
-        self.vtor = dict(memory.board.vtor) if is_boot else {SECURE: None, NONSECURE: None}
-        self.side, self.ipsr, self.it, self.t, self.pc = SECURE, zero, zero, None, None
-        self.event, self.sleep = zero, "" if is_boot else None
-        if is_boot:
-            self.boot()
-
-    def boot(self):
+        self.vtor = dict(memory.board.vtor)
+        self.side, self.ipsr, self.it, self.t, self.pc = SECURE, 0, 0, None, None
+        self.event, self.sleep = 0, ""
         table = self.vtor[SECURE]
-        stack, start = self.memory.read(table), self.memory.read(table + 4)
+        stack, start = memory.read(table), memory.read(table + 4)
         if stack is not None and start is not None:
             self.sp[SECURE, False] = stack & ~3
             self.t, self.pc = start & 1, start & ~1

@@ -15,19 +15,17 @@ MOST_STEPS, LIMIT = 20_000, 9_999_999
 
 
 class Command(collections.namedtuple("Command", "folder board images script steps")):
-    """A run by its files, or one that goes on from a state, where there is one image."""
+    """A run by its files."""
 
     def words(self, steps):
-        return ["resume" if len(self.images) == 1 else "run", self.board, *self.images, self.script, str(steps)]
+        return ["run", self.board, *self.images, self.script, str(steps)]
 
 
 def command_of(folder, words):
     """The runs that a command makes: those of both images where it compares two."""
     words = [it for it in words if it not in ("--view", "all", "ns", "full")]
     first, rest = words[:1], words[1:]
-    if first == ["resume"] and len(rest) == 4:
-        images, rest = [rest[1:2]], rest[:1] + rest[2:]
-    elif first in (["run"], ["gates"]) and len(rest) == 5:
+    if first in (["run"], ["gates"]) and len(rest) == 5:
         images, rest = [rest[1:3]], rest[:1] + rest[3:]
     elif first in (["pair"], ["explain"]) and len(rest) == 6:
         images, rest = [[rest[1], rest[3]], [rest[2], rest[3]]], rest[:1] + rest[4:]
@@ -59,16 +57,16 @@ def commands_of_cases(folder, name):
     for row in lists["files"]:
         for file in words_of(row.columns[0]):
             (folder / os.fsdecode(file)).write_bytes(unescaped(row.columns[1]) * decimal(row.columns[2]))
-    for row in lists.get("answers", ()):
-        if row.columns[0] in ("0", "1"):
-            yield from command_of(folder, [os.fsdecode(it) for it in words_of(row.columns[1])][1:])
+    steps = [rows[0].columns[0] for name, rows in lists.items() if name.startswith("step ")]
+    for words in steps + [row.columns[1] for row in lists.get("answers", ()) if row.columns[0] in ("0", "1")]:
+        yield from command_of(folder, [os.fsdecode(it) for it in words_of(words)][1:])
 
 
 def all_runs(folder):
     """One run of those that differ in their steps alone."""
     found = {}
     runs = [*commands_of_folders()]
-    for name in ("runs.txt", "pairs.txt"):
+    for name in ("runs.txt", "pairs.txt", *sorted(path.name for path in (TOP / "cases").glob("full*.txt"))):
         runs += commands_of_cases(folder / name, name)
     for run in runs:
         found[run[:-1]] = max(run.steps, found.get(run[:-1], 0))
@@ -89,11 +87,9 @@ def events_of(text):
 def begun(run):
     """The core, the system registers and the events with which a run begins."""
     board = demo_or_file(run.folder, run.board)
-    is_boot = len(run.images) == 2
-    files = [(run.folder / name).read_bytes() for name in run.images] if is_boot else []
-    core = Core(Memory(board, files, 0 if is_boot else None), is_boot)
+    core = Core(Memory(board, [(run.folder / name).read_bytes() for name in run.images]))
     script = "" if run.script == "@none" else (run.folder / run.script).read_text(encoding="ascii")
-    return core, System(core, is_boot), events_of(script)
+    return core, System(core), events_of(script)
 
 
 def grouped(text):

@@ -9,7 +9,7 @@ import re
 
 from full_entries import bit, Entries, stack_name
 from full_instructions import branch_of, is_table, loads_of
-from full_lines import BASIC, Fact, GENERAL, SAVED, digit, told_of, word
+from full_lines import ABSENT, BASIC, Fact, GENERAL, SAVED, digit, told_of, word
 from full_machine import EXC_RETURN, FNC_RETURN, NONSECURE, PRIVATE, SECURE, SIGNATURE, plus, system_name
 from full_system import FIRST_INTERRUPT, SIDES
 
@@ -23,7 +23,6 @@ LETTERS = {"s": SECURE, "n": NONSECURE}
 SIZES = {1: "byte", 2: "half", 4: "word"}
 # Kinds of which a step may have several lines.
 SEVERAL = {"event", "tick", "load", "store", "forced"}
-ABSENT = ""
 
 Line = collections.namedtuple("Line", "step side kind pc code text registers stores number lr")
 
@@ -113,10 +112,7 @@ class Run(Entries):
             self.want("event", event=event)
             self.system.pend(2 if event == "nmi" else FIRST_INTERRUPT + int(event.split(" ")[1]))
         for side in SIDES:
-            timer = self.system.timers[side]
-            if not timer.is_known:
-                self.free.add("tick")
-            elif timer.count():
+            if self.system.timers[side].count():
                 self.want("tick", side=side)
                 self.system.pend(15)
         if self.core.sleep is None:
@@ -270,11 +266,8 @@ class Run(Entries):
 
     def function_return(self, value):
         core = self.core
-        process = core.process(SECURE)
-        base = None if process is None else core.sp[SECURE, bool(process)]
-        back, number = (None if base is None else core.memory.read(base + at) for at in (0, 4))
-        number = None if number is None else number & 0x1FF
-        self.want("function", word=word(value), base=word(base), back=word(back), ipsr=digit(number))
+        frame, process, base, back, number = self.call_frame()
+        self.want("function", word=word(value), **frame)
         core.side, core.it, core.ipsr = SECURE, 0, number if number is not None else 0 if core.ipsr == 0 else None
         core.pc, core.t = (None, None) if back is None else (back & ~1, back & 1)
         if base is not None:

@@ -30,8 +30,7 @@ def name_of(number):
 class Timer:
     """SysTick of a side."""
 
-    def __init__(self, is_boot):
-        self.is_known = is_boot
+    def __init__(self):
         self.control = self.reload = self.value = 0
 
     def count(self):
@@ -47,32 +46,29 @@ class Timer:
 
 
 class System:
-    """The system registers of both sides, as far as stores tell them. In a run that goes on they aren't known."""
+    """The system registers of both sides, as far as stores tell them."""
 
-    def __init__(self, core, is_boot):
-        self.core, self.is_boot = core, is_boot
-        self.timers = {side: Timer(is_boot) for side in SIDES}
+    def __init__(self, core):
+        self.core = core
+        self.timers = {side: Timer() for side in SIDES}
         self.priorities, self.enables, self.interrupt_sides = {}, {}, {}
         self.groups = {side: 0 for side in SIDES}
         self.pris, self.is_swapped = 0, 0
-        # Exceptions that may pend, by number; None where all may.
-        self.pending = set() if is_boot else None
+        # Exceptions that may pend, by number.
+        self.pending = set()
 
     def pend(self, number):
-        if self.pending is not None:
-            self.pending.add(number)
+        self.pending.add(number)
 
     def may_be_taken(self, number):
         """Whether an exception was pended; it doesn't pend any more."""
-        if self.pending is None:
-            return True
         told = number in self.pending
         self.pending.discard(number)
         return told
 
     def enabled(self, number, side):
-        """Whether a fault's exception is enabled; None where that isn't known."""
-        return self.enables.get((number, side), False) if self.is_boot else None
+        """Whether a fault's exception is enabled."""
+        return self.enables.get((number, side), False)
 
     def store(self, side, address, size, value):
         """A store of code of a side."""
@@ -142,12 +138,10 @@ class System:
             do(FIRST_INTERRUPT + 8 * offset + bit, bool(value >> bit & 1))
 
     def priority(self, number, side):
-        """The priority of an exception as it counts; None where that isn't known."""
+        """The priority of an exception as it counts."""
         if number == 2:
             return -2
         if number == 3:
             return -3 if side == SECURE and self.is_swapped else -1
-        if not self.is_boot:
-            return None
         group = self.priorities.get((number, side if number in BANKED else None), 0) & ~((2 << self.groups[side]) - 1)
         return 0x80 + (group >> 1) if side == NONSECURE and self.pris else group

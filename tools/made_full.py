@@ -131,11 +131,11 @@ UNKNOWN = {("fault", "fault"), ("fault", "address"), ("lockup", "priority"), ("l
 def verdict_on(image, script, text):
     """What is told of a made trace."""
     verdict = Verdict()
-    core = Core(Memory(Board(DEMO), [image], 0), True)
+    core = Core(Memory(Board(DEMO), [image]))
     groups = grouped(text)
     lines = [line for line, _ in groups]
     sides = {it.step: it.side for it in map(line_of, lines)}
-    machine = Run(core, System(core, True), events_of(script), lambda step: "S" in (sides[step], sides.get(step + 1)), verdict)
+    machine = Run(core, System(core), events_of(script), lambda step: "S" in (sides[step], sides.get(step + 1)), verdict)
     for at, (line, below) in enumerate(groups):
         machine.take(line, lines[at + 1] if at + 1 < len(lines) else None, below)
     return verdict
