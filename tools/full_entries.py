@@ -47,6 +47,7 @@ class Entries:
         elif takes or self.told["interrupted"]:
             self.interrupted()
         self.causes(side)
+        self.sided(side)
         if takes:
             self.additional(line, value, secure, thread, side)
             self.enter(line, secure, thread, value)
@@ -89,7 +90,7 @@ class Entries:
             self.refused(told, value)
         if self.told["refused mode"]:
             self.equal("mode that a return refuses", "thread" if bit(value, 3) else "handler", self.told["refused mode"][0].fields["mode"])
-        for told in self.told["refused frame"]:
+        for told in self.told["refused frame"] + self.told["refused word"]:
             self.refused_frame(told, value)
         core.spsel[SECURE if core.side == SECURE and bit(value, 0) else NONSECURE] = bool(bit(value, 2))
         return value
@@ -129,6 +130,10 @@ class Entries:
         side = SECURE if bit(value, 6) else NONSECURE
         spsel = bool(bit(value, 2)) if (side == SECURE) == bool(bit(value, 0)) else core.spsel[side]
         base = None if spsel is None else core.sp[side, bool(bit(value, 3)) and spsel]
+        if told.kind == "refused word":
+            if base is not None:
+                self.equal("word that a return can't read", True, int(told.fields["address"], 16) in range(base, base + 0x48, 4))
+            return
         self.equal("frame that a return refuses", word(base), told.fields["base"])
         found = None if base is None else core.memory.read(base)
         if found == SIGNATURE:
@@ -180,7 +185,7 @@ class Entries:
         for told in unwritten:
             size = 0x28 if prefix else 0x20
             if base is not None:
-                self.equal("word of a frame that isn't written", True, 0 <= int(told.fields["address"], 16) - base < size)
+                self.equal("word of a frame that isn't written", True, int(told.fields["address"], 16) in range(base, base + size, 4))
                 core.memory.forget(base, base + size)
             if bank is not None and told.fields.get("side"):
                 self.equal("side of MSTKERR", bank[0], told.fields["side"])
@@ -278,11 +283,21 @@ class Entries:
         if told.kind == "refused mode":
             return 6, None
         if told.kind in ("fault", "refused value", "refused word", "unwritten", "additional unwritten"):
-            number = EXCEPTIONS[fields["fault"]]
-            if number == 7:
-                return 7, SECURE
-            return number, fields.get("side") if number == 4 or fields["fault"] == "STKOF" else side if number == 6 else None
+            number, swapped = EXCEPTIONS[fields["fault"]], self.system.is_swapped
+            told_side = fields.get("side") if told.kind == "fault" or number == 4 else None
+            sides = {3: side if swapped else SECURE, 5: NONSECURE if swapped else SECURE, 7: SECURE}
+            return number, sides.get(number, told_side or side)
         return None
+
+    def sided(self, side):
+        """The sides that faults of an instruction tell: that of the code, but where Secure code sets SP_NS, or comes from a
+        gateway or a call."""
+        for told in self.told["fault"]:
+            fault, of = told.fields["fault"], told.fields.get("side")
+            if of and (fault == "INVPC" or side == NONSECURE and fault in ("STKOF", "DACCVIOL") and not self.told["function"]):
+                self.equal("side of a fault", side, of)
+            if fault == "INVPC" and not self.told["function"]:
+                self.tell("INVPC, and no return from a call")
 
     def forced(self, told, last):
         number, side = last
@@ -304,6 +319,8 @@ class Entries:
         self.equal("address of a vector that isn't read", word(plus(table, 4 * number)), told.fields["address"])
         if told.kind == "unread vector":
             self.system.pend(3)
+        elif not self.system.may_be_taken(number):
+            self.tell(f"{name} is to be taken, and nothing below the line has made it pend")
 
     # ---- an exception is taken
 

@@ -146,8 +146,8 @@ class Run(Entries):
         core.it = int(line.code, 16) & 0xFF if re.match(r"it[te]* ", text) else core.advanced_it()
         self.list(line)
         resumed = self.go(kind, target, line, after, gateway)
-        self.listed_sp(line, before)
         self.effects(text)
+        self.listed_sp(line, before)
         self.load_facts(loads, resumed, target, is_table(text))
         for address, size, value in line.stores:
             if address in PRIVATE:
