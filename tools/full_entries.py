@@ -7,7 +7,7 @@ is compared.
 from full_instructions import branch_of, loads_of, returning_text
 from full_lines import ABSENT, BASIC, GENERAL, SAVED, digit, word
 from full_machine import EXC_RETURN, FNC_RETURN, NONSECURE, SECURE, SIGNATURE, plus
-from full_system import EXCEPTIONS, FIRST_INTERRUPT, NUMBERS, name_of
+from full_system import EXCEPTIONS, FIRST_INTERRUPT, FORCED, HFSR, NUMBERS, VECTTBL, name_of
 
 # Bytes below an address at which a store failed: those of the same instruction were stored before it.
 STORED_BEFORE = 64
@@ -251,18 +251,28 @@ class Entries:
             if found:
                 self.settle(last)
                 last = found
+                self.note(told, found[1])
             elif told.kind in ("forced", "lockup") and not last:
                 self.tell(f"nothing before it raises an exception: {told.text.strip()}")
             elif told.kind == "forced":
                 self.forced(told, last)
                 self.system.pend(3)
+                self.system.status.words[HFSR] |= FORCED
                 last = None
             elif told.kind == "lockup":
+                self.system.status.words[HFSR] |= FORCED
                 self.equal("exception that can't be taken", f"{name_of(last[0])} {last[1] or told.fields['side']}", f"{told.fields['name']} {told.fields['side']}")
                 last = None
         self.settle(last)
         for told in self.told["unread vector"] + self.told["last vector"]:
             self.missing(told)
+
+    def note(self, told, side):
+        """What a fault leaves in the status registers."""
+        names = {"below limit": "STKOF", "additional below limit": "STKOF", "refused frame": "INVIS", "refused mode": "INVPC"}
+        fault, address = names.get(told.kind) or told.fields.get("fault"), told.fields.get("address")
+        if fault:
+            self.system.status.note(fault, side, address and int(address, 16), told.kind != "fault")
 
     def settle(self, last):
         """A fault whose exception stays what it is: it is enabled."""
@@ -281,7 +291,7 @@ class Entries:
         if told.kind == "refused frame":
             return 7, SECURE
         if told.kind == "refused mode":
-            return 6, None
+            return 6, SECURE if bit(int(self.told["return"][0].fields["word"], 16), 6) else NONSECURE
         if told.kind in ("fault", "refused value", "refused word", "unwritten", "additional unwritten"):
             number, swapped = EXCEPTIONS[fields["fault"]], self.system.is_swapped
             told_side = fields.get("side") if told.kind == "fault" or number == 4 else None
@@ -315,6 +325,7 @@ class Entries:
         """A vector that can't be read."""
         name = told.fields["name"]
         number = int(name.split(" ")[1]) + FIRST_INTERRUPT if name.startswith("interrupt ") else NUMBERS.get(name, 0)
+        self.system.status.words[HFSR] |= VECTTBL
         table = self.core.vtor[told.fields["side"]]
         self.equal("address of a vector that isn't read", word(plus(table, 4 * number)), told.fields["address"])
         if told.kind == "unread vector":

@@ -148,7 +148,7 @@ class Run(Entries):
         resumed = self.go(kind, target, line, after, gateway)
         self.effects(text)
         self.listed_sp(line, before)
-        self.load_facts(loads, resumed, target, is_table(text))
+        self.load_facts(loads, resumed, before[3], is_table(text))
         for address, size, value in line.stores:
             if address in PRIVATE:
                 self.want("store", address=word(address), system=system_name(address))
@@ -332,12 +332,22 @@ class Run(Entries):
 
     # ---- loads
 
-    def load_facts(self, loads, resumed, target, table):
+    def load_facts(self, loads, resumed, side, table):
         for load in loads:
+            if load.address in PRIVATE and not resumed:
+                self.status(load, side)
             private = load.address in PRIVATE if load.address is not None else None
             known = None if load.address is None or private else self.core.memory.read(load.address, load.size)
             self.want("load", address=word(load.address), size=SIZES[load.size], value=self.read_value(load, resumed, known, table),
                       system=None if private is None else system_name(load.address) if private else ABSENT)
+
+    def status(self, load, side):
+        """A load of a status register: what the faults that were told have left there."""
+        word_there = self.system.read(side, load.address & ~3)
+        value = self.core.r.get(load.register)
+        if word_there is not None and value is not None and not load.signed:
+            wanted = word_there >> 8 * (load.address & 3) & (1 << 8 * load.size) - 1
+            self.equal("status that faults have left", word(wanted), word(value))
 
     def read_value(self, load, resumed, known, table):
         """What was read: the register tells it, and memory, where that is known."""

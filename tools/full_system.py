@@ -1,6 +1,6 @@
 """What stores to system registers tell of exceptions: priorities, what is enabled, what pends, and both SysTicks."""
 
-from full_machine import NONSECURE, PRIVATE, SECURE
+from full_machine import NONSECURE, SECURE
 
 NAMES = {2: "NMI", 3: "HardFault", 4: "MemManage", 5: "BusFault", 6: "UsageFault", 7: "SecureFault", 11: "SVCall", 14: "PendSV",
          15: "SysTick"}
@@ -16,6 +16,15 @@ EXCEPTIONS = {
     "UNDEFINSTR": 6, "INVSTATE": 6, "INVPC": 6, "NOCP": 6, "STKOF": 6, "UNALIGNED": 6, "DIVBYZERO": 6, "DEBUGEVT": 3,
     "INVEP": 7, "INVIS": 7, "INVER": 7, "AUVIOL": 7, "INVTRAN": 7,
 }
+# Their bits in CFSR, of those with addresses the VALID bit, too, and in SFSR.
+FAULT_BITS = {
+    "IACCVIOL": 1 << 0, "DACCVIOL": 1 << 1 | 1 << 7, "MUNSTKERR": 1 << 3, "MSTKERR": 1 << 4, "IBUSERR": 1 << 8,
+    "PRECISERR": 1 << 9 | 1 << 15, "UNSTKERR": 1 << 11, "STKERR": 1 << 12, "UNDEFINSTR": 1 << 16, "INVSTATE": 1 << 17,
+    "INVPC": 1 << 18, "NOCP": 1 << 19, "STKOF": 1 << 20, "UNALIGNED": 1 << 24, "DIVBYZERO": 1 << 25,
+}
+SECURE_BITS = {"INVEP": 1 << 0, "INVIS": 1 << 1, "INVER": 1 << 2, "AUVIOL": 1 << 3, "INVTRAN": 1 << 4}
+SFARVALID, VECTTBL, FORCED, DEBUGEVT, BUS_FAULTS = 1 << 6, 1 << 1, 1 << 30, 1 << 31, 0xFF00
+CFSR, HFSR, MMFAR, BFAR, SFSR, SFAR = 0xD28, 0xD2C, 0xD34, 0xD38, 0xDE4, 0xDE8
 SYST_CSR, SYST_RVR, SYST_CVR = 0x010, 0x014, 0x018
 ICSR, VTOR, AIRCR, SHCSR, STIR = 0xD04, 0xD08, 0xD0C, 0xD24, 0xF00
 ISPR, ITNS, IPR = 0x200, 0x380, 0x400
@@ -25,6 +34,13 @@ SIDES = (SECURE, NONSECURE)
 
 def name_of(number):
     return f"interrupt {number - FIRST_INTERRUPT}" if number >= FIRST_INTERRUPT else NAMES.get(number, "reserved")
+
+
+def view_of(side, address):
+    """Whose view code of a side has at an address; None where there is none."""
+    if address & 0xFFFFF000 == 0xE000E000:
+        return side
+    return NONSECURE if address & 0xFFFFF000 == 0xE002E000 and side == SECURE else None
 
 
 class Timer:
@@ -45,6 +61,58 @@ class Timer:
         return ends and bool(self.control & 2)
 
 
+class Status:
+    """What faults leave in the status registers. BFSR stands once, MMFSR and UFSR for each side."""
+
+    def __init__(self):
+        self.words = {CFSR: {side: 0 for side in SIDES}, HFSR: 0, SFSR: 0}
+        self.addresses = {MMFAR: {side: 0 for side in SIDES}, BFAR: 0, SFAR: 0}
+
+    def note(self, fault, side, address, of_word):
+        """A fault of an instruction, or of a word of a frame, which leaves the address registers."""
+        if fault == "DEBUGEVT":
+            self.words[HFSR] |= DEBUGEVT
+        elif fault in SECURE_BITS:
+            self.words[SFSR] |= SECURE_BITS[fault] | (SFARVALID if fault == "AUVIOL" and not of_word else 0)
+            if fault == "AUVIOL" and not of_word:
+                self.addresses[SFAR] = address
+        else:
+            bits = FAULT_BITS[fault]
+            self.words[CFSR][SECURE if bits & BUS_FAULTS else side] |= bits
+            if fault == "DACCVIOL":
+                self.addresses[MMFAR][side] = address
+            elif fault == "PRECISERR":
+                self.addresses[BFAR] = address
+
+    def read(self, view, offset, is_swapped):
+        """The word of a view; None of a register that isn't kept here."""
+        if offset == CFSR:
+            bus = self.words[CFSR][SECURE] & BUS_FAULTS if view == SECURE or is_swapped else 0
+            return self.words[CFSR][view] & ~BUS_FAULTS | bus
+        if offset == MMFAR:
+            return self.addresses[MMFAR][view]
+        if offset in (HFSR, BFAR):
+            return {**self.words, **self.addresses}[offset] if view == SECURE or is_swapped else 0
+        if offset in (SFSR, SFAR):
+            return {**self.words, **self.addresses}[offset] if view == SECURE else 0
+        return None
+
+    def write(self, view, offset, size, value, is_swapped):
+        """Ones clear, and a write of an address register gives it its value."""
+        if CFSR <= offset < CFSR + 4:
+            ones = value << 8 * (offset - CFSR)
+            self.words[CFSR][view] &= ~(ones & ~BUS_FAULTS)
+            if view == SECURE or is_swapped:
+                self.words[CFSR][SECURE] &= ~(ones & BUS_FAULTS)
+        elif size == 4 and offset == MMFAR:
+            self.addresses[MMFAR][view] = value
+        elif size == 4 and (view == SECURE or is_swapped and offset in (HFSR, BFAR)):
+            if offset in (HFSR, SFSR):
+                self.words[offset] &= ~value
+            elif offset in (BFAR, SFAR):
+                self.addresses[offset] = value
+
+
 class System:
     """The system registers of both sides, as far as stores tell them."""
 
@@ -54,6 +122,7 @@ class System:
         self.priorities, self.enables, self.interrupt_sides = {}, {}, {}
         self.groups = {side: 0 for side in SIDES}
         self.pris, self.is_swapped = 0, 0
+        self.status = Status()
         # Exceptions that may pend, by number.
         self.pending = set()
 
@@ -72,19 +141,19 @@ class System:
 
     def store(self, side, address, size, value):
         """A store of code of a side."""
-        if address not in PRIVATE:
+        view, offset = view_of(side, address), address & 0xFFF
+        if view is None:
             return
-        window, offset = address & 0xFFFFF000, address & 0xFFF
-        if window == 0xE002E000 and side == SECURE:
-            view = NONSECURE
-        elif window == 0xE000E000:
-            view = side
-        else:
-            return
+        self.status.write(view, offset, size, value, self.is_swapped)
         for at in range(size):
             self.byte(view, offset + at, value >> 8 * at & 0xFF)
         if size == 4:
             self.word(view, offset, value)
+
+    def read(self, side, address):
+        """The word of a status register; None of others."""
+        view = view_of(side, address)
+        return None if view is None else self.status.read(view, address & 0xFFF, self.is_swapped)
 
     def byte(self, view, offset, value):
         """Priorities, which bytes write, too."""

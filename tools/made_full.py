@@ -124,7 +124,8 @@ SLEPT = (b"10000000 0010003041000010\n1000003c 81000010\n10000060 10e000e0\n", "
 """)
 TRACES = [CROSSED, REFUSED, LIMITED, SLEPT]
 
-# Fields that nothing in view `all` tells: which fault of an exception it was, and the priority at which a core locks.
+# Fields of which nothing at their own step tells: which fault of an exception it was, which later loads of status registers do
+# tell, and the priority at which a core locks.
 UNKNOWN = {("fault", "fault"), ("fault", "address"), ("lockup", "priority"), ("lockup", "nor")}
 
 
