@@ -1,5 +1,5 @@
 -- Entries and returns of Non-secure code, of one run: where they don't look at Secure state, they keep the Secure side.
-use Rattle.std.proofs.Common.{◌≡◌, ℕ, Bool, true, false, ◌||◌, List, refl, sym, ap, ◌∙◌, subst}
+use Rattle.std.proofs.Common.{◌≡◌, ℕ, Bool, true, false, ◌||◌, List, refl, sym, ap, ◌∙◌, subst, Option}
 use Rattle.std.specs.FinMap.{get}
 use Rattle.tz_table.specs.declared.units.Side.{Side}
 use Rattle.tz_table.specs.declared.units.Side.TheVariants.{NonSecure}
@@ -20,9 +20,10 @@ use Rattle.tz_frames.specs.declared.leaving.Left.TheVariants as left
 use Rattle.tz_frames.specs.Status.{faulted}
 use Rattle.tz_frames.specs.Enter.{enters}
 use Rattle.tz_frames.specs.Leave.{leaves}
+use Rattle.tz_sem.specs.declared.ending.Handling.{Handling}
 use Rattle.tz_sem.specs.declared.ending.Course.{Course}
 use Rattle.tz_sem.specs.Ended.{Passed}
-use Rattle.tz_sem.specs.Taking.{state_of, framed_in, taken_by, preempted, passed_by, left_by, returns}
+use Rattle.tz_sem.specs.Taking.{state_of, framed_in, taken_by, preempted, passed_by, left_by, returns, noting}
 use Rattle.tz_sem.specs.Exchange.{comes_back}
 use Rattle.tz_twin.specs.Integrity.{KeepsBytes}
 use Rattle.tz_twin.proofs.Bytes.{keeps_then}
@@ -97,8 +98,8 @@ or_left true u e = cc
 or_left false u e = refl
 
 kept_taken_by : (s0 s : State) (course : Course) (r : Entered) → (entered_touched r ≡ false → Kept s0 s) → (taken_by s course r).ending.touched ≡ false → Kept s0 (taken_by s course r).state
-kept_taken_by s0 s course (entered.Taken given touched) k e = kept_released s0 s _ refl refl refl refl (k (or_right course.touched touched e))
-kept_taken_by s0 s course (entered.Lockup touched) k e = kept_locked s0 s (k (or_right course.touched touched e))
+kept_taken_by s0 s course (entered.Taken given entry) k e = kept_released s0 s _ refl refl refl refl (k (or_right course.touched entry.touched e))
+kept_taken_by s0 s course (entered.Lockup entry) k e = kept_locked s0 s (k (or_right course.touched entry.touched e))
 
 pub kept_preempted : (s0 s : State) (course : Course) (back : ℕ) → s.core.run.side ≡ NonSecure → Kept s0 s → (preempted s course back).ending.touched ≡ false → Kept s0 (preempted s course back).state
 unfolding preempted
@@ -110,8 +111,8 @@ kept_preempted s0 s course back is k e =
 
 kept_left_by : (s0 s : State) (course : Course) (code : Code) (r : Left) → (left_touched r ≡ false → Kept s0 s) → (left_by s course code r).ending.touched ≡ false → Kept s0 (left_by s course code r).state
 kept_left_by s0 s course code (left.Resumed touched) k e = kept_released s0 s _ refl refl refl refl (k (or_right course.touched touched e))
-kept_left_by s0 s course code (left.Chained given touched) k e = kept_released s0 s _ refl refl refl refl (k (or_right course.touched touched e))
-kept_left_by s0 s course code (left.Lockup touched) k e = kept_locked s0 s (k (or_right course.touched touched e))
+kept_left_by s0 s course code (left.Chained given refused entry) k e = kept_released s0 s _ refl refl refl refl (k (or_right course.touched entry.touched e))
+kept_left_by s0 s course code (left.Lockup refused entry) k e = kept_locked s0 s (k (or_right course.touched entry.touched e))
 
 kept_returns : (s0 s : State) (course : Course) (code : Code) (value : ℕ) → s.core.run.side ≡ NonSecure → Kept s0 s → (returns s course code value).ending.touched ≡ false → Kept s0 (returns s course code value).state
 unfolding returns
@@ -167,6 +168,10 @@ pub record Passes (s0 : State) (looked : Bool) (general : List ℕ) (p : Passed)
   pub kept : p.ending.touched ≡ false → Kept s0 p.state
   pub comes : Comes s0.core.registers.ipsr s0.core.stacks_s p
 
+-- what is noted of how exceptions came into it is no part of that
+pub passes_unnoted : (s0 : State) (looked : Bool) (general : List ℕ) (note : Option Handling → Handling) (p : Passed) → Passes s0 looked general (noting note p) → Passes s0 looked general p
+passes_unnoted s0 looked general note p h = record { halts = record { board = h.halts.board; touched = h.halts.touched; found = h.halts.found }; kept = h.kept; comes = h.comes }
+
 comes_on : (ipsr : ℕ) (stacks stacks' : Stacks) (p : Passed) → stacks ≡ stacks' → Comes ipsr stacks p → Comes ipsr stacks' p
 comes_on ipsr stacks stacks' p e h = subst (λ (t : Stacks). Comes ipsr t p) e h
 
@@ -193,13 +198,13 @@ differs true e f = cc
 differs false e f = cc
 
 -- FNC_RETURN has looked at Secure state; the branch to it left IPSR and the Secure stacks as they were
-pub passes_comes_back : (s0 s : State) (before : Core) (course : Course) (code : Code) → s.bus.board ≡ s0.bus.board → s.core.registers.ipsr ≡ s0.core.registers.ipsr → s.core.stacks_s ≡ s0.core.stacks_s
-    → Passes s0 true before.registers.general (comes_back before s course code)
-passes_comes_back s0 s before course code board ipsr stacks =
-    let p = comes_back before s course code in
-    let h = halts_on s.bus.board s0.bus.board true before.registers.general p board (halts_comes_back NonSecure before s course code) in
+pub passes_comes_back : (s0 s : State) (before : Core) (course : Course) (code : Code) (value : ℕ) → s.bus.board ≡ s0.bus.board → s.core.registers.ipsr ≡ s0.core.registers.ipsr → s.core.stacks_s ≡ s0.core.stacks_s
+    → Passes s0 true before.registers.general (comes_back before s course code value)
+passes_comes_back s0 s before course code value board ipsr stacks =
+    let p = comes_back before s course code value in
+    let h = halts_on s.bus.board s0.bus.board true before.registers.general p board (halts_comes_back NonSecure before s course code value) in
     record {
       halts = h;
       kept = λ e. absurd (differs p.ending.touched (h.touched refl) e);
-      comes = comes_on s0.core.registers.ipsr s.core.stacks_s s0.core.stacks_s p stacks (subst (λ (n : ℕ). Comes n s.core.stacks_s p) ipsr (comes_comes_back before s course code));
+      comes = comes_on s0.core.registers.ipsr s.core.stacks_s s0.core.stacks_s p stacks (subst (λ (n : ℕ). Comes n s.core.stacks_s p) ipsr (comes_comes_back before s course code value));
     }
