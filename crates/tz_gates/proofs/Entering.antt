@@ -38,7 +38,7 @@ use Rattle.tz_sem.specs.declared.ending.Ending.{Ending}
 use Rattle.tz_sem.specs.Ended.{Passed, Ended, with_stores}
 use Rattle.tz_sem.specs.Exec.{executed}
 use Rattle.tz_sem.specs.ItRules.{is_misplaced, is_passed_over, ignores_condition}
-use Rattle.tz_sem.specs.Taking.{state_of, locks, framed_in, taken_by, preempted, goes_on_at, passed_by, faults, left_by, returns, with_value, noting, after_return}
+use Rattle.tz_sem.specs.Taking.{state_of, locks, framed_in, taken_by, preempted, goes_on_at, passed_by, faults, left_by, returns, with_value, with_handling}
 use Rattle.tz_sem.specs.Exchange.{core_back, back_with, touching, comes_back, moves_to, exchanged, called_with, calls}
 use Rattle.tz_sem.specs.Step.{past, is_call, exchanges, concludes, executes, placed, decoded, fetched, fetches, fetch_in, course_in, instructs, idles, by_sleep, is_woken, awake, without_event, ended, faulting, skips}
 use Rattle.tz_gates.specs.Entries.{is_sg, is_sg_second}
@@ -93,21 +93,21 @@ tells_ended : (code : Code) (t : Bool) (p q : Ended) → TellsCode code p.ending
 tells_ended code true p q h k = h
 tells_ended code false p q h k = k
 
--- with a note more
-tells_noting : (code : Code) (note : Option Handling → Handling) (p : Passed) → TellsCode code p.ending → TellsCode code (noting note p).ending
-tells_noting code note p (Silent none) = Silent none
-tells_noting code note p (Tells some) = Tells some
+-- whatever is noted of how exceptions came into the step
+tells_handling : (code : Code) (change : Handling → Handling) (p : Passed) → TellsCode code p.ending → TellsCode code (with_handling change p).ending
+tells_handling code change p (Silent none) = Silent none
+tells_handling code change p (Tells some) = Tells some
 
-tells_left : (s : State) (course : Course) (code : Code) (result : Left) → TellsCode code (left_by s course code result).ending
-tells_left s course code (left.Resumed touched) = Tells refl
-tells_left s course code (left.Chained given refused entry) = Silent refl
-tells_left s course code (left.Lockup refused entry) = Silent refl
+tells_left : (s : State) (course : Course) (code : Code) (value : ℕ) (result : Left) → TellsCode code (left_by s course code value result).ending
+tells_left s course code value (left.Resumed touched) = Tells refl
+tells_left s course code value (left.Chained given refused entry) = Silent refl
+tells_left s course code value (left.Lockup refused entry) = Silent refl
 
 tells_returns : (s : State) (course : Course) (code : Code) (value : ℕ) → TellsCode code (returns s course code value).ending
 unfolding returns
 tells_returns s course code value =
     let l = leaves framed s.bus.board.profile s.core s.exceptions (framed_in course.negative s) value in
-    tells_noting code (with_value value) (after_return course code l) (tells_left (state_of l.core l.exceptions l.held.bus) course code l.result)
+    tells_left (state_of l.core l.exceptions l.held.bus) course code value l.result
 
 tells_back : (before : Core) (s : State) (course : Course) (code : Code) (r : Result Core Fault) → TellsCode code (back_with before s course code r).ending
 tells_back before s course code (Ok c) = Tells refl
@@ -117,7 +117,7 @@ tells_comes_back : (before : Core) (s : State) (course : Course) (code : Code) (
 unfolding comes_back
 tells_comes_back before s course code value =
     let r = function_returned framed s.core (framed_in course.negative s) in
-    tells_noting code (with_value value) (back_with before s (touching course) code r) (tells_back before s (touching course) code r)
+    tells_handling code (with_value value) (back_with before s (touching course) code r) (tells_back before s (touching course) code r)
 
 tells_moves : (s : State) (course : Course) (code : Code) (target : ℕ) (ns : Bool) → TellsCode code (moves_to s course code target ns).ending
 tells_moves s course code target true = Tells refl

@@ -233,13 +233,13 @@ even_leaves profile c e f value h =
     even_noting profile c.run.side (exc_return_fault c e value) r (unhandled e r c) (freed e (slot_returning c r)) f
     (same_even (unhandled e r c).registers c.registers (stacks_same (side_of_bit r.es) c (record (stacks_of (side_of_bit r.es) c) { spsel = r.process })) h)
 
-even_left : (s : State) (course : Course) (code : Code) (result : Left) → EvenState s → EvenState (left_by s course code result).state
-even_left s course code (left.Resumed touched) h = h
-even_left s course code (left.Chained given refused entry) h = h
-even_left s course code (left.Lockup refused entry) h = h
+even_left : (s : State) (course : Course) (code : Code) (value : ℕ) (result : Left) → EvenState s → EvenState (left_by s course code value result).state
+even_left s course code value (left.Resumed touched) h = h
+even_left s course code value (left.Chained given refused entry) h = h
+even_left s course code value (left.Lockup refused entry) h = h
 
 pub even_returns : (s : State) (course : Course) (code : Code) (value : ℕ) → EvenState s → EvenState (returns s course code value).state
 unfolding returns
 even_returns s course code value h =
     let l = leaves framed s.bus.board.profile s.core s.exceptions (framed_in course.negative s) value in
-    even_left (state_of l.core l.exceptions l.held.bus) course code l.result (even_leaves s.bus.board.profile s.core s.exceptions (framed_in course.negative s) value h)
+    even_left (state_of l.core l.exceptions l.held.bus) course code value l.result (even_leaves s.bus.board.profile s.core s.exceptions (framed_in course.negative s) value h)

@@ -41,7 +41,7 @@ use Rattle.tz_sem.specs.declared.ending.Handling.{Handling}
 use Rattle.tz_sem.specs.declared.ending.Cause.TheVariants as causes
 use Rattle.tz_sem.specs.declared.ending.Course.{Course}
 use Rattle.tz_sem.specs.Ended.{Passed}
-use Rattle.tz_sem.specs.Taking.{state_of, locks, framed_in, taken, taken_by, preempted, goes_on_at, passed_by, faults, left_by, returns, by_entry}
+use Rattle.tz_sem.specs.Taking.{state_of, locks, framed_in, taken, taken_by, preempted, goes_on_at, passed_by, faults, left_by, returns, by_entry, by_value}
 use Rattle.tz_sem.specs.Exchange.{core_back, back_with, touching, comes_back}
 use Rattle.tz_twin.specs.Integrity.{Handles, NumbersAgree, IsCallFrame, word_above, IsUnstacked, above_frames, TookFrames, Came, ByException, ByReturn, ByUnstacking}
 use Rattle.tz_twin.proofs.ReturnSpares.{bits, leaves_still}
@@ -64,14 +64,14 @@ pub runs_secure : (side : Side) → is_nonsecure_side side ≡ false → side �
 runs_secure Secure e = refl
 runs_secure NonSecure e = cc
 
-comes_taken : (ipsr : ℕ) (stacks : Stacks) (s : State) (touched : Bool) (handling : Handling) (given : Slot) → Handles given s.core s.exceptions → Comes ipsr stacks (taken s touched handling)
+comes_taken : (ipsr : ℕ) (stacks : Stacks) (s : State) (touched : Bool) (handling : Option Handling) (given : Slot) → Handles given s.core s.exceptions → Comes ipsr stacks (taken s touched handling)
 comes_taken ipsr stacks s touched handling given h =
     λ secure unlocked. ByException refl given (sym h.runs ∙ runs_secure s.core.run.side (unlocked_side s.core.run.locked s.core.run.side unlocked secure))
     (record { number = h.number; runs = h.runs; side = h.side; active = h.active })
 
 comes_taken_by : (ipsr : ℕ) (stacks : Stacks) (s : State) (course : Course) (result : Entered) → EnteredHandles s.core s.exceptions result → Comes ipsr stacks (taken_by s course result)
-comes_taken_by ipsr stacks s course (entered.Taken given entry) h = comes_taken ipsr stacks s (course.touched || entry.touched) (by_entry None entry) given h
-comes_taken_by ipsr stacks s course (entered.Lockup entry) h = comes_locks ipsr stacks s (course.touched || entry.touched) (Some (by_entry None entry))
+comes_taken_by ipsr stacks s course (entered.Taken given entry) h = comes_taken ipsr stacks s (course.touched || entry.touched) (Some (by_entry entry)) given h
+comes_taken_by ipsr stacks s course (entered.Lockup entry) h = comes_locks ipsr stacks s (course.touched || entry.touched) (Some (by_entry entry))
 
 pub comes_preempted : (ipsr : ℕ) (stacks : Stacks) (s : State) (course : Course) (back : ℕ) → Comes ipsr stacks (preempted s course back)
 unfolding preempted
@@ -305,18 +305,18 @@ leaves_signed profile c e f value is =
 came_signed : (ipsr : ℕ) (stacks : Stacks) (s : State) (m : Memory) → s.bus.memory ≡ m → TookFrames stacks s.core m → Came ipsr stacks s causes.Resumed
 came_signed ipsr stacks s m same h = ByUnstacking refl (subst (λ (n : Memory). TookFrames stacks s.core n) (sym same) h)
 
-comes_left_by : (ipsr : ℕ) (stacks : Stacks) (s : State) (m : Memory) (course : Course) (code : Code) (result : Left) → s.bus.memory ≡ m → SignedWhere stacks m s.core result → LeftHandles s.core s.exceptions result → Comes ipsr stacks (left_by s course code result)
-comes_left_by ipsr stacks s m course code (left.Resumed touched) same h g =
+comes_left_by : (ipsr : ℕ) (stacks : Stacks) (s : State) (m : Memory) (course : Course) (code : Code) (value : ℕ) (result : Left) → s.bus.memory ≡ m → SignedWhere stacks m s.core result → LeftHandles s.core s.exceptions result → Comes ipsr stacks (left_by s course code value result)
+comes_left_by ipsr stacks s m course code value (left.Resumed touched) same h g =
     λ secure unlocked. came_signed ipsr stacks _ m same (h (unlocked_side s.core.run.locked s.core.run.side unlocked secure))
-comes_left_by ipsr stacks s m course code (left.Chained given refused entry) same h g = comes_taken ipsr stacks s (course.touched || entry.touched) (by_entry refused entry) given g
-comes_left_by ipsr stacks s m course code (left.Lockup refused entry) same h g = comes_locks ipsr stacks s (course.touched || entry.touched) (Some (by_entry refused entry))
+comes_left_by ipsr stacks s m course code value (left.Chained given refused entry) same h g = comes_taken ipsr stacks s (course.touched || entry.touched) (Some (by_value value refused (Some entry))) given g
+comes_left_by ipsr stacks s m course code value (left.Lockup refused entry) same h g = comes_locks ipsr stacks s (course.touched || entry.touched) (Some (by_value value refused (Some entry)))
 
 pub comes_returns : (ipsr : ℕ) (s : State) (course : Course) (code : Code) (value : ℕ) → s.core.run.side ≡ NonSecure → Comes ipsr s.core.stacks_s (returns s course code value)
 unfolding returns
 comes_returns ipsr s course code value is =
     let f = framed_in course.negative s in
     let l = leaves framed s.bus.board.profile s.core s.exceptions f value in
-    comes_left_by ipsr s.core.stacks_s (state_of l.core l.exceptions l.held.bus) s.bus.memory course code l.result
+    comes_left_by ipsr s.core.stacks_s (state_of l.core l.exceptions l.held.bus) s.bus.memory course code value l.result
     (ap (λ (g : Framed). g.bus.memory) (leaves_still s.bus.board.profile s.core s.exceptions f value is)) (leaves_signed s.bus.board.profile s.core s.exceptions f value is)
     (leaves_handles s.bus.board.profile s.core s.exceptions f value)
 

@@ -7,7 +7,7 @@ use Rattle.tz_model.specs.Words.{is_nonsecure_side}
 use Rattle.tz_regs.specs.declared.parts.Registers.{Registers}
 use Rattle.tz_regs.specs.Registers.{side_in, before_in}
 use Rattle.tz_state.specs.State.{State, side_of}
-use Rattle.tz_sem.specs.Taking.{noting}
+use Rattle.tz_sem.specs.Taking.{handling_of, with_handling}
 use Rattle.tz_sem.specs.declared.ending.Handling.{Handling}
 use Rattle.tz_sem.specs.declared.ending.Cause.{Cause}
 use Rattle.tz_sem.specs.Ended.{Ended, way_by, kind_of, Passed, with_stores}
@@ -89,21 +89,21 @@ both_second s s' true x y x' y' e p = absurd (cc)
 both_second s s' false x y x' y' e p = p
 
 -- what is noted of how exceptions came into a step is no part of what a crossing tells
-touching_noting : (s : State) (before : Seen) (stores : List Store) (note : Option Handling → Handling) (p : Passed) → Touching s before (with_stores stores p) → Touching s before (with_stores stores (noting note p))
-touching_noting s before stores note p h = record { touched = h.touched; seen = h.seen }
+touching_handling : (s : State) (before : Seen) (stores : List Store) (change : Handling → Handling) (p : Passed) → Touching s before (with_stores stores p) → Touching s before (with_stores stores (with_handling change p))
+touching_handling s before stores change p h = record { touched = h.touched; seen = h.seen }
 
--- one note in both
-pub both_noting : (s s' : State) (stores : List Store) (note : Option Handling → Handling) (p p' : Passed) → Both s s' (with_stores stores p) (with_stores stores p')
-    → Both s s' (with_stores stores (noting note p)) (with_stores stores (noting note p'))
-both_noting s s' stores note p p' (Go h) =
+-- one change of it in both
+pub both_handling : (s s' : State) (stores : List Store) (change : Handling → Handling) (p p' : Passed) → Both s s' (with_stores stores p) (with_stores stores p')
+    → Both s s' (with_stores stores (with_handling change p)) (with_stores stores (with_handling change p'))
+both_handling s s' stores change p p' (Go h) =
     Go (record {
       twins = h.twins;
-      ending = λ i. record (h.ending i) { handling = Some (note (h.ending i).handling) };
+      ending = λ i. record (h.ending i) { handling = Some (change (handling_of (h.ending i).handling)) };
       stores = h.stores;
       kept = h.kept;
       kept' = h.kept';
     })
-both_noting s s' stores note p p' (Stop h h') =
+both_handling s s' stores change p p' (Stop h h') =
     Stop (record { locked = h.locked; board = h.board; kept = h.kept }) (record { locked = h'.locked; board = h'.board; kept = h'.kept })
-both_noting s s' stores note p p' (Touch before before' alike t t' a a') =
-    Touch before before' alike (touching_noting s before stores note p t) (touching_noting s' before' stores note p' t') a a'
+both_handling s s' stores change p p' (Touch before before' alike t t' a a') =
+    Touch before before' alike (touching_handling s before stores change p t) (touching_handling s' before' stores change p' t') a a'

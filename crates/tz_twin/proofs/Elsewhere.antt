@@ -47,7 +47,7 @@ use Rattle.tz_sem.specs.ItRules.{is_misplaced, is_passed_over, ignores_condition
 use Rattle.tz_sem.specs.Local.{local_of, finished_in}
 use Rattle.tz_sem.specs.Branch.{finish_branch}
 use Rattle.tz_sem.specs.Step.{length_of, past, skips, is_call, goes_on, concludes, executes, faulting, placed, decoded, runs_gateway, fetched, fetches, fetch_in, course_in, touches_secure, unready, instructs, awake, takes_exception, idles, without_event, is_woken, by_sleep, ended, started}
-use Rattle.tz_sem.specs.Taking.{state_of, locks, framed_in, taken_by, preempted, passed_by, faults, left_by, returns, with_fault, with_value, noting, after_raise, after_return}
+use Rattle.tz_sem.specs.Taking.{state_of, locks, framed_in, taken_by, preempted, passed_by, faults, left_by, returns, with_fault, with_value, with_handling, after_raise}
 use Rattle.tz_twin.specs.Writing.{are_beside, are_in_memory, is_framed, is_exceptional, with_timers_of, KeepsElsewhere, WritesTold}
 use Rattle.tz_twin.proofs.Held.{enters_held, leaves_held}
 use Rattle.tz_twin.proofs.Spared.{faulted_side}
@@ -95,8 +95,8 @@ passes_locks : (side : Side) (s : State) (e : ExceptionsValue) (touched : Bool) 
 passes_locks side s e touched handling = record { bytes = λ a out. refl; board = refl; sau = refl; exceptions = true_false }
 
 -- what is noted of how exceptions came into it is no part of that
-passes_noting : (side : Side) (b : Bus) (e : ExceptionsValue) (note : Option Handling → Handling) (p : Passed) → Passes side b e p → Passes side b e (noting note p)
-passes_noting side b e note p h = record { bytes = h.bytes; board = h.board; sau = h.sau; exceptions = h.exceptions }
+passes_handling : (side : Side) (b : Bus) (e : ExceptionsValue) (change : Handling → Handling) (p : Passed) → Passes side b e p → Passes side b e (with_handling change p)
+passes_handling side b e change p h = record { bytes = h.bytes; board = h.board; sau = h.sau; exceptions = h.exceptions }
 
 -- what an entry or a return left
 record FramesKept (side : Side) (b : Bus) (s : State) : Type 0 where
@@ -113,20 +113,20 @@ passes_taken side b e s course (entered.Taken given entry) h = record {
 }
 passes_taken side b e s course (entered.Lockup entry) h = record { bytes = h.bytes; board = h.board; sau = h.sau; exceptions = true_false }
 
-passes_left : (side : Side) (b : Bus) (e : ExceptionsValue) (s : State) (course : Course) (code : Code) (r : Left) → FramesKept side b s → Passes side b e (left_by s course code r)
-passes_left side b e s course code (left.Resumed touched) h = record {
+passes_left : (side : Side) (b : Bus) (e : ExceptionsValue) (s : State) (course : Course) (code : Code) (value : ℕ) (r : Left) → FramesKept side b s → Passes side b e (left_by s course code value r)
+passes_left side b e s course code value (left.Resumed touched) h = record {
   bytes = λ a out. h.bytes a (out_of_frames s.core.run.locked (is_framed (stacks_of side s.core) a) out);
   board = h.board;
   sau = h.sau;
   exceptions = or_true s.core.run.locked;
 }
-passes_left side b e s course code (left.Chained given refused entry) h = record {
+passes_left side b e s course code value (left.Chained given refused entry) h = record {
   bytes = λ a out. h.bytes a (out_of_frames s.core.run.locked (is_framed (stacks_of side s.core) a) out);
   board = h.board;
   sau = h.sau;
   exceptions = or_true s.core.run.locked;
 }
-passes_left side b e s course code (left.Lockup refused entry) h = record { bytes = h.bytes; board = h.board; sau = h.sau; exceptions = true_false }
+passes_left side b e s course code value (left.Lockup refused entry) h = record { bytes = h.bytes; board = h.board; sau = h.sau; exceptions = true_false }
 
 passes_preempted : (s : State) (e : ExceptionsValue) (course : Course) (back : ℕ) → Passes s.core.run.side s.bus e (preempted s course back)
 unfolding preempted
@@ -147,13 +147,12 @@ passes_returns s e course code value =
     let f = framed_in course.negative s in
     let l = leaves framed s.bus.board.profile s.core s.exceptions f value in
     let held = leaves_held s.bus.board.profile s.core s.exceptions f value in
-    passes_noting s.core.run.side s.bus e (with_value value) (after_return course code l)
-    (passes_left s.core.run.side s.bus e (state_of l.core l.exceptions l.held.bus) course code l.result
+    passes_left s.core.run.side s.bus e (state_of l.core l.exceptions l.held.bus) course code value l.result
     (record {
       bytes = leaves_kept s.bus.board.profile s.core s.exceptions f value;
       board = ap (λ (b : Bus). b.board) held;
       sau = ap (λ (b : Bus). b.sau) held;
-    }))
+    })
 
 of_side_that_ran : (side side' : Side) (b : Bus) (e : ExceptionsValue) (p : Passed) → side ≡ side' → Passes side b e p → Passes side' b e p
 of_side_that_ran side side' b e p is h = subst (λ (x : Side). Passes x b e p) is h
@@ -171,7 +170,7 @@ unfolding faults
 passes_faults s e course fault =
     let r = faulted s.core.run.side fault s.core s.exceptions in
     let s' = state_of (passed_by fault r.core) r.exceptions s.bus in
-    passes_noting s.core.run.side s.bus e (with_fault fault) (after_raise s course fault r)
+    passes_handling s.core.run.side s.bus e (with_fault fault) (after_raise s course fault r)
     (passes_cond s.core.run.side s.bus e r.locks _ _ (passes_locks s.core.run.side (state_of r.core r.exceptions s.bus) e course.touched None)
     (of_side_that_ran s'.core.run.side s.core.run.side s.bus e _ (passed_side fault r.core ∙ faulted_side s.core.run.side fault s.core s.exceptions) (passes_preempted s' e course _)))
 
@@ -185,7 +184,7 @@ passes_comes_back : (before : Core) (s : State) (course : Course) (code : Code) 
 unfolding comes_back
 passes_comes_back before s course code value =
     let r = function_returned framed s.core (framed_in course.negative s) in
-    passes_noting before.run.side s.bus s.exceptions (with_value value) (back_with before s (touching course) code r) (passes_back before s (touching course) code r)
+    passes_handling before.run.side s.bus s.exceptions (with_value value) (back_with before s (touching course) code r) (passes_back before s (touching course) code r)
 
 passes_moves : (side : Side) (s : State) (course : Course) (code : Code) (target : ℕ) (ns : Bool) → Passes side s.bus s.exceptions (moves_to s course code target ns)
 passes_moves side s course code target ns =

@@ -33,7 +33,7 @@ use Rattle.tz_sem.specs.declared.ending.Handling.{Handling}
 use Rattle.tz_sem.specs.declared.ending.Cause.TheVariants as causes
 use Rattle.tz_sem.specs.declared.ending.Course.{Course}
 use Rattle.tz_sem.specs.Ended.{Passed, Ended, with_stores}
-use Rattle.tz_sem.specs.Taking.{state_of, locks, framed_in, taken, taken_by, preempted, goes_on_at, passed_by, after_raise, faults, left_by, returns, by_entry, with_fault, with_value, noting, after_return}
+use Rattle.tz_sem.specs.Taking.{state_of, locks, framed_in, taken, taken_by, preempted, goes_on_at, passed_by, after_raise, faults, left_by, returns, by_entry, with_fault, with_value, with_handling, by_value}
 use Rattle.tz_sem.specs.Exchange.{core_back, back_with, touching, comes_back}
 use Rattle.tz_sem.specs.Exec.{released}
 use Rattle.tz_twin.specs.Seen.{public_of, handed, Seen, Hidden, seen}
@@ -68,8 +68,8 @@ pub halts_locks : (side : Side) (general : List ℕ) (s : State) (touched : Bool
 halts_locks side general s touched handling = record { board = refl; touched = λ e. e; found = λ before knows t is. absurd (hides_locked true s.core.run.side refl is) }
 
 -- what is noted of how exceptions came into it is no part of that
-halts_noting : (side : Side) (b : BoardValue) (looked : Bool) (general : List ℕ) (note : Option Handling → Handling) (p : Passed) → Halts side b looked general p → Halts side b looked general (noting note p)
-halts_noting side b looked general note p h = record { board = h.board; touched = h.touched; found = h.found }
+halts_handling : (side : Side) (b : BoardValue) (looked : Bool) (general : List ℕ) (change : Handling → Handling) (p : Passed) → Halts side b looked general p → Halts side b looked general (with_handling change p)
+halts_handling side b looked general change p h = record { board = h.board; touched = h.touched; found = h.found }
 
 -- ---- an exception is taken
 
@@ -87,7 +87,7 @@ found_taken : (side : Side) (before : Seen) (secure : Bool) (vtor : ℕ) (r : Re
 found_taken side before secure vtor r c e f number Secure knows h = λ is. absurd (hides_secure c.run.locked c.run.side h is)
 found_taken side before secure vtor r c e f number NonSecure knows h = found_handled side before secure vtor number r c e f knows h
 
-halts_taken : (side : Side) (b : BoardValue) (secure : Bool) (vtor : ℕ) (r : Registers) (c : Core) (e : ExceptionsValue) (f : Framed) (given : Slot) (looked touched : Bool) (handling : Handling) → f.bus.board ≡ b
+halts_taken : (side : Side) (b : BoardValue) (secure : Bool) (vtor : ℕ) (r : Registers) (c : Core) (e : ExceptionsValue) (f : Framed) (given : Slot) (looked touched : Bool) (handling : Option Handling) → f.bus.board ≡ b
     → HandledAt secure vtor r c f given → Halts side b looked r.general (taken (state_of c e f.bus) (looked || touched) handling)
 halts_taken side b secure vtor r c e f given looked touched handling board h = record {
   board = board;
@@ -105,9 +105,9 @@ halts_locked side b general s looked touched handling board = record {
 halts_taken_by : (side : Side) (b : BoardValue) (secure : Bool) (vtor : ℕ) (r : Registers) (c : Core) (e : ExceptionsValue) (f : Framed) (course : Course) (result : Entered) → f.bus.board ≡ b
     → EnteredHandled secure vtor r c f result → Halts side b course.touched r.general (taken_by (state_of c e f.bus) course result)
 halts_taken_by side b secure vtor r c e f course (entered.Taken given entry) board h =
-    halts_taken side b secure vtor r c e f given course.touched entry.touched (by_entry None entry) board h
+    halts_taken side b secure vtor r c e f given course.touched entry.touched (Some (by_entry entry)) board h
 halts_taken_by side b secure vtor r c e f course (entered.Lockup entry) board h =
-    halts_locked side b r.general (state_of c e f.bus) course.touched entry.touched (Some (by_entry None entry)) board
+    halts_locked side b r.general (state_of c e f.bus) course.touched entry.touched (Some (by_entry entry)) board
 
 pub halts_preempted : (side : Side) (s : State) (course : Course) (back : ℕ) → Halts side s.bus.board course.touched s.core.registers.general (preempted s course back)
 unfolding preempted
@@ -147,7 +147,7 @@ halts_faults side s course fault =
     let own = s.core.run.side in
     let c = with_status s.core (status_after own fault s.core.status) in
     let r = faulted own fault s.core s.exceptions in
-    halts_noting side s.bus.board course.touched s.core.registers.general (with_fault fault) (after_raise s course fault r)
+    halts_handling side s.bus.board course.touched s.core.registers.general (with_fault fault) (after_raise s course fault r)
     (halts_raised side s course fault r
     (raised_as_general (escalated s.exceptions c.masks (exception_of s.exceptions own fault)) (exception_of s.exceptions own fault) c s.exceptions))
 
@@ -162,17 +162,17 @@ found_resumed NonSecure before s looked touched quiet t h is = absurd (hides_sec
   other true u e h = cc
   other false u e h = h
 
-halts_left_by : (side : Side) (b : BoardValue) (secure : Bool) (vtor : ℕ) (r : Registers) (c : Core) (e : ExceptionsValue) (f : Framed) (course : Course) (code : Code) (result : Left)
-    → (side ≡ NonSecure → course.touched ≡ false) → f.bus.board ≡ b → LeftHandled secure vtor r c f result → Halts side b course.touched r.general (left_by (state_of c e f.bus) course code result)
-halts_left_by side b secure vtor r c e f course code (left.Resumed touched) quiet board h = record {
+halts_left_by : (side : Side) (b : BoardValue) (secure : Bool) (vtor : ℕ) (r : Registers) (c : Core) (e : ExceptionsValue) (f : Framed) (course : Course) (code : Code) (value : ℕ) (result : Left)
+    → (side ≡ NonSecure → course.touched ≡ false) → f.bus.board ≡ b → LeftHandled secure vtor r c f result → Halts side b course.touched r.general (left_by (state_of c e f.bus) course code value result)
+halts_left_by side b secure vtor r c e f course code value (left.Resumed touched) quiet board h = record {
   board = board;
   touched = or_true course.touched touched;
   found = λ before knows t. found_resumed side before (released (state_of c e f.bus)) course.touched touched quiet t h;
 }
-halts_left_by side b secure vtor r c e f course code (left.Chained given refused entry) quiet board h =
-    halts_taken side b secure vtor r c e f given course.touched entry.touched (by_entry refused entry) board h
-halts_left_by side b secure vtor r c e f course code (left.Lockup refused entry) quiet board h =
-    halts_locked side b r.general (state_of c e f.bus) course.touched entry.touched (Some (by_entry refused entry)) board
+halts_left_by side b secure vtor r c e f course code value (left.Chained given refused entry) quiet board h =
+    halts_taken side b secure vtor r c e f given course.touched entry.touched (Some (by_value value refused (Some entry))) board h
+halts_left_by side b secure vtor r c e f course code value (left.Lockup refused entry) quiet board h =
+    halts_locked side b r.general (state_of c e f.bus) course.touched entry.touched (Some (by_value value refused (Some entry))) board
 
 -- code of the Non-secure side that returns has not looked at Secure state before
 pub halts_returns : (side : Side) (s : State) (course : Course) (code : Code) (value : ℕ) → (side ≡ NonSecure → course.touched ≡ false)
@@ -181,9 +181,8 @@ unfolding returns
 halts_returns side s course code value quiet =
     let f = framed_in course.negative s in
     let l = leaves framed s.bus.board.profile s.core s.exceptions f value in
-    halts_noting side s.bus.board course.touched s.core.registers.general (with_value value) (after_return course code l)
-    (halts_left_by side s.bus.board (returning_by s.core.run.side value).secure s.core.status.ns.vtor s.core.registers l.core l.exceptions l.held course code l.result quiet
-    (ap (λ (b : Bus). b.board) (leaves_held s.bus.board.profile s.core s.exceptions f value)) (leaves_handled s.bus.board.profile s.core s.exceptions f value refl))
+    halts_left_by side s.bus.board (returning_by s.core.run.side value).secure s.core.status.ns.vtor s.core.registers l.core l.exceptions l.held course code value l.result quiet
+    (ap (λ (b : Bus). b.board) (leaves_held s.bus.board.profile s.core s.exceptions f value)) (leaves_handled s.bus.board.profile s.core s.exceptions f value refl)
 
 -- ---- FNC_RETURN
 
@@ -220,7 +219,7 @@ pub halts_comes_back : (side : Side) (before : Core) (s : State) (course : Cours
 unfolding comes_back
 halts_comes_back side before s course code value =
     let f = framed_in course.negative s in
-    halts_noting side s.bus.board true before.registers.general (with_value value) (back_with before s (touching course) code (function_returned framed s.core f))
+    halts_handling side s.bus.board true before.registers.general (with_value value) (back_with before s (touching course) code (function_returned framed s.core f))
     (halts_back_with side before s (touching course) code (function_returned framed s.core f)
     (back_secure s.core (framed f (SecureLoad (return_base s.core))).1 (framed f (SecureLoad (wrap (return_base s.core + 4)))).1))
 

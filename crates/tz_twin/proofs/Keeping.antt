@@ -1,5 +1,5 @@
 -- Entries and returns of Non-secure code, of one run: where they don't look at Secure state, they keep the Secure side.
-use Rattle.std.proofs.Common.{◌≡◌, ℕ, Bool, true, false, ◌||◌, List, refl, sym, ap, ◌∙◌, subst, Option}
+use Rattle.std.proofs.Common.{◌≡◌, ℕ, Bool, true, false, ◌||◌, List, refl, sym, ap, ◌∙◌, subst}
 use Rattle.std.specs.FinMap.{get}
 use Rattle.tz_table.specs.declared.units.Side.{Side}
 use Rattle.tz_table.specs.declared.units.Side.TheVariants.{NonSecure}
@@ -20,10 +20,9 @@ use Rattle.tz_frames.specs.declared.leaving.Left.TheVariants as left
 use Rattle.tz_frames.specs.Status.{faulted}
 use Rattle.tz_frames.specs.Enter.{enters}
 use Rattle.tz_frames.specs.Leave.{leaves}
-use Rattle.tz_sem.specs.declared.ending.Handling.{Handling}
 use Rattle.tz_sem.specs.declared.ending.Course.{Course}
 use Rattle.tz_sem.specs.Ended.{Passed}
-use Rattle.tz_sem.specs.Taking.{state_of, framed_in, taken_by, preempted, passed_by, left_by, returns, noting}
+use Rattle.tz_sem.specs.Taking.{state_of, framed_in, taken_by, preempted, passed_by, left_by, returns}
 use Rattle.tz_sem.specs.Exchange.{comes_back}
 use Rattle.tz_twin.specs.Integrity.{KeepsBytes}
 use Rattle.tz_twin.proofs.Bytes.{keeps_then}
@@ -109,17 +108,17 @@ kept_preempted s0 s course back is k e =
     kept_taken_by s0 (state_of d.core d.exceptions d.held.bus) course d.result
     (λ u. kept_then s0 s d.core d.exceptions d.held.bus k (enters_kept s.bus.board.profile s.core s.exceptions f back is u) (enters_held s.bus.board.profile s.core s.exceptions f back)) e
 
-kept_left_by : (s0 s : State) (course : Course) (code : Code) (r : Left) → (left_touched r ≡ false → Kept s0 s) → (left_by s course code r).ending.touched ≡ false → Kept s0 (left_by s course code r).state
-kept_left_by s0 s course code (left.Resumed touched) k e = kept_released s0 s _ refl refl refl refl (k (or_right course.touched touched e))
-kept_left_by s0 s course code (left.Chained given refused entry) k e = kept_released s0 s _ refl refl refl refl (k (or_right course.touched entry.touched e))
-kept_left_by s0 s course code (left.Lockup refused entry) k e = kept_locked s0 s (k (or_right course.touched entry.touched e))
+kept_left_by : (s0 s : State) (course : Course) (code : Code) (value : ℕ) (r : Left) → (left_touched r ≡ false → Kept s0 s) → (left_by s course code value r).ending.touched ≡ false → Kept s0 (left_by s course code value r).state
+kept_left_by s0 s course code value (left.Resumed touched) k e = kept_released s0 s _ refl refl refl refl (k (or_right course.touched touched e))
+kept_left_by s0 s course code value (left.Chained given refused entry) k e = kept_released s0 s _ refl refl refl refl (k (or_right course.touched entry.touched e))
+kept_left_by s0 s course code value (left.Lockup refused entry) k e = kept_locked s0 s (k (or_right course.touched entry.touched e))
 
 kept_returns : (s0 s : State) (course : Course) (code : Code) (value : ℕ) → s.core.run.side ≡ NonSecure → Kept s0 s → (returns s course code value).ending.touched ≡ false → Kept s0 (returns s course code value).state
 unfolding returns
 kept_returns s0 s course code value is k e =
     let f = framed_in course.negative s in
     let l = leaves framed s.bus.board.profile s.core s.exceptions f value in
-    kept_left_by s0 (state_of l.core l.exceptions l.held.bus) course code l.result
+    kept_left_by s0 (state_of l.core l.exceptions l.held.bus) course code value l.result
     (λ u. kept_then s0 s l.core l.exceptions l.held.bus k (leaves_kept s.bus.board.profile s.core s.exceptions f value is u) (leaves_held s.bus.board.profile s.core s.exceptions f value)) e
 
 -- ---- a fault
@@ -167,10 +166,6 @@ pub record Passes (s0 : State) (looked : Bool) (general : List ℕ) (p : Passed)
   pub halts : Halts NonSecure s0.bus.board looked general p
   pub kept : p.ending.touched ≡ false → Kept s0 p.state
   pub comes : Comes s0.core.registers.ipsr s0.core.stacks_s p
-
--- what is noted of how exceptions came into it is no part of that
-pub passes_unnoted : (s0 : State) (looked : Bool) (general : List ℕ) (note : Option Handling → Handling) (p : Passed) → Passes s0 looked general (noting note p) → Passes s0 looked general p
-passes_unnoted s0 looked general note p h = record { halts = record { board = h.halts.board; touched = h.halts.touched; found = h.halts.found }; kept = h.kept; comes = h.comes }
 
 comes_on : (ipsr : ℕ) (stacks stacks' : Stacks) (p : Passed) → stacks ≡ stacks' → Comes ipsr stacks p → Comes ipsr stacks' p
 comes_on ipsr stacks stacks' p e h = subst (λ (t : Stacks). Comes ipsr t p) e h

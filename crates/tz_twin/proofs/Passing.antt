@@ -9,25 +9,25 @@ use Rattle.tz_regs.specs.declared.parts.Core.{Core}
 use Rattle.tz_regs.specs.declared.parts.Registers.{Registers}
 use Rattle.tz_regs.specs.ItState.{it_advanced}
 use Rattle.tz_state.specs.State.{State, is_privileged_in}
-use Rattle.tz_frames.specs.Machine.{Framed, framed}
+use Rattle.tz_frames.specs.Machine.{Framed}
 use Rattle.tz_frames.specs.declared.entering.Entered.{Entered}
 use Rattle.tz_frames.specs.declared.entering.Entered.TheVariants as entered
 use Rattle.tz_frames.specs.declared.leaving.Left.{Left}
 use Rattle.tz_frames.specs.declared.leaving.Left.TheVariants as left
 use Rattle.tz_frames.specs.Status.{Raised, faulted}
 use Rattle.tz_frames.specs.Enter.{Done}
-use Rattle.tz_frames.specs.Leave.{Leaving, leaves}
+use Rattle.tz_frames.specs.Leave.{Leaving}
 use Rattle.tz_sem.specs.declared.ending.Handling.{Handling}
 use Rattle.tz_sem.specs.declared.ending.Cause.{Cause}
 use Rattle.tz_sem.specs.declared.ending.Cause.TheVariants as causes
 use Rattle.tz_sem.specs.declared.ending.Course.{Course}
 use Rattle.tz_sem.specs.Ended.{Passed, with_stores}
-use Rattle.tz_sem.specs.Taking.{state_of, locks, taken_by, after_entry, preempted, goes_on_at, passed_by, after_raise, faults, left_by, after_return, returns, by_entry, with_fault, with_value, framed_in}
+use Rattle.tz_sem.specs.Taking.{state_of, locks, taken_by, after_entry, preempted, goes_on_at, passed_by, after_raise, faults, left_by, after_return, returns, by_entry, by_value, with_fault}
 use Rattle.tz_sem.specs.Exchange.{comes_back}
 use Rattle.tz_sem.specs.Exec.{released}
 use Rattle.tz_twin.specs.Seen.{public_of, Seen, Shown}
 use Rattle.tz_twin.proofs.Split.{Open, Rest, join_bus, join, Same, twins_join, board_seen, seen_of_twins}
-use Rattle.tz_twin.proofs.Both.{Kept, Stops, Arrives, Both, Go, Stop, Touch, both_noting}
+use Rattle.tz_twin.proofs.Both.{Kept, Stops, Arrives, Both, Go, Stop, Touch, both_handling}
 use Rattle.tz_twin.proofs.Faults.{is_own}
 use Rattle.tz_twin.proofs.EntrySpares.{entered_touched}
 use Rattle.tz_twin.proofs.ReturnSpares.{left_touched}
@@ -36,7 +36,7 @@ use Rattle.tz_twin.proofs.FaultTwins.{faulted_twins}
 use Rattle.tz_twin.proofs.EntryTwins.{enters_twins}
 use Rattle.tz_twin.proofs.ReturnTwins.{leaves_twins}
 use Rattle.tz_twin.proofs.Halting.{touching_halts}
-use Rattle.tz_twin.proofs.Keeping.{kept_locked, kept_passed, kept_fault, Passes, passes_preempted, passes_returns, passes_comes_back, passes_unnoted}
+use Rattle.tz_twin.proofs.Keeping.{kept_locked, kept_passed, kept_fault, Passes, passes_preempted, passes_returns, passes_comes_back}
 
 -- ---- both lock, or both looked at Secure state
 
@@ -109,7 +109,7 @@ entered_alike : (o q part : Open) (x x' z z' rest rest' : Rest) (r : Registers) 
     → Passes (join o x) course.touched r.general (after_entry course (done_of part rest k g result)) → Passes (join o x') course.touched r.general (after_entry course (done_of part rest' k g' result))
     → Both (join o x) (join o x') (with_stores stores (after_entry course (done_of part rest k g result))) (with_stores stores (after_entry course (done_of part rest' k g' result)))
 entered_alike o q part x x' z z' rest rest' r course stores k g g' (entered.Taken given entry) same board alike h h' =
-    both_released o q part x x' z z' rest rest' r course.touched (course.touched || entry.touched) causes.Taken None (Some (by_entry None entry)) stores same board alike h h'
+    both_released o q part x x' z z' rest rest' r course.touched (course.touched || entry.touched) causes.Taken None (Some (by_entry entry)) stores same board alike h h'
 entered_alike o q part x x' z z' rest rest' r course stores k g g' (entered.Lockup entry) same board alike h h' = both_stop o x x' course.touched r.general stores _ _ h h' refl refl
 
 entered_both : (o q : Open) (x x' z z' : Rest) (r : Registers) (course : Course) (stores : List Store) (d d' : Done Framed) → Same q z z' → q.board ≡ o.board
@@ -209,64 +209,58 @@ unfolding faults
 faults_both o p x x' y y' course fault stores own same k k' =
     let r = faulted NonSecure fault (join p y).core p.exceptions in
     let r' = faulted NonSecure fault (join p y').core p.exceptions in
-    both_noting (join o x) (join o x') stores (with_fault fault) (after_raise (join p y) course fault r) (after_raise (join p y') course fault r')
+    both_handling (join o x) (join o x') stores (with_fault fault) (after_raise (join p y) course fault r) (after_raise (join p y') course fault r')
     (raised_both o p x x' y y' course fault stores r r' (faulted_twins p y y' fault own same) (kept_fault (join o x) (join p y) fault refl own k)
     (kept_fault (join o x') (join p y') fault refl own k'))
 
 -- ---- a return
 
-locks_left : (s : State) (course : Course) (code : Code) (result : Left) → leaves_locked result ≡ true → (left_by s course code result).state.core.run.locked ≡ true
-locks_left s course code (left.Resumed touched) e = cc
-locks_left s course code (left.Chained given refused entry) e = cc
-locks_left s course code (left.Lockup refused entry) e = refl
+locks_left : (s : State) (course : Course) (code : Code) (value : ℕ) (result : Left) → leaves_locked result ≡ true → (left_by s course code value result).state.core.run.locked ≡ true
+locks_left s course code value (left.Resumed touched) e = cc
+locks_left s course code value (left.Chained given refused entry) e = cc
+locks_left s course code value (left.Lockup refused entry) e = refl
 
-looks_left : (s : State) (course : Course) (code : Code) (result : Left) → left_touched result ≡ true → (left_by s course code result).ending.touched ≡ true
-looks_left s course code (left.Resumed touched) e = or_second course.touched touched e
-looks_left s course code (left.Chained given refused entry) e = or_second course.touched entry.touched e
-looks_left s course code (left.Lockup refused entry) e = or_second course.touched entry.touched e
+looks_left : (s : State) (course : Course) (code : Code) (value : ℕ) (result : Left) → left_touched result ≡ true → (left_by s course code value result).ending.touched ≡ true
+looks_left s course code value (left.Resumed touched) e = or_second course.touched touched e
+looks_left s course code value (left.Chained given refused entry) e = or_second course.touched entry.touched e
+looks_left s course code value (left.Lockup refused entry) e = or_second course.touched entry.touched e
 
-left_alike : (o q part : Open) (x x' z z' rest rest' : Rest) (r : Registers) (course : Course) (code : Code) (stores : List Store) (k : Ground) (g g' : Guise) (result : Left) → Same q z z' → q.board ≡ o.board
-    → Same part rest rest' → Passes (join o x) course.touched r.general (after_return course code (leaving_of part rest k g result))
-    → Passes (join o x') course.touched r.general (after_return course code (leaving_of part rest' k g' result))
-    → Both (join o x) (join o x') (with_stores stores (after_return course code (leaving_of part rest k g result))) (with_stores stores (after_return course code (leaving_of part rest' k g' result)))
-left_alike o q part x x' z z' rest rest' r course code stores k g g' (left.Resumed touched) same board alike h h' =
-    both_released o q part x x' z z' rest rest' r course.touched (course.touched || touched) causes.Resumed (Some code) None stores same board alike h h'
-left_alike o q part x x' z z' rest rest' r course code stores k g g' (left.Chained given refused entry) same board alike h h' =
-    both_released o q part x x' z z' rest rest' r course.touched (course.touched || entry.touched) causes.Taken None (Some (by_entry refused entry)) stores same board alike h h'
-left_alike o q part x x' z z' rest rest' r course code stores k g g' (left.Lockup refused entry) same board alike h h' = both_stop o x x' course.touched r.general stores _ _ h h' refl refl
+left_alike : (o q part : Open) (x x' z z' rest rest' : Rest) (r : Registers) (course : Course) (code : Code) (value : ℕ) (stores : List Store) (k : Ground) (g g' : Guise) (result : Left) → Same q z z' → q.board ≡ o.board
+    → Same part rest rest' → Passes (join o x) course.touched r.general (after_return course code value (leaving_of part rest k g result))
+    → Passes (join o x') course.touched r.general (after_return course code value (leaving_of part rest' k g' result))
+    → Both (join o x) (join o x') (with_stores stores (after_return course code value (leaving_of part rest k g result))) (with_stores stores (after_return course code value (leaving_of part rest' k g' result)))
+left_alike o q part x x' z z' rest rest' r course code value stores k g g' (left.Resumed touched) same board alike h h' =
+    both_released o q part x x' z z' rest rest' r course.touched (course.touched || touched) causes.Resumed (Some code) (Some (by_value value None None)) stores same board alike h h'
+left_alike o q part x x' z z' rest rest' r course code value stores k g g' (left.Chained given refused entry) same board alike h h' =
+    both_released o q part x x' z z' rest rest' r course.touched (course.touched || entry.touched) causes.Taken None (Some (by_value value refused (Some entry))) stores same board alike h h'
+left_alike o q part x x' z z' rest rest' r course code value stores k g g' (left.Lockup refused entry) same board alike h h' = both_stop o x x' course.touched r.general stores _ _ h h' refl refl
 
-left_both : (o q : Open) (x x' z z' : Rest) (r : Registers) (course : Course) (code : Code) (stores : List Store) (l l' : Leaving Framed) → Same q z z' → q.board ≡ o.board
-    → Passes (join o x) course.touched r.general (after_return course code l) → Passes (join o x') course.touched r.general (after_return course code l') → LeavingBoth l l'
-    → Both (join o x) (join o x') (with_stores stores (after_return course code l)) (with_stores stores (after_return course code l'))
-left_both o q x x' z z' r course code stores l l' same board h h' (LeavesLooking t t') =
-    both_touch o q x x' z z' r course.touched stores _ _ same board h h' (looks_left (state_of l.core l.exceptions l.held.bus) course code l.result t)
-    (looks_left (state_of l'.core l'.exceptions l'.held.bus) course code l'.result t')
-left_both o q x x' z z' r course code stores l l' same board h h' (LeavesLocked t t') =
-    both_stop o x x' course.touched r.general stores _ _ h h' (locks_left (state_of l.core l.exceptions l.held.bus) course code l.result t)
-    (locks_left (state_of l'.core l'.exceptions l'.held.bus) course code l'.result t')
-left_both o q x x' z z' r course code stores l l' same board h h' (LeavesAlike a) =
+left_both : (o q : Open) (x x' z z' : Rest) (r : Registers) (course : Course) (code : Code) (value : ℕ) (stores : List Store) (l l' : Leaving Framed) → Same q z z' → q.board ≡ o.board
+    → Passes (join o x) course.touched r.general (after_return course code value l) → Passes (join o x') course.touched r.general (after_return course code value l') → LeavingBoth l l'
+    → Both (join o x) (join o x') (with_stores stores (after_return course code value l)) (with_stores stores (after_return course code value l'))
+left_both o q x x' z z' r course code value stores l l' same board h h' (LeavesLooking t t') =
+    both_touch o q x x' z z' r course.touched stores _ _ same board h h' (looks_left (state_of l.core l.exceptions l.held.bus) course code value l.result t)
+    (looks_left (state_of l'.core l'.exceptions l'.held.bus) course code value l'.result t')
+left_both o q x x' z z' r course code value stores l l' same board h h' (LeavesLocked t t') =
+    both_stop o x x' course.touched r.general stores _ _ h h' (locks_left (state_of l.core l.exceptions l.held.bus) course code value l.result t)
+    (locks_left (state_of l'.core l'.exceptions l'.held.bus) course code value l'.result t')
+left_both o q x x' z z' r course code value stores l l' same board h h' (LeavesAlike a) =
     subst (λ (e : Leaving Framed). Goal e l') (sym a.ends)
     (subst (λ (e' : Leaving Framed). Goal (leaving_of a.part a.rest a.ground a.guise a.result) e') (sym a.ends')
-    (λ p p'. left_alike o q a.part x x' z z' a.rest a.rest' r course code stores a.ground a.guise a.guise' a.result same board a.same p p')) h h'
+    (λ p p'. left_alike o q a.part x x' z z' a.rest a.rest' r course code value stores a.ground a.guise a.guise' a.result same board a.same p p')) h h'
   where
     Goal : Leaving Framed → Leaving Framed → Type 0
     Goal e e' =
-        Passes (join o x) course.touched r.general (after_return course code e) → Passes (join o x') course.touched r.general (after_return course code e')
-        → Both (join o x) (join o x') (with_stores stores (after_return course code e)) (with_stores stores (after_return course code e'))
+        Passes (join o x) course.touched r.general (after_return course code value e) → Passes (join o x') course.touched r.general (after_return course code value e')
+        → Both (join o x) (join o x') (with_stores stores (after_return course code value e)) (with_stores stores (after_return course code value e'))
 
 -- Non-secure code returns by an instruction that looked at nothing Secure
 pub returns_both : (o p : Open) (x x' y y' : Rest) (course : Course) (code : Code) (value : ℕ) (stores : List Store) → course.touched ≡ false → Same p y y' → Kept (join o x) (join p y) → Kept (join o x') (join p y')
     → Both (join o x) (join o x') (with_stores stores (returns (join p y) course code value)) (with_stores stores (returns (join p y') course code value))
 unfolding returns ground_of guise_of
 returns_both o p x x' y y' course code value stores quiet same k k' =
-    let l = leaves framed p.board.profile (join p y).core p.exceptions (framed_in course.negative (join p y)) value in
-    let l' = leaves framed p.board.profile (join p y').core p.exceptions (framed_in course.negative (join p y')) value in
-    let h = passes_returns (join o x) (join p y) course code value quiet refl k in
-    let h' = passes_returns (join o x') (join p y') course code value quiet refl k' in
-    both_noting (join o x) (join o x') stores (with_value value) (after_return course code l) (after_return course code l')
-    (left_both o p x x' y y' p.registers course code stores l l' same k.keeps.board (passes_unnoted (join o x) course.touched p.registers.general (with_value value) (after_return course code l) h)
-    (passes_unnoted (join o x') course.touched p.registers.general (with_value value) (after_return course code l') h')
-    (leaves_twins p.board.profile p y y' (ground_of p course.negative) (guise_of p y) (guise_of p y') value same))
+    left_both o p x x' y y' p.registers course code value stores _ _ same k.keeps.board (passes_returns (join o x) (join p y) course code value quiet refl k)
+    (passes_returns (join o x') (join p y') course code value quiet refl k') (leaves_twins p.board.profile p y y' (ground_of p course.negative) (guise_of p y) (guise_of p y') value same)
 
 -- ---- FNC_RETURN
 
