@@ -277,7 +277,7 @@ goes_back_signed : (profile : Profile) (r : Returning) (c : Core) (e : Exception
 unfolding goes_back
 goes_back_signed profile r c e f own =
     signed_cond c.stacks_s f.bus.memory (takes_first e c.masks) (chained framed profile r None false c e f) (resumes framed profile r c e f (unstacked framed c r f))
-    (λ takes. signed_chained c.stacks_s f.bus.memory profile r false c e f) (resumes_signed profile r c e f (unstacked framed c r f) own refl)
+    (λ takes. signed_chained c.stacks_s f.bus.memory profile r None false c e f) (resumes_signed profile r c e f (unstacked framed c r f) own refl)
 
 noting_signed : (profile : Profile) (side : Side) (fault : Option Fault) (r : Returning) (c : Core) (e : ExceptionsValue) (f : Framed) → r.es ≡ false
     → SignedBy c.stacks_s f.bus.memory (leaves_noting framed profile side fault r c e f)
