@@ -4,7 +4,7 @@
 ghost use Rattle.std.specs.Prelude.{◌≡◌, ◌≤◌, ◌+◌, true, false};
 ghost use Rattle.tz_state.specs.Slots.{exists};
 ghost use Rattle.tz_frames.specs.declared.entering.Entered.TheVariants as entered;
-ghost use Rattle.tz_frames.specs.Enter.{falls, callee_process, callee_privileged, raised_choice, stacked, taking, choosing, tries, with_frame, with_lock};
+ghost use Rattle.tz_frames.specs.Enter.{falls, callee_process, callee_privileged, raised_choice, stacked, taking, choosing, tries, with_lock, without_frame};
 ghost use Rattle.tz_frames.specs.Stack.{pushed_additional};
 ghost use Rattle.tz_excret.specs.Lent.{work_of, SameLoans};
 ghost use Rattle.tz_excret.specs.Room.{need};
@@ -33,7 +33,7 @@ pub(crate) fn lock(core: &mut Core, entry: &Entering) -> Entered
 
 /// Notes the frame that has faulted, the additional one or the basic one.
 pub(crate) fn fail_frame(entry: &mut Entering, additional: bool, fault: StackFault)
-    ensures { entry.new ≡ with_frame additional fault entry.old }
+    ensures { entry.new ≡ without_frame entry.old additional fault }
 {
     entry.frame = Some(FrameFault { additional, fault });
 }

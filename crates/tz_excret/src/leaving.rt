@@ -1,6 +1,6 @@
 //! Return from an exception (DDI0553, `ExceptionReturn`, `TailChain`).
 
-ghost use Rattle.std.specs.Prelude.{◌≡◌, ◌≤◌, ◌+◌, Some};
+ghost use Rattle.std.specs.Prelude.{◌≡◌, ◌≤◌, ◌+◌};
 ghost use Rattle.tz_frames.specs.Status.{faulted, frame_faulted};
 ghost use Rattle.tz_frames.specs.Enter.{with_lock};
 ghost use Rattle.tz_excret.specs.Lent.{left_by, SameLoans};
@@ -56,11 +56,11 @@ fn left_of(refused: Option<Refusal>, entered: Entered) -> Left
 fn chain<P: Frames>(
     work: &mut Work<'_, P>,
     returning: &Returning,
-    touched: bool,
     refused: Option<Refusal>,
+    touched: bool,
 ) -> Left
     requires { 10 ≤ P.room work.old.port.now }
-    ensures does { chained P.answer work.old.profile returning.now touched refused work.old.core.now work.old.exceptions.now (P.held work.old.port.now) ≡ left_by P.held work.new result }
+    ensures does { chained P.answer work.old.profile returning.now refused touched work.old.core.now work.old.exceptions.now (P.held work.old.port.now) ≡ left_by P.held work.new result }
     ensures loans { SameLoans work.old work.new }
     ensures room { P.room work.old.port.now ≤ P.room work.new.port.now + 10 }
     ensures lent { P.lent work.new.port.now ≡ P.lent work.old.port.now }
@@ -73,12 +73,12 @@ fn chain<P: Frames>(
 fn chain_raised<P: Frames>(
     work: &mut Work<'_, P>,
     returning: &Returning,
-    touched: bool,
     refusal: Refusal,
+    touched: bool,
     locks: bool,
 ) -> Left
     requires { 10 ≤ P.room work.old.port.now }
-    ensures does { chained_raised P.answer work.old.profile returning.now touched (Some refusal) (P.held work.old.port.now) (record { core = work.old.core.now; exceptions = work.old.exceptions.now; locks = locks }) ≡ left_by P.held work.new result }
+    ensures does { chained_raised P.answer work.old.profile returning.now refusal touched (P.held work.old.port.now) (record { core = work.old.core.now; exceptions = work.old.exceptions.now; locks = locks }) ≡ left_by P.held work.new result }
     ensures loans { SameLoans work.old work.new }
     ensures room { P.room work.old.port.now ≤ P.room work.new.port.now + 10 }
     ensures lent { P.lent work.new.port.now ≡ P.lent work.old.port.now }
@@ -90,7 +90,7 @@ fn chain_raised<P: Frames>(
             entry: chaining(returning, touched),
         };
     }
-    chain(work, returning, touched, Some(refusal))
+    chain(work, returning, Some(refusal), touched)
 }
 
 /// The code that was interrupted goes on by its frames, or a fault of theirs is entered.
@@ -110,7 +110,7 @@ fn resume_by<P: Frames>(
     match frames {
         Err(fault) => {
             let locks = raise_frame_fault(work.core, work.exceptions, false, side, *fault);
-            chain_raised(work, returning, touched, Refusal::Frame(*fault), locks)
+            chain_raised(work, returning, Refusal::Frame(*fault), touched, locks)
         }
         Ok(unstacked) => {
             if modes_agree(returning, &unstacked.basic) {
@@ -118,7 +118,7 @@ fn resume_by<P: Frames>(
                 return Left::Resumed { touched };
             }
             let locks = raise_fault_of(work.core, work.exceptions, side, Fault::InvPc(side));
-            chain_raised(work, returning, touched, Refusal::Mode(side), locks)
+            chain_raised(work, returning, Refusal::Mode(side), touched, locks)
         }
     }
 }
@@ -133,7 +133,7 @@ fn go_back<P: Frames>(work: &mut Work<'_, P>, returning: &Returning) -> Left
     ensures lent { P.lent work.new.port.now ≡ P.lent work.old.port.now }
 {
     if takes_first_uncounted(work.core, work.exceptions) {
-        return chain(work, returning, false, None);
+        return chain(work, returning, None, false);
     }
     let frames = unstack(work.core, work.port, returning);
     resume_by(work, returning, &frames)
@@ -155,7 +155,7 @@ fn leave_noting<P: Frames>(
     match noted {
         Some(fault) => {
             let locks = raise_fault_of(work.core, work.exceptions, side, fault);
-            chain_raised(work, returning, false, Refusal::Value(fault), locks)
+            chain_raised(work, returning, Refusal::Value(fault), false, locks)
         }
         None => go_back(work, returning),
     }

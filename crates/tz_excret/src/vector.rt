@@ -10,7 +10,7 @@ ghost use Rattle.tz_state.specs.Priority.{hard_priority};
 ghost use Rattle.tz_state.specs.Execution.{execution};
 ghost use Rattle.tz_frames.specs.Status.{slot as slot_of, with_hfsr, with_status};
 ghost use Rattle.tz_frames.specs.Registers.{taken_registers, scratch_cleared, all_cleared};
-ghost use Rattle.tz_frames.specs.Enter.{exc_return, dcrs_of, handling, is_last_resort, vector_choice, can_harden, with_vector, vectored};
+ghost use Rattle.tz_frames.specs.Enter.{exc_return, dcrs_of, handling, is_last_resort, vector_choice, can_harden, without_vector, vectored};
 ghost use Rattle.tz_excret.specs.Lent.{work_of, SameLoans};
 
 use crate::sides::{is_secure, set_spsel};
@@ -155,7 +155,7 @@ fn can_harden(core: &Core, exceptions: &Exceptions, slot: Slot) -> bool
 
 /// Notes the exception whose vector can't be read.
 fn note_vector(entry: &mut Entering, slot: Slot)
-    ensures { entry.new ≡ with_vector slot entry.old }
+    ensures { entry.new ≡ without_vector entry.old slot }
 {
     if is_last_resort(slot) {
         entry.last = Some(slot);
