@@ -113,8 +113,8 @@ pub fn entered(case: &mut Case<'_>, bench: &mut Bench, version: &str) {
         back,
         profile,
     ) {
-        Entered::Taken { slot, touched } => ("taken", Some(slot), touched),
-        Entered::Lockup { touched } => ("locks", None, touched),
+        Entered::Taken { slot, entry } => ("taken", Some(slot), entry.touched),
+        Entered::Lockup { entry } => ("locks", None, entry.touched),
     };
     tell_end(case, name, slot, touched);
 }
@@ -136,8 +136,8 @@ pub fn left(case: &mut Case<'_>, bench: &mut Bench, value: &str) {
         Profile::V80,
     ) {
         Left::Resumed { touched } => ("resumed", None, touched),
-        Left::Chained { slot, touched } => ("chained", Some(slot), touched),
-        Left::Lockup { touched } => ("locks", None, touched),
+        Left::Chained { slot, entry, .. } => ("chained", Some(slot), entry.touched),
+        Left::Lockup { entry, .. } => ("locks", None, entry.touched),
     };
     tell_end(case, name, slot, touched);
 }

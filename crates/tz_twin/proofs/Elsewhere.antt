@@ -1,6 +1,6 @@
 -- A step changes no byte but those of its stores and of frames, stage by stage; nor, without a store to the system
 -- registers, the SAU, nor what stands for exceptions unless one is taken or returns.
-use Rattle.std.proofs.Common.{◌≡◌, ℕ, ◌+◌, Bool, true, false, ◌&&◌, ◌||◌, not, cond, List, [], Result, Ok, Err, refl, ap, ◌∙◌, subst, Option, Some, None}
+use Rattle.std.proofs.Common.{◌≡◌, ℕ, ◌+◌, Bool, true, false, ◌&&◌, ◌||◌, not, cond, List, [], Result, Ok, Err, refl, ap, ◌∙◌, subst, Option, None}
 use Rattle.std.specs.Prelude.{nat_lt}
 use Rattle.std.specs.FinMap.{get}
 use Rattle.tz_table.specs.declared.units.Side.{Side}
