@@ -4,6 +4,7 @@
 //! the state after it. They are built in a text that the caller holds; no memory is taken, and nothing is changed.
 #![tactic(auto)]
 
+mod text;
 pub mod told;
 
 pub use told::{Account, Ending, Entering, FrameFault, Handling, Refusal};
