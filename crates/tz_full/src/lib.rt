@@ -4,6 +4,14 @@
 //! the state after it. They are built in a text that the caller holds; no memory is taken, and nothing is changed.
 #![tactic(auto)]
 
+mod begun;
+mod entry;
+mod escalation;
+mod faults;
+mod frames;
+mod names;
+mod refusals;
+mod taken;
 mod text;
 pub mod told;
 
