@@ -7,14 +7,13 @@ ghost use Rattle.tz_state.specs.Priority.{priority_of};
 ghost use Rattle.tz_state.specs.Execution.{basepri_priority, primask_priority, faultmask_priority, side_priority};
 ghost use Rattle.tz_full.specs.Escalation.{was_active, active_before, execution_before, hardened_at, escalated_at, why_text, forced_line, nor_text, lockup_line, became_text, raised_at, raised_text};
 
-use crate::names::{push_exception_name, push_slot};
+use crate::names::{push_exception_name, push_priority, push_slot};
 use crate::text::{Text, push_side};
 use tz_model::{Side, Slot};
 use tz_nvic::{Exceptions, PLACES};
 use tz_prio::{Taken, hard_side};
 use tz_regs::{Masks, SideMasks};
 use tz_state::exception::{HARD_FAULT, IDLE_PRIORITY, ZERO_PRIORITY};
-use tz_syntax::push_signed;
 
 /// Whether a slot stands at a place that was active before the exception at another one was taken.
 fn was_active(exceptions: &Exceptions, taken: usize, index: usize) -> bool
@@ -193,7 +192,7 @@ fn push_lockup(text: &mut Text, slot: Slot, execution: u32)
     push_slot(text, slot);
     text.push_str(nor_text(slot));
     text.push_str(": the code has priority ");
-    push_signed(text, execution as i32 - ZERO_PRIORITY as i32);
+    push_priority(text, execution);
     text.push_str("\n");
 }
 

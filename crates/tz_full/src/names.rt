@@ -1,14 +1,17 @@
-//! Exceptions by the manual's names.
+//! Exceptions by the manual's names, and priorities as it counts them.
 
 ghost use Rattle.std.specs.Prelude.{◌≡◌, ◌≤◌, ◌+◌, ◌++◌, length};
+ghost use Rattle.std.specs.Fmt.{signed_decimal};
 ghost use Rattle.arrayvec.specs.ArrayString.{array_string_len};
+ghost use Rattle.tz_state.specs.Execution.{manual_priority};
 ghost use Rattle.tz_full.specs.ExceptionNames.{system_name, exception_name, slot_text};
 
 use crate::text::{Text, push_side};
+use itoa::Buffer;
 use tz_model::Slot;
 use tz_state::exception::{
     BUS_FAULT, FIRST_INTERRUPT, HARD_FAULT, MEM_MANAGE, NMI, PEND_SV, SECURE_FAULT, SV_CALL,
-    SYS_TICK, USAGE_FAULT,
+    SYS_TICK, USAGE_FAULT, ZERO_PRIORITY,
 };
 use tz_syntax::push_decimal;
 
@@ -57,4 +60,15 @@ pub fn push_slot(text: &mut Text, slot: Slot)
     push_exception_name(text, slot.number);
     text.push_str(" ");
     push_side(text, slot.side);
+}
+
+/// A priority that stands four above the manual's, as the manual has it.
+pub fn push_priority(text: &mut Text, priority: u32)
+    requires small { priority ≤ 260 }
+    requires room { array_string_len text.old + 11 ≤ 4096 }
+    ensures bytes { text.new.bytes ≡ text.old.bytes ++ signed_decimal (manual_priority priority) }
+    ensures len { array_string_len text.new ≤ array_string_len text.old + 11 }
+{
+    let mut buffer = Buffer::new();
+    text.push_str(buffer.format(priority as i32 - ZERO_PRIORITY as i32));
 }

@@ -13,7 +13,7 @@ use crate::entry::{
 use crate::escalation::push_raised;
 use crate::faults::{exception_of, frame_exception, push_fault};
 use crate::frames::known_word;
-use crate::names::push_slot;
+use crate::names::{push_priority, push_slot};
 use crate::refusals::{
     flag_digit, is_exc_return, push_exc_return, push_refused, returning_by, side_of_bit,
 };
@@ -27,8 +27,7 @@ use tz_model::{Fault, Profile, Side, Size, Slot};
 use tz_nvic::{Exceptions, PLACES};
 use tz_regs::Core;
 use tz_sem::Cause;
-use tz_state::exception::ZERO_PRIORITY;
-use tz_syntax::{push_decimal, push_hex_word, push_signed};
+use tz_syntax::{push_decimal, push_hex_word};
 
 fn is_taken(cause: Cause) -> bool
     ensures { result ≡ is_taken cause }
@@ -310,17 +309,14 @@ fn push_last_part(text: &mut Text, core: &Core, slot: Option<Slot>)
 }
 
 /// The priority of the slot at a place as it counts.
-fn push_priority(text: &mut Text, exceptions: &Exceptions, index: usize)
+fn push_place_priority(text: &mut Text, exceptions: &Exceptions, index: usize)
     requires { array_string_len text.old + 22 ≤ 4096 }
     ensures bytes { text.new.bytes ≡ text.old.bytes ++ priority_text exceptions.now index }
     ensures len { array_string_len text.new ≤ array_string_len text.old + 22 }
 {
     if index < PLACES {
         text.push_str(", priority ");
-        push_signed(
-            text,
-            exceptions.priority_of(index) as i32 - ZERO_PRIORITY as i32,
-        );
+        push_priority(text, exceptions.priority_of(index));
     }
 }
 
@@ -336,7 +332,7 @@ fn push_takes_line(text: &mut Text, machine: &Machine, taken: usize)
     push_decimal(text, u32::from(core.registers.ipsr));
     text.push_str(" ");
     push_slot(text, slot_handled(core));
-    push_priority(text, machine.exceptions(), taken);
+    push_place_priority(text, machine.exceptions(), taken);
     text.push_str(", DCRS ");
     text.push_str(flag_digit(core.registers.lr / EXC_RETURN_DCRS % 2 == 1));
     text.push_str("\n");
