@@ -12,8 +12,11 @@ use Rattle.tz_full.specs.declared.told.Account.{Account}
 
 -- ---- events
 
+unfoldable pub irq_line : ℕ → List ℕ
+irq_line n = codes "    event irq " ++ decimal n ++ codes "\n"
+
 unfoldable pub event_line : ScriptEvent → List ℕ
-event_line (Irq n) = codes "    event irq " ++ decimal n ++ codes "\n"
+event_line (Irq n) = irq_line n
 event_line Nmi = codes "    event nmi\n"
 
 unfoldable pub events_text : List ScriptEvent → List ℕ

@@ -105,11 +105,11 @@ additional_faulted s process taken fault =
     additional_unwritten s.core process fault ++ raised_text s.exceptions s.core.masks taken (frame_exception s.exceptions Secure fault)
 
 -- behind a frame that has faulted a fault of this one changes nothing
-unfoldable pub additional_uncounted : State → Bool → List ℕ
-additional_uncounted s process =
-    codes "    additional frame at " ++ stack_text Secure process ++ codes " " ++ hex_word (sp_of process s.core.stacks_s)
+unfoldable pub additional_uncounted : Bool → ℕ → List ℕ
+additional_uncounted process base =
+    codes "    additional frame at " ++ stack_text Secure process ++ codes " " ++ hex_word base
     ++ codes ": a fault of it doesn't count\n"
 
 abbrev pub additional_lines : State → Bool → ℕ → Option FrameFault → List ℕ
 additional_lines s process taken None = additional_written s process
-additional_lines s process taken (Some f) = if f.additional then additional_faulted s process taken f.fault else additional_uncounted s process
+additional_lines s process taken (Some f) = if f.additional then additional_faulted s process taken f.fault else additional_uncounted process (sp_of process s.core.stacks_s)

@@ -65,10 +65,16 @@ takes_process c r = r.thread && (if is_same_flag r.es r.secure then r.process el
 abbrev pub frame_at : Core → Core → Returning → ℕ
 frame_at before after r = sp_of (takes_process before r) (stacks_of (side_of_bit r.secure) after)
 
+unfoldable pub unread_word : Fault → List ℕ
+unread_word fault = codes "word of the frame, " ++ word_text false fault
+
+unfoldable pub unsigned_text : ℕ → List ℕ
+unsigned_text base = codes "frame at " ++ hex_word base ++ codes ", INVIS"
+
 unfoldable pub unread_text : Core → Core → Returning → StackFault → List ℕ
 unread_text before after r (Limit of) = codes "frame below its limit"
-unread_text before after r (Access fault) = codes "word of the frame, " ++ word_text false fault
-unread_text before after r Signature = codes "frame at " ++ hex_word (frame_at before after r) ++ codes ", INVIS"
+unread_text before after r (Access fault) = unread_word fault
+unread_text before after r Signature = unsigned_text (frame_at before after r)
 
 -- ---- its line
 

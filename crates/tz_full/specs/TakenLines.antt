@@ -133,10 +133,10 @@ abbrev pub priority_text : ExceptionsValue → ℕ → List ℕ
 priority_text e i = if nat_lt i places then codes ", priority " ++ signed_decimal (manual_priority (priority_of e i)) else []
 
 -- DCRS is that of the EXC_RETURN value in LR
-unfoldable pub takes_line : State → ℕ → List ℕ
-takes_line s taken =
-    codes "    takes " ++ decimal s.core.registers.ipsr ++ codes " " ++ slot_text (slot_handled s.core) ++ priority_text s.exceptions taken
-    ++ codes ", DCRS " ++ flag_digit (is_set s.core.registers.lr exc_return_dcrs) ++ codes "\n"
+unfoldable pub takes_line : Core → ExceptionsValue → ℕ → List ℕ
+takes_line c e taken =
+    codes "    takes " ++ decimal c.registers.ipsr ++ codes " " ++ slot_text (slot_handled c) ++ priority_text e taken ++ codes ", DCRS "
+    ++ flag_digit (is_set c.registers.lr exc_return_dcrs) ++ codes "\n"
 
 -- the address of its vector, and the word there
 unfoldable pub vector_line : State → List ℕ
@@ -151,7 +151,7 @@ cleared_text V81 Secure secure = codes "    cleared r0-r3, r12, flags\n"
 cleared_text profile NonSecure secure = if secure then codes "    cleared r0-r12, flags\n" else codes "    cleared r0-r3, r12, flags\n"
 
 unfoldable pub taken_lines : State → ℕ → Entering → List ℕ
-taken_lines s taken x = takes_line s taken ++ vector_line s ++ cleared_text s.bus.board.profile s.core.run.side x.secure
+taken_lines s taken x = takes_line s.core s.exceptions taken ++ vector_line s ++ cleared_text s.bus.board.profile s.core.run.side x.secure
 
 abbrev pub taken_part : State → ℕ → Cause → Entering → List ℕ
 taken_part s taken cause x = if is_taken cause then taken_lines s taken x else []

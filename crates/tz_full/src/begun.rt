@@ -2,13 +2,25 @@
 
 ghost use Rattle.std.specs.Prelude.{◌≡◌, ◌≤◌, ◌+◌, ◌++◌, length};
 ghost use Rattle.arrayvec.specs.ArrayString.{array_string_len};
-ghost use Rattle.tz_full.specs.BegunLines.{event_line, line_where, is_asleep, is_idle, sleep_ends, begun_text};
+ghost use Rattle.tz_full.specs.BegunLines.{irq_line, event_line, line_where, is_asleep, is_idle, sleep_ends, begun_text};
 
 use crate::text::Text;
 use crate::told::Account;
 use tz_model::{Report, ScriptEvent, Sleep, StepKind};
 use tz_regs::Running;
 use tz_syntax::push_decimal;
+
+/// An external interrupt of the script that is due.
+#[tactic(auto, unfolding(crate::specs::BegunLines::irq_line))]
+fn push_irq(text: &mut Text, n: u16)
+    requires { array_string_len text.old + 40 ≤ 4096 }
+    ensures bytes { text.new.bytes ≡ text.old.bytes ++ irq_line n }
+    ensures len { array_string_len text.new ≤ array_string_len text.old + 40 }
+{
+    text.push_str("    event irq ");
+    push_decimal(text, u32::from(n));
+    text.push_str("\n");
+}
 
 /// An event of the script that is due.
 #[tactic(auto, unfolding(crate::specs::BegunLines::event_line))]
@@ -18,11 +30,7 @@ pub fn push_event(text: &mut Text, event: &ScriptEvent)
     ensures len { array_string_len text.new ≤ array_string_len text.old + 40 }
 {
     match *event {
-        ScriptEvent::Irq(n) => {
-            text.push_str("    event irq ");
-            push_decimal(text, u32::from(n));
-            text.push_str("\n");
-        }
+        ScriptEvent::Irq(n) => push_irq(text, n),
         ScriptEvent::Nmi => text.push_str("    event nmi\n"),
     }
 }

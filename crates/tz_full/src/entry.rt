@@ -307,15 +307,15 @@ fn push_additional_faulted(
 
 /// That an additional frame was tried behind a frame that has faulted.
 #[tactic(auto, unfolding(crate::specs::EntryFrames::additional_uncounted))]
-fn push_additional_uncounted(text: &mut Text, machine: &Machine, process: bool)
+fn push_additional_uncounted(text: &mut Text, process: bool, base: u32)
     requires { array_string_len text.old + 80 ≤ 4096 }
-    ensures bytes { text.new.bytes ≡ text.old.bytes ++ additional_uncounted machine.now process }
+    ensures bytes { text.new.bytes ≡ text.old.bytes ++ additional_uncounted process base }
     ensures len { array_string_len text.new ≤ array_string_len text.old + 80 }
 {
     text.push_str("    additional frame at ");
     push_stack(text, Side::Secure, process);
     text.push_str(" ");
-    push_hex_word(text, machine.core().sp(Side::Secure, process));
+    push_hex_word(text, base);
     text.push_str(": a fault of it doesn't count\n");
 }
 
@@ -337,7 +337,7 @@ pub fn push_additional_lines(
             if faulted.additional {
                 push_additional_faulted(text, machine, process, taken, faulted.fault);
             } else {
-                push_additional_uncounted(text, machine, process);
+                push_additional_uncounted(text, process, machine.core().sp(Side::Secure, process));
             }
         }
     }

@@ -4,7 +4,7 @@ ghost use Rattle.std.specs.Prelude.{◌≡◌, ◌≤◌, ◌+◌, ◌/◌, ◌%
 ghost use Rattle.arrayvec.specs.ArrayString.{array_string_len};
 ghost use Rattle.tz_model.specs.Words.{is_nonsecure_side};
 ghost use Rattle.tz_frames.specs.Leave as leave;
-ghost use Rattle.tz_full.specs.RefusalLines.{flag_digit, pointer_text, bits_text, exc_return_line, inactive_text, check_text, takes_process, frame_at, unread_text, reason_text, refused_line};
+ghost use Rattle.tz_full.specs.RefusalLines.{flag_digit, pointer_text, bits_text, exc_return_line, inactive_text, check_text, takes_process, frame_at, unread_word, unsigned_text, unread_text, reason_text, refused_line};
 
 use crate::faults::{fault_name, push_word_fault};
 use crate::text::{Text, push_mode, push_side};
@@ -14,7 +14,7 @@ use tz_frames::return_bits::{
     EXC_RETURN_S, EXC_RETURN_SPSEL,
 };
 use tz_frames::{Returning, StackFault};
-use tz_model::Side;
+use tz_model::{Fault, Side};
 use tz_regs::Core;
 use tz_syntax::{push_decimal, push_hex_word};
 
@@ -166,6 +166,29 @@ fn frame_at(before: &Core, after: &Core, returning: &Returning) -> u32
     )
 }
 
+/// A word of a frame that can't be read.
+#[tactic(auto, unfolding(crate::specs::RefusalLines::unread_word))]
+fn push_unread_word(text: &mut Text, fault: Fault)
+    requires { array_string_len text.old + 42 ≤ 4096 }
+    ensures bytes { text.new.bytes ≡ text.old.bytes ++ unread_word fault }
+    ensures len { array_string_len text.new ≤ array_string_len text.old + 42 }
+{
+    text.push_str("word of the frame, ");
+    push_word_fault(text, false, fault);
+}
+
+/// A frame that isn't signed.
+#[tactic(auto, unfolding(crate::specs::RefusalLines::unsigned_text))]
+fn push_unsigned(text: &mut Text, base: u32)
+    requires { array_string_len text.old + 42 ≤ 4096 }
+    ensures bytes { text.new.bytes ≡ text.old.bytes ++ unsigned_text base }
+    ensures len { array_string_len text.new ≤ array_string_len text.old + 42 }
+{
+    text.push_str("frame at ");
+    push_hex_word(text, base);
+    text.push_str(", INVIS");
+}
+
 /// Why a frame can't be read, or isn't signed.
 #[tactic(auto, unfolding(crate::specs::RefusalLines::unread_text))]
 fn push_unread(
@@ -181,15 +204,8 @@ fn push_unread(
 {
     match fault {
         StackFault::Limit(_) => text.push_str("frame below its limit"),
-        StackFault::Access(fault) => {
-            text.push_str("word of the frame, ");
-            push_word_fault(text, false, fault);
-        }
-        StackFault::Signature => {
-            text.push_str("frame at ");
-            push_hex_word(text, frame_at(before, after, returning));
-            text.push_str(", INVIS");
-        }
+        StackFault::Access(fault) => push_unread_word(text, fault),
+        StackFault::Signature => push_unsigned(text, frame_at(before, after, returning)),
     }
 }
 

@@ -322,17 +322,16 @@ fn push_place_priority(text: &mut Text, exceptions: &Exceptions, index: usize)
 
 /// The exception that was taken.
 #[tactic(auto, unfolding(crate::specs::TakenLines::takes_line))]
-fn push_takes_line(text: &mut Text, machine: &Machine, taken: usize)
+fn push_takes_line(text: &mut Text, core: &Core, exceptions: &Exceptions, taken: usize)
     requires { array_string_len text.old + 75 ≤ 4096 }
-    ensures bytes { text.new.bytes ≡ text.old.bytes ++ takes_line machine.now taken }
+    ensures bytes { text.new.bytes ≡ text.old.bytes ++ takes_line core.now exceptions.now taken }
     ensures len { array_string_len text.new ≤ array_string_len text.old + 75 }
 {
-    let core = machine.core();
     text.push_str("    takes ");
     push_decimal(text, u32::from(core.registers.ipsr));
     text.push_str(" ");
     push_slot(text, slot_handled(core));
-    push_place_priority(text, machine.exceptions(), taken);
+    push_place_priority(text, exceptions, taken);
     text.push_str(", DCRS ");
     text.push_str(flag_digit(core.registers.lr / EXC_RETURN_DCRS % 2 == 1));
     text.push_str("\n");
@@ -381,7 +380,7 @@ fn push_taken_lines(text: &mut Text, machine: &Machine, taken: usize, entry: &En
     ensures bytes { text.new.bytes ≡ text.old.bytes ++ taken_lines machine.now taken entry.now }
     ensures len { array_string_len text.new ≤ array_string_len text.old + 136 }
 {
-    push_takes_line(text, machine, taken);
+    push_takes_line(text, machine.core(), machine.exceptions(), taken);
     push_vector_line(text, machine);
     let profile = machine.board().profile;
     text.push_str(cleared_text(profile, machine.core().run.side, entry.secure));
