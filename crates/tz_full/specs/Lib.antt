@@ -1,0 +1,9 @@
+pub mod Words
+pub mod FaultNames
+pub mod ExceptionNames
+pub mod Escalation
+pub mod FrameLines
+pub mod BegunLines
+pub mod RefusalLines
+pub mod EntryFrames
+pub mod TakenLines
