@@ -207,6 +207,7 @@ impl Machine {
     }
 
     /// Runs an instruction whose place and condition let it run.
+    #[inline(always)]
     fn run_here(&mut self, insn: &Insn, code: &Code, course: Course, stores: &mut Stores) -> Ending
         requires { array_vec_len stores.old ≡ 0 }
         ensures { executes self.old.core course code.now insn.now (executed self.old insn.now) ≡ record { state = self.new; stores = stores.new.items; ending = result } }
@@ -379,6 +380,7 @@ impl Machine {
     }
 
     /// Makes one step after what it begins with, but for its report: notes the stores, and tells how it ended.
+    #[inline(always)]
     #[tactic(auto, unfolding(tz_sem::specs::Step::ended))]
     fn make_step(&mut self, stores: &mut Stores) -> Ending
         requires { array_vec_len stores.old ≡ 0 }

@@ -29,6 +29,7 @@ impl Machine {
     ghost use Rattle.tz_sem.specs.Step.{started, awake, without_event, is_woken};
 
     /// What a step begins with, of a locked machine too: the events that are due pend, and the timers count.
+    #[inline(always)]
     pub(crate) fn start(&mut self, due: &[ScriptEvent])
         ensures { self.new ≡ started self.old due.now }
     {
