@@ -4,6 +4,10 @@
 //! the state after it. They are built in a text that the caller holds; no memory is taken, and nothing is changed.
 #![tactic(auto)]
 
+mod loads;
+mod ran_crossing;
+mod ran_names;
+mod ran_places;
 mod text;
 pub mod told;
 
