@@ -98,9 +98,12 @@ loads_text b (word ∷ words) [] = []
 loads_text b (word ∷ words) (Load size a must_align user ∷ more) = load_line b size a word ++ loads_text b words more
 loads_text b (word ∷ words) (Store size a value must_align user ∷ more) = loads_text b (word ∷ words) more
 
+abbrev pub loads_of : Account → State → Insn → List ℕ
+loads_of t s i = loads_text s.bus (words_of i t s.core) (accesses_of i (local_of t.core))
+
 abbrev pub loads_by : Account → State → Option Insn → List ℕ
 loads_by t s None = []
-loads_by t s (Some i) = loads_text s.bus (words_of i t s.core) (accesses_of i (local_of t.core))
+loads_by t s (Some i) = loads_of t s i
 
 -- ---- stores to system registers
 

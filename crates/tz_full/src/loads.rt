@@ -3,16 +3,14 @@
 //! Its accesses are those that it makes from the core before the step. Memory is read after it, as no load changes it;
 //! of a system register what was read is in the register that got it.
 
-ghost use Rattle.std.specs.Prelude.{◌≡◌, ◌≤◌, ◌+◌, ◌*◌, [], ◌∷◌, ◌++◌, if◌then◌else◌, length, map, option_map, Some};
+ghost use Rattle.std.specs.Prelude.{◌≡◌, ◌≤◌, ◌+◌, ◌*◌, [], ◌∷◌, ◌++◌, if◌then◌else◌, length, map, option_map};
 ghost use Rattle.arrayvec.specs.ArrayString.{array_string_len};
-ghost use Rattle.tz_table.specs.declared.units.Size.TheVariants.{Word};
 ghost use Rattle.tz_model.specs.Ports.{cut_to};
-ghost use Rattle.tz_model.specs.Words.{wrap};
 ghost use Rattle.tz_state.specs.Access.{is_private};
-ghost use Rattle.tz_sem.specs.LoadStore.{is_listed, listed, lowest, word_loads, words_loaded};
+ghost use Rattle.tz_sem.specs.LoadStore.{is_listed, listed, lowest, pair_loads, word_loads, words_loaded};
 ghost use Rattle.tz_sem.specs.Local.{local_of, reg};
 ghost use Rattle.tz_table.specs.declared.instruction.Insn.TheVariants.{TableBranch};
-ghost use Rattle.tz_full.specs.RanLoads.{value_in, word_to_pc, is_resumed, told_of, entry_word, size_text, known_text, held_text, read_text, load_line, loads_text, loads_by, store_line, store_lines};
+ghost use Rattle.tz_full.specs.RanLoads.{value_in, word_to_pc, is_resumed, told_of, entry_word, size_text, known_text, held_text, read_text, load_line, loads_text, loads_of, loads_by, store_line, store_lines};
 
 use crate::ran_names::push_name_at;
 use crate::ran_places::{at_offset, filled_of, lowest, place, reg};
@@ -166,13 +164,7 @@ fn push_load(text: &mut Text, bus: &Bus, size: Size, addr: u32, word: Option<u32
 
 /// The lines of words in a row, each by the register that it went to.
 #[tactic(auto, unfolding(crate::specs::RanLoads::loads_text))]
-fn push_words(
-    text: &mut Text,
-    account: &Account,
-    machine: &Machine,
-    addr: u32,
-    numbers: &[u8],
-)
+fn push_words(text: &mut Text, account: &Account, machine: &Machine, addr: u32, numbers: &[u8])
     requires { array_string_len text.old + 60 * length numbers.now ≤ 4096 }
     ensures bytes { text.new.bytes ≡ text.old.bytes ++ loads_text machine.now.bus (map (told_of account.now machine.now.core) numbers.now) (word_loads addr (length numbers.now)) }
     ensures len { array_string_len text.new ≤ array_string_len text.old + 60 * length numbers.now }
@@ -186,6 +178,7 @@ fn push_words(
 }
 
 /// The lines of two words in a row.
+#[tactic(auto, using(crate::proofs::LoadLines::two_loads))]
 fn push_pair(
     text: &mut Text,
     account: &Account,
@@ -195,7 +188,7 @@ fn push_pair(
     second: u8,
 )
     requires { array_string_len text.old + 120 ≤ 4096 }
-    ensures bytes { text.new.bytes ≡ text.old.bytes ++ load_line machine.now.bus Word addr (told_of account.now machine.now.core first) ++ load_line machine.now.bus Word (wrap (addr + 4)) (told_of account.now machine.now.core second) }
+    ensures bytes { text.new.bytes ≡ text.old.bytes ++ loads_text machine.now.bus (told_of account.now machine.now.core first ∷ told_of account.now machine.now.core second ∷ []) (pair_loads addr) }
     ensures len { array_string_len text.new ≤ array_string_len text.old + 120 }
 {
     let low = told_of(account, machine.core(), first);
@@ -215,10 +208,10 @@ fn push_one(text: &mut Text, account: &Account, machine: &Machine, size: Size, a
 }
 
 /// The line of a table branch.
-#[tactic(auto, using(crate::proofs::Loads::one_load))]
+#[tactic(auto, using(crate::proofs::LoadLines::one_load))]
 fn push_entry(text: &mut Text, account: &Account, machine: &Machine, half: bool, rn: u8, rm: u8)
     requires { array_string_len text.old + 60 ≤ 4096 }
-    ensures bytes { text.new.bytes ≡ text.old.bytes ++ loads_by account.now machine.now (Some (TableBranch half rn rm)) }
+    ensures bytes { text.new.bytes ≡ text.old.bytes ++ loads_of account.now machine.now (TableBranch half rn rm) }
     ensures len { array_string_len text.new ≤ array_string_len text.old + 60 }
 {
     let core = &account.core;
@@ -229,19 +222,18 @@ fn push_entry(text: &mut Text, account: &Account, machine: &Machine, half: bool,
         let addr = base.wrapping_add(index.wrapping_mul(2));
         push_load(text, machine.bus(), Size::Half, addr, word);
     } else {
-        push_load(text, machine.bus(), Size::Byte, base.wrapping_add(index), word);
+        push_load(
+            text,
+            machine.bus(),
+            Size::Byte,
+            base.wrapping_add(index),
+            word,
+        );
     }
 }
 
 /// The lines of a load of a list.
-fn push_many(
-    text: &mut Text,
-    account: &Account,
-    machine: &Machine,
-    rn: u8,
-    list: u16,
-    down: bool,
-)
+fn push_many(text: &mut Text, account: &Account, machine: &Machine, rn: u8, list: u16, down: bool)
     requires { array_string_len text.old + 900 ≤ 4096 }
     ensures bytes { text.new.bytes ≡ text.old.bytes ++ loads_text machine.now.bus (map (told_of account.now machine.now.core) (listed list ++ (if is_listed list 15 then 15 ∷ [] else []))) (word_loads (lowest down (reg (local_of account.now.core) rn) (words_loaded list)) (words_loaded list)) }
     ensures len { array_string_len text.new ≤ array_string_len text.old + 900 }
@@ -252,38 +244,59 @@ fn push_many(
     push_words(text, account, machine, addr, &numbers);
 }
 
-/// The lines of the loads of the instruction that ran.
-#[tactic(auto, using(crate::proofs::Loads::one_load, crate::proofs::Loads::two_loads, crate::proofs::Loads::no_loads))]
-pub fn push_loads_by(text: &mut Text, account: &Account, machine: &Machine, insn: &Option<Insn>)
+/// The lines of the loads of an instruction.
+#[tactic(auto, using(crate::proofs::LoadLines::one_load, crate::proofs::LoadLines::no_loads))]
+fn push_loads_of(text: &mut Text, account: &Account, machine: &Machine, insn: &Insn)
     requires { array_string_len text.old + 900 ≤ 4096 }
-    ensures bytes { text.new.bytes ≡ text.old.bytes ++ loads_by account.now machine.now insn.now }
+    ensures bytes { text.new.bytes ≡ text.old.bytes ++ loads_of account.now machine.now insn.now }
     ensures len { array_string_len text.new ≤ array_string_len text.old + 900 }
 {
     let core = &account.core;
     match *insn {
-        Some(Insn::Load {
-            size, rt, address, ..
-        }) => push_one(text, account, machine, size, place(core, &address), rt),
-        Some(Insn::LoadPair { rt, rt2, address }) => {
+        Insn::Load {
+            size,
+            rt,
+            address,
+            ..
+        } => push_one(text, account, machine, size, place(core, &address), rt),
+        Insn::LoadPair { rt, rt2, address } => {
             push_pair(text, account, machine, place(core, &address), rt, rt2);
         }
-        Some(Insn::LoadMany { rn, list, down, .. }) => {
+        Insn::LoadMany { rn, list, down, .. } => {
             push_many(text, account, machine, rn, list, down);
         }
-        Some(Insn::LoadExclusive {
+        Insn::LoadExclusive {
             size,
             rt,
             rn,
             offset,
             ..
-        }) => push_one(text, account, machine, size, at_offset(core, rn, offset), rt),
-        Some(Insn::LoadAcquire { size, rt, rn }) => {
+        } => push_one(
+            text,
+            account,
+            machine,
+            size,
+            at_offset(core, rn, offset),
+            rt,
+        ),
+        Insn::LoadAcquire { size, rt, rn } => {
             push_one(text, account, machine, size, reg(core, rn), rt);
         }
-        Some(Insn::TableBranch { half, rn, rm }) => {
+        Insn::TableBranch { half, rn, rm } => {
             push_entry(text, account, machine, half, rn, rm);
         }
         _ => {}
+    }
+}
+
+/// The lines of the loads of the instruction that ran.
+pub fn push_loads_by(text: &mut Text, account: &Account, machine: &Machine, insn: &Option<Insn>)
+    requires { array_string_len text.old + 900 ≤ 4096 }
+    ensures bytes { text.new.bytes ≡ text.old.bytes ++ loads_by account.now machine.now insn.now }
+    ensures len { array_string_len text.new ≤ array_string_len text.old + 900 }
+{
+    if let Some(insn) = insn {
+        push_loads_of(text, account, machine, insn);
     }
 }
 

@@ -93,7 +93,7 @@ fn sau_name(offset: u32) -> Option<&'static str>
 fn push_named(text: &mut Text, name: Option<&'static str>, suffix: &str)
     requires short { IfSome name (λ name. length name.now ≤ 11) }
     requires room { array_string_len text.old + 19 + length suffix.now ≤ 4096 }
-    ensures bytes { text.new.bytes ≡ text.old.bytes ++ name_or_reserved (option_map (λ name. name.now) name) suffix.now }
+    ensures bytes { text.new.bytes ≡ text.old.bytes ++ name_or_reserved (option_map (λ word. word.now) name.entry) suffix.now }
     ensures len { array_string_len text.new ≤ array_string_len text.old + 19 + length suffix.now }
 {
     match name {

@@ -185,9 +185,8 @@ fn based(core: &Core, address: &Address) -> Core
     ensures { result ≡ with_local core.now (based address.now (local_of core.now)) }
 {
     match *address {
-        Address::Pre { rn, offset } | Address::Post { rn, offset } => {
-            with(core, rn, at_offset(core, rn, offset))
-        }
+        Address::Pre { rn, offset } => with(core, rn, at_offset(core, rn, offset)),
+        Address::Post { rn, offset } => with(core, rn, at_offset(core, rn, offset)),
         Address::Offset { .. } | Address::Index { .. } | Address::Literal { .. } => *core,
     }
 }
@@ -205,19 +204,29 @@ fn based_past(core: &Core, rn: u8, list: u16, down: bool, back: bool) -> Core
     }
 }
 
-/// The core from which code returns: past the words that it popped.
+/// The core past the words that an instruction popped.
 #[tactic(auto, using(tz_sem::proofs::Local::core_kept))]
-pub fn popped_by(core: &Core, insn: Option<Insn>) -> Core
-    ensures { result ≡ popped_by core.now insn }
+fn popped(core: &Core, insn: &Insn) -> Core
+    ensures { result ≡ with_local core.now (popped insn.now (local_of core.now)) }
 {
-    match insn {
-        Some(Insn::Load { address, .. }) => based(core, &address),
-        Some(Insn::LoadMany {
+    match *insn {
+        Insn::Load { address, .. } => based(core, &address),
+        Insn::LoadMany {
             rn,
             list,
             down,
             back,
-        }) => based_past(core, rn, list, down, back),
+        } => based_past(core, rn, list, down, back),
         _ => *core,
+    }
+}
+
+/// The core from which code returns: past the words that it popped.
+pub fn popped_by(core: &Core, insn: &Option<Insn>) -> Core
+    ensures { result ≡ popped_by core.now insn.now }
+{
+    match insn {
+        Some(insn) => popped(core, insn),
+        None => *core,
     }
 }

@@ -15,8 +15,8 @@ use crate::text::{Text, push_place};
 use crate::told::Account;
 use tz_access::Bus;
 use tz_core::Machine;
-use tz_gate::is_fnc_return;
 use tz_frames::{ADDITIONAL_FRAME_SIZE, Returning};
+use tz_gate::is_fnc_return;
 use tz_model::{Report, Side, Size, StepKind};
 use tz_regs::Core;
 use tz_sem::Cause;
@@ -105,7 +105,7 @@ fn push_called(text: &mut Text, account: &Account, machine: &Machine)
 fn returning_core(account: &Account, report: &Report) -> Core
     ensures { result ≡ returning_core account.now report.now }
 {
-    popped_by(&account.core, done_by(&account.core, &report.kind))
+    popped_by(&account.core, &done_by(&account.core, &report.kind))
 }
 
 /// The Secure stack pointer of the mode.
