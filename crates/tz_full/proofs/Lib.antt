@@ -1,2 +1,3 @@
+pub mod Before
 pub mod Listing
 pub mod LoadLines

@@ -1,5 +1,14 @@
+pub mod BegunLines
+pub mod EntryFrames
+pub mod Escalation
+pub mod ExceptionNames
+pub mod FaultNames
+pub mod FrameLines
 pub mod RanCrossing
 pub mod RanLoads
 pub mod RanNames
 pub mod RanPlaces
+pub mod RanWays
+pub mod RefusalLines
+pub mod TakenLines
 pub mod Words

@@ -4,10 +4,19 @@
 //! the state after it. They are built in a text that the caller holds; no memory is taken, and nothing is changed.
 #![tactic(auto)]
 
+mod begun;
+mod entry;
+mod escalation;
+mod faults;
+mod frames;
 mod loads;
+mod names;
 mod ran_crossing;
 mod ran_names;
 mod ran_places;
+mod ran_ways;
+mod refusals;
+mod taken;
 mod text;
 pub mod told;
 
