@@ -4,6 +4,7 @@ pub mod Escalation
 pub mod ExceptionNames
 pub mod FaultNames
 pub mod FrameLines
+pub mod Full
 pub mod RanCrossing
 pub mod RanLoads
 pub mod RanNames

@@ -9,6 +9,7 @@ mod entry;
 mod escalation;
 mod faults;
 mod frames;
+mod full;
 mod loads;
 mod names;
 mod ran_crossing;
@@ -20,4 +21,5 @@ mod taken;
 mod text;
 pub mod told;
 
+pub use full::{Texts, put_step};
 pub use told::{Account, Ending, Entering, FrameFault, Handling, Refusal};
