@@ -1,1 +1,4 @@
 pub mod Before
+pub mod EventLines
+pub mod Listing
+pub mod LoadLines

@@ -9,10 +9,17 @@ mod entry;
 mod escalation;
 mod faults;
 mod frames;
+mod full;
+mod loads;
 mod names;
+mod ran_crossing;
+mod ran_names;
+mod ran_places;
+mod ran_ways;
 mod refusals;
 mod taken;
 mod text;
 pub mod told;
 
+pub use full::{Texts, put_step};
 pub use told::{Account, Ending, Entering, FrameFault, Handling, Refusal};
