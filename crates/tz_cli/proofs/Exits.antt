@@ -238,7 +238,7 @@ work_settles : (held : List ℕ → Held) (words : StartWords) (work : Work)
 work_settles held words (works.Trace view) = settling_twice _ _ (within_limit words.steps (start_files held words))
 work_settles held words works.Gates = refl
 work_settles held words works.Save = refl
-work_settles held words works.Page = refl
+work_settles held words (works.Page ranges) = refl
 
 pub work_comes : (c : Call) (words : StartWords) (work : Work) → c.command ≡ Some (command_with words work) → c.room ≡ 64 + longest (names_of (command_with words work))
     → Comes c (command_with words work) (within_limit words.steps (start_files c.shelf.held words)) (work_next work words)
@@ -248,7 +248,7 @@ pub work_done : (words : StartWords) (work : Work) (start : Start) → IsDone (S
 work_done words (works.Trace view) start = refl
 work_done words works.Gates start = refl
 work_done words works.Save start = refl
-work_done words works.Page start = refl
+work_done words (works.Page ranges) start = refl
 
 -- ---- a run that goes on
 

@@ -17,7 +17,7 @@ use tz_core::Machine;
 use tz_gates::{count, list, put_gates};
 use tz_model::{Shelf, Sink, View};
 use tz_run::{make_steps, run};
-use tz_show::show;
+use tz_show::{Range, show};
 use tz_snap::save;
 
 /// The most steps of a run.
@@ -86,9 +86,10 @@ fn page_started<O: Sink>(
     alloc: Global,
     files: &Files,
     words: &StartWords<'_>,
+    ranges: &[Range],
     out: &mut O,
 ) -> Result<u8, AllocError>
-    ensures ran { IfOk result (λ status. IsTold status (page_task (start_in words.now) (start_value files.now)).text 0 (O.written out.old) (O.written out.new) (O.space out.old) (O.faults out.old) (O.faults out.new)) }
+    ensures ran { IfOk result (λ status. IsTold status (page_task (record { start = start_in words.now; ranges = ranges.now }) (start_value files.now)).text 0 (O.written out.old) (O.written out.new) (O.space out.old) (O.faults out.old) (O.faults out.new)) }
     ensures quiet { IfErr result (λ _. Gains (O.written out.old) (O.written out.new) []) }
 {
     let mut reached = match Machine::new(alloc, &files.board, &files.secure, &files.nonsecure) {
@@ -96,7 +97,7 @@ fn page_started<O: Sink>(
         Err(error) => return Err(error),
     };
     make_steps(&mut reached, &files.script, words.steps);
-    Ok(put_status(show(&reached, words.steps, &[], out)))
+    Ok(put_status(show(&reached, words.steps, ranges, out)))
 }
 
 /// Does the work with a machine of the files: 0, or 4 where its text can't be written. Its error is want of
@@ -113,11 +114,11 @@ fn work_started<O: Sink>(
         IfOk result (λ status. IsTold status task.text task.status (O.written out.old) (O.written out.new) (O.space out.old) (O.faults out.old) (O.faults out.new)) }
     ensures quiet { IfErr result (λ _. Gains (O.written out.old) (O.written out.new) []) }
 {
-    match *work {
-        Work::Trace(view) => run_started(alloc, files, words, view, out),
+    match work {
+        Work::Trace(view) => run_started(alloc, files, words, *view, out),
         Work::Gates => gates_started(alloc, files, words, out),
         Work::Save => snap_started(alloc, files, words, out),
-        Work::Page => page_started(alloc, files, words, out),
+        Work::Page(ranges) => page_started(alloc, files, words, ranges, out),
     }
 }
 
