@@ -17,13 +17,15 @@ use Rattle.tz_cli.specs.declared.words.show.Next.{Next as NextWord}
 use Rattle.tz_cli.specs.declared.words.show.Next.TheVariants as nexts
 use Rattle.tz_cli.specs.ShowWords.{ShowWords, SavedWords, ShowParts, no_parts, option_named, with_range, with_state, with_option, with_any, with_next, with_word, with_words, show_names, saved_names}
 use Rattle.tz_cli.specs.ShowWords as shown
-use Rattle.tz_cli.specs.Run.{RunWords, run_behind, run_of, run_parts, run_with, start_of, view_of}
+use Rattle.tz_cli.specs.Run.{start_of, view_of}
 use Rattle.tz_cli.specs.Resume.{ResumeWords, resume_behind, resume_names, resume_parts, resume_with}
 use Rattle.tz_cli.specs.Pair.{PairWords, pair_behind, pair_names, pair_parts, pair_with}
 use Rattle.tz_cli.specs.Asm.{AsmWords, asm_behind, asm_names, asm_parts, asm_with, form_of}
 use Rattle.tz_cli.specs.declared.words.asm.Form.{Form}
+use Rattle.tz_cli.specs.declared.words.start.Work.{Work}
+use Rattle.tz_cli.specs.declared.words.start.Work.TheVariants as works
 use Rattle.tz_cli.specs.Dis.{DisWords, dis_behind, dis_names, dis_parts, dis_with, side_named}
-use Rattle.tz_cli.specs.Commands.{Command, Run, Pair, Asm, Dis, Gates, Snap, Show, ShowSaved, Resume, show_with, show_next, show_parts, show_behind, command_behind, command_of, longest, names_of}
+use Rattle.tz_cli.specs.Commands.{Command, Pair, Asm, Dis, Gates, Snap, Show, ShowSaved, Resume, command_with, run_with, run_parts, run_behind, work_of, show_with, show_next, show_parts, show_behind, command_behind, command_of, longest, names_of}
 
 -- no positional word is longer than a bound
 abbrev pub Within : ℕ → Option Parts → Type 0
@@ -90,9 +92,16 @@ start_in (a ∷ b ∷ c ∷ d ∷ w ∷ x ∷ more) s e = absurd (cc)
 start_in (a ∷ b ∷ c ∷ d ∷ w ∷ []) s e =
     mapped_within (λ (n : ℕ). a ∷ b ∷ c ∷ d ∷ []) start_names (longest (a ∷ b ∷ c ∷ d ∷ w ∷ [])) _ (count_of w) s (λ n. refl) (λ n h. omega arith) e
 
-run_in : (view : Option View) (words : List Text) (r : RunWords) → run_with view words ≡ Some r → longest (start_names (start_of r)) ≤ longest words
-run_in None words r e = absurd (cc)
-run_in (Some view) words r e = mapped_within start_names (λ (x : RunWords). start_names (start_of x)) (longest words) (λ s. run_of s view) (start_with words) r (λ s. refl) (start_in words) e
+names_with : (work : Work) (s : StartWords) → longest (names_of (command_with s work)) ≡ longest (start_names s)
+names_with (works.Trace view) s = refl
+names_with works.Full s = refl
+names_with works.Gates s = refl
+names_with works.Save s = refl
+names_with (works.Page ranges) s = refl
+
+run_in : (work : Option Work) (words : List Text) (command : Command) → run_with work words ≡ Some command → longest (names_of command) ≤ longest words
+run_in None words command e = absurd (cc)
+run_in (Some work) words command e = mapped_within start_names names_of (longest words) (λ s. command_with s work) (start_with words) command (names_with work) (start_in words) e
 
 bare_in : (values words : List Text) (s : StartWords) → bare_with values words ≡ Some s → longest (start_names s) ≤ longest words
 bare_in [] words s e = start_in words s e
@@ -248,9 +257,8 @@ either false this other command n first second e = second e
 names_command : (name : Text) (words : List Text) (command : Command) → command_behind name words ≡ Some command → longest (names_of command) ≤ longest words
 names_command name words command =
     let n = longest words in
-    either (bytes_eq name (codes "run")) (option_map Run (run_behind words)) _ command n
-    (mapped_within (λ (r : RunWords). start_names (start_of r)) names_of n Run (run_behind words) command (λ r. refl)
-    (behind_within (λ (r : RunWords). start_names (start_of r)) (codes "view") run_parts (λ p. run_in (view_of p.values) p.positionals) words))
+    either (bytes_eq name (codes "run")) (run_behind words) _ command n
+    (behind_within names_of (codes "view") run_parts (λ p. run_in (work_of p.values) p.positionals) words command)
     (either (bytes_eq name (codes "pair")) (option_map Pair (pair_behind words)) _ command n
     (mapped_within pair_names names_of n Pair (pair_behind words) command (λ p. refl) (behind_within pair_names [] pair_parts (λ p. pair_in p.values p.positionals) words))
     (either (bytes_eq name (codes "asm")) (option_map Asm (asm_behind words)) _ command n

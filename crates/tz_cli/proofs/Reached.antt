@@ -12,7 +12,7 @@ use Rattle.tz_cli.specs.Resume.{ResumeWords, resume_names}
 use Rattle.tz_cli.specs.Pair.{PairWords, pair_names}
 use Rattle.tz_cli.specs.Asm.{AsmWords, asm_names}
 use Rattle.tz_cli.specs.Dis.{DisWords, dis_names}
-use Rattle.tz_cli.specs.Commands.{Command, Run, Pair, Asm, Dis, Gates, Snap, Show, ShowSaved, Resume, longest, names_of}
+use Rattle.tz_cli.specs.Commands.{Command, Run, RunFull, Pair, Asm, Dis, Gates, Snap, Show, ShowSaved, Resume, longest, names_of}
 use Rattle.tz_cli.specs.Told.{Stop, TooManySteps, Unread, Told, Unknown, Stops, Gives, told_then, is_demo, is_none_script, board_told, board_file, image_told, state_told, script_told, script_file, source_told, step_limit}
 use Rattle.tz_cli.specs.Reads.{Reading, Settled, goes_on, read_where, one_file, and_file, settling, within_limit, IsOneOf}
 use Rattle.tz_cli.specs.declared.words.asm.Form.{Form as AsmForm}
@@ -178,6 +178,7 @@ module _ (held : List ℕ → Held) where
   sure_command (Run r) =
       let n = longest (start_names (start_of r)) in
       sure_settling held n _ _ (sure_settling held n _ _ (sure_begun (start_of r)))
+  sure_command (RunFull s) = sure_settling held (longest (start_names s)) _ _ (sure_begun s)
   sure_command (Pair p) =
       let n = longest (pair_names p) in
       sure_settling held n _ _ (sure_settling held n _ _ (sure_limited held n (nat_lt step_limit p.steps) _ (sure_pair p)))

@@ -2,10 +2,12 @@
 use Rattle.std.specs.Prelude.{ℕ, List, [], ◌∷◌, length, max, Option, Some, None, if◌then◌else◌, codes, option_map, option_and_then}
 use Rattle.std.specs.Str.{bytes_eq}
 use Rattle.tz_show.specs.declared.memory.Range.{Range}
-use Rattle.tz_cli.specs.Parts.{Text}
+use Rattle.tz_model.specs.declared.report.View.TheVariants.{Ns, All}
+use Rattle.tz_cli.specs.Parts.{Text, Parts, AnyWord, parts_of}
+use Rattle.tz_cli.specs.Choices.{named_in, chosen_in}
 use Rattle.tz_cli.specs.StartWords.{StartWords, start_behind, start_in, start_names, start_with}
 use Rattle.tz_cli.specs.ShowWords.{ShowWords, SavedWords, ShowParts, no_parts, with_words, saved_in, show_names, saved_names}
-use Rattle.tz_cli.specs.Run.{RunWords, run_behind, run_of, start_of}
+use Rattle.tz_cli.specs.Run.{RunWords, run_of, start_of}
 use Rattle.tz_cli.specs.Resume.{ResumeWords, resume_behind, resume_in, resume_names}
 use Rattle.tz_cli.specs.Pair.{PairWords, pair_behind, pair_in, pair_names}
 use Rattle.tz_cli.specs.Asm.{AsmWords, asm_behind, asm_in, asm_names}
@@ -20,6 +22,7 @@ use Rattle.tz_cli.specs.declared.words.Command.TheVariants as read
 -- a command with what its words say
 pub data Command : Type 0 where
   Run : RunWords → Command
+  RunFull : StartWords → Command
   Pair : PairWords → Command
   Asm : AsmWords → Command
   Dis : DisWords → Command
@@ -32,6 +35,7 @@ pub data Command : Type 0 where
 -- what is done with what begins a run
 abbrev pub command_with : StartWords → Work → Command
 command_with words (works.Trace view) = Run (run_of words view)
+command_with words works.Full = RunFull words
 command_with words works.Gates = Gates words
 command_with words works.Save = Snap words
 command_with words (works.Page ranges) = Show (record { start = words; ranges = ranges.items })
@@ -44,6 +48,31 @@ command_in (read.Asm words) = Asm (asm_in words)
 command_in (read.Dis words) = Dis (dis_in words)
 command_in (read.ShowSaved words) = ShowSaved (saved_in words)
 command_in (read.Resume words) = Resume (resume_in words)
+
+-- what is done with a run, by what it shows
+abbrev pub shown_works : List (Text × Work)
+shown_works = (codes "ns", works.Trace Ns) ∷ (codes "all", works.Trace All) ∷ (codes "full", works.Full) ∷ []
+
+-- the work of a name
+abbrev pub work_named : Text → Option Work
+work_named name = named_in shown_works name
+
+-- the work that the option's values choose: one at most, and that of `ns` where there is none
+abbrev pub work_of : List Text → Option Work
+work_of values = chosen_in (works.Trace Ns) shown_works values
+
+-- the words that begin a run, and what is done with it
+abbrev pub run_with : Option Work → List Text → Option Command
+run_with (Some work) words = option_map (λ s. command_with s work) (start_with words)
+run_with None words = None
+
+-- what these parts tell `run`
+abbrev pub run_parts : Parts → Option Command
+run_parts p = run_with (work_of p.values) p.positionals
+
+-- the words behind `run`, which has the option `--view`
+abbrev pub run_behind : List Text → Option Command
+run_behind words = option_and_then run_parts (parts_of (codes "view") AnyWord words)
 
 -- the words that begin a run, with ranges; or those of a state's file, behind which the board stands alone
 abbrev pub show_with : Option Text → List Text → List Range → Option Command
@@ -66,7 +95,7 @@ show_behind words = option_and_then show_parts (with_words words no_parts)
 -- the command of a word, with the words behind it
 abbrev pub command_behind : Text → List Text → Option Command
 command_behind command words =
-    if bytes_eq command (codes "run") then option_map Run (run_behind words)
+    if bytes_eq command (codes "run") then run_behind words
     else if bytes_eq command (codes "pair") then option_map Pair (pair_behind words)
     else if bytes_eq command (codes "asm") then option_map Asm (asm_behind words)
     else if bytes_eq command (codes "dis") then option_map Dis (dis_behind words)
@@ -84,6 +113,7 @@ command_of _ = None
 -- the names of files, in the order of the words
 abbrev pub names_of : Command → List Text
 names_of (Run r) = start_names (start_of r)
+names_of (RunFull s) = start_names s
 names_of (Pair p) = pair_names p
 names_of (Asm a) = asm_names a
 names_of (Dis d) = dis_names d

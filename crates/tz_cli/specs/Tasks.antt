@@ -10,6 +10,7 @@ use Rattle.tz_iso.specs.Runs.{difference}
 use Rattle.tz_run.specs.Events.{events_of}
 use Rattle.tz_text.specs.Text.{dis_text}
 use Rattle.tz_cli.specs.StartWords.{StartWords}
+use Rattle.tz_full.specs.Full.{full_from}
 use Rattle.tz_gates.specs.Gates.{gates_of}
 use Rattle.tz_gates.specs.Entries.{entries_at, other_entries}
 use Rattle.tz_gates.specs.GatesText.{gates_text}
@@ -21,7 +22,7 @@ use Rattle.tz_cli.specs.Resume.{ResumeWords}
 use Rattle.tz_cli.specs.Run.{RunWords, run_of, start_of}
 use Rattle.tz_cli.specs.Pair.{PairWords}
 use Rattle.tz_cli.specs.PairLine.{pair_line, pair_status}
-use Rattle.tz_cli.specs.Commands.{Command, Run, Pair, Asm, Dis, Gates, Snap, Show, ShowSaved, Resume}
+use Rattle.tz_cli.specs.Commands.{Command, Run, RunFull, Pair, Asm, Dis, Gates, Snap, Show, ShowSaved, Resume}
 use Rattle.tz_cli.specs.Told.{BadWords, TooFar, Told, Stops, Gives, step_limit}
 use Rattle.tz_cli.specs.Reads.{Reading, Settled, settling, within_limit}
 use Rattle.tz_cli.specs.Starts.{Start, PairStart, SavedStart, start_files, state_of, pair_start_files, first_state, second_state, saved_files, shown_files, source_files, listed_files}
@@ -94,6 +95,10 @@ pub record Task : Type 0 where
 abbrev pub run_task : Job → Task
 run_task job = record { text = trace_of job; status = 0 }
 
+-- a run in view `full` writes under each line what is told of its step
+abbrev pub full_task : StartWords → Start → Task
+full_task words start = record { text = full_from (events_of start.script) 0 (state_of start) words.steps; status = 0 }
+
 -- a pair writes whether its runs agree, and where they first disagree
 abbrev pub pair_task : PairJob → Task
 pair_task job = record { text = pair_line job.words.steps (difference_of job); status = pair_status (difference_of job) }
@@ -135,6 +140,7 @@ resume_next w start = if nat_lt step_limit (start.step + w.steps) then Stops (To
 -- what is done with what begins a run
 abbrev pub work_task : Work → StartWords → Start → Task
 work_task (works.Trace view) words start = run_task (record { words = run_of words view; start = start })
+work_task works.Full words start = full_task words start
 work_task works.Gates words start = gates_task words start
 work_task works.Save words start = snap_task words start
 work_task (works.Page ranges) words start = page_task (record { start = words; ranges = ranges.items }) start
@@ -145,6 +151,7 @@ work_task (works.Page ranges) words start = page_task (record { start = words; r
 abbrev pub files_of : (List ℕ → Held) → Option Command → Settled Task
 files_of held None = record { told = Stops BadWords; reads = [] }
 files_of held (Some (Run r)) = settling (λ job. Gives (run_task job)) (job_files held r)
+files_of held (Some (RunFull s)) = settling (λ start. Gives (full_task s start)) (begin_files held s)
 files_of held (Some (Pair p)) = settling (λ job. Gives (pair_task job)) (pair_job_files held p)
 files_of held (Some (Asm a)) = settling (λ file. Gives (asm_task file)) (source_files held a.form a.source)
 files_of held (Some (Dis d)) = settling (λ image. Gives (dis_task image)) (listed_files held d)
@@ -166,6 +173,7 @@ reads_of held command = (files_of held command).reads
 abbrev pub IsDone : Option Command → ℕ → Type 0
 IsDone None status = ⊥
 IsDone (Some (Run r)) status = status ≡ 0
+IsDone (Some (RunFull s)) status = status ≡ 0
 IsDone (Some (Pair p)) status = (status ≡ 0) ⊎ (status ≡ 1)
 IsDone (Some (Asm a)) status = status ≡ 0
 IsDone (Some (Dis d)) status = status ≡ 0

@@ -7,6 +7,7 @@
 ghost use Rattle.std.specs.Prelude.{◌≡◌, ◌≢◌, ◌⊎◌, ◌<◌, ◌≤◌, ◌+◌, ◌++◌, ℕ, List, [], length, map, Ok, Some, None, IsTrue, IfSome, codes};
 ghost use Rattle.tz_state.specs.State.{State};
 ghost use Rattle.tz_sem.specs.Run.{state_after};
+ghost use Rattle.tz_full.specs.Full.{full_from};
 ghost use Rattle.tz_gates.specs.Gates.{gates_of};
 ghost use Rattle.tz_gates.specs.Entries.{entries_at};
 ghost use Rattle.tz_gates.specs.GatesText.{gates_text};
@@ -27,7 +28,7 @@ ghost use Rattle.tz_cli.specs.Run.{RunWords};
 ghost use Rattle.tz_iso.specs.declared.answer.What.{What};
 ghost use Rattle.tz_cli.specs.Pair.{PairWords};
 ghost use Rattle.tz_cli.specs.PairLine.{FirstApart, agree_line, differ_line};
-ghost use Rattle.tz_cli.specs.Commands.{Run, Pair, Gates, Snap, Show, ShowSaved, Resume, command_of};
+ghost use Rattle.tz_cli.specs.Commands.{Run, RunFull, Pair, Gates, Snap, Show, ShowSaved, Resume, command_of};
 ghost use Rattle.tz_cli.specs.StartWords.{StartWords};
 ghost use Rattle.tz_cli.specs.ShowWords.{ShowWords, SavedWords};
 ghost use Rattle.tz_cli.specs.Resume.{ResumeWords};
@@ -96,6 +97,10 @@ pub fn top<H: Shelf, O: Sink, E: Sink>(
     // At status 0 of `run` the trace of the job is written whole, and nothing else.
     ensures trace { result ≡ 0 → (r : RunWords) → command_of (map string_bytes words.now) ≡ Some (Run r) → (job : Job) → job_told (H.held shelf.old) r ≡ Gives job →
         Gains (O.written out.old) (O.written out.new) (trace_of job) }
+
+    // In view `full` there stands under each line what is told of its step.
+    ensures full { result ≡ 0 → (s : StartWords) → command_of (map string_bytes words.now) ≡ Some (RunFull s) → (start : Start) → begin_told (H.held shelf.old) s ≡ Gives start →
+        Gains (O.written out.old) (O.written out.new) (full_from (events_of start.script) 0 (state_of start) s.steps) }
 
     // Isolation: what Non-secure code is shown is also the trace of every other file that is a Secure
     // image of the board, where both runs cross out of Secure state alike.

@@ -36,6 +36,8 @@ pub struct StartWords<'a> {
 pub enum Work {
     /// The trace of its steps, with what it shows.
     Trace(View),
+    /// The same with what is told of each step under its line.
+    Full,
     /// Where its steps enter Secure code, and how often.
     Gates,
     /// The file of the state after its steps.
