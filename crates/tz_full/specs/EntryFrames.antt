@@ -20,8 +20,8 @@ use Rattle.tz_full.specs.Words.{side_text, mode_text, stack_text, place_text}
 use Rattle.tz_full.specs.FaultNames.{word_text}
 use Rattle.tz_full.specs.Escalation.{raised_text}
 use Rattle.tz_full.specs.FrameLines.{frame_text, additional_text}
-use Rattle.tz_full.specs.declared.told.Entering.{Entering}
-use Rattle.tz_full.specs.declared.told.FrameFault.{FrameFault}
+use Rattle.tz_frames.specs.declared.entering.Entering.{Entering}
+use Rattle.tz_frames.specs.declared.entering.FrameFault.{FrameFault}
 
 -- ---- what is interrupted
 

@@ -22,8 +22,8 @@ use Rattle.tz_sem.specs.Branch.{plan_branch}
 use Rattle.tz_sem.specs.LoadStore.{plan_load_store}
 use Rattle.tz_sem.specs.Local.{Local, local_of}
 use Rattle.tz_syntax.specs.Digits.{hex_word}
-use Rattle.tz_full.specs.declared.told.Account.{Account}
-use Rattle.tz_full.specs.declared.told.Handling.{Handling}
+use Rattle.tz_sem.specs.declared.account.Account.{Account}
+use Rattle.tz_sem.specs.declared.ending.Handling.{Handling}
 use Rattle.tz_full.specs.RanNames.{name_at}
 use Rattle.tz_full.specs.RanPlaces.{filled_by}
 

@@ -12,7 +12,7 @@ use Rattle.tz_regs.specs.declared.parts.Core.{Core}
 use Rattle.tz_sem.specs.ItRules.{is_passed_over}
 use Rattle.tz_sem.specs.LoadStore.{based, based_past, is_listed, listed, past_words, words_loaded}
 use Rattle.tz_sem.specs.Local.{Local, local_of, reg, with_local}
-use Rattle.tz_full.specs.declared.told.Account.{Account}
+use Rattle.tz_sem.specs.declared.account.Account.{Account}
 
 -- ---- the instruction
 

@@ -15,8 +15,8 @@ use Rattle.tz_frames.specs.Leave.{is_set, returning_by, side_of_bit}
 use Rattle.tz_syntax.specs.Digits.{hex_word}
 use Rattle.tz_full.specs.Words.{side_text, mode_text}
 use Rattle.tz_full.specs.FaultNames.{fault_name, word_text}
-use Rattle.tz_full.specs.declared.told.Refusal.{Refusal}
-use Rattle.tz_full.specs.declared.told.Refusal.TheVariants.{Value, Frame, Mode}
+use Rattle.tz_frames.specs.declared.leaving.Refusal.{Refusal}
+use Rattle.tz_frames.specs.declared.leaving.Refusal.TheVariants.{Value, Frame, Mode}
 
 -- ---- the value
 

@@ -11,7 +11,7 @@ use crate::faults::{frame_exception, push_word_fault};
 use crate::frames::{push_additional, push_frame};
 use crate::refusals::side_of_bit;
 use crate::text::{Text, push_mode, push_place, push_side, push_stack};
-use crate::told::{Entering, FrameFault};
+use tz_frames::{Entering, FrameFault};
 use tz_core::Machine;
 use tz_frames::{BASIC_FRAME_SIZE, Returning, StackFault};
 use tz_model::{Fault, Side};

@@ -16,7 +16,7 @@ use crate::ran_places::done_by;
 use crate::ran_ways::{push_resumed, push_ways};
 use crate::taken::push_taken;
 use crate::text::Text;
-use crate::told::Account;
+use tz_sem::Account;
 use tz_core::Machine;
 use tz_model::{Report, ScriptEvent, Sink, SinkError, View};
 use tz_text::{Line, push_line};

@@ -15,7 +15,7 @@ ghost use Rattle.tz_full.specs.RanLoads.{value_in, word_to_pc, is_resumed, told_
 use crate::ran_names::push_name_at;
 use crate::ran_places::{at_offset, filled_of, lowest, place, reg};
 use crate::text::Text;
-use crate::told::{Account, Handling};
+use tz_sem::{Account, Handling};
 use tz_access::Bus;
 use tz_core::Machine;
 use tz_model::address_map::{PRIVATE_FIRST, PRIVATE_LAST};

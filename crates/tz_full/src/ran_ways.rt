@@ -12,7 +12,7 @@ use crate::loads::{push_held, value_in};
 use crate::ran_places::{done_by, popped_by};
 use crate::refusals::push_exc_return;
 use crate::text::{Text, push_place};
-use crate::told::Account;
+use tz_sem::Account;
 use tz_access::Bus;
 use tz_core::Machine;
 use tz_frames::{ADDITIONAL_FRAME_SIZE, Returning};

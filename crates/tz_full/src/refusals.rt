@@ -8,7 +8,7 @@ ghost use Rattle.tz_full.specs.RefusalLines.{flag_digit, pointer_text, bits_text
 
 use crate::faults::{fault_name, push_word_fault};
 use crate::text::{Text, push_mode, push_side};
-use crate::told::Refusal;
+use tz_frames::Refusal;
 use tz_frames::return_bits::{
     EXC_RETURN_DCRS, EXC_RETURN_ES, EXC_RETURN_FTYPE, EXC_RETURN_MODE, EXC_RETURN_PREFIX,
     EXC_RETURN_S, EXC_RETURN_SPSEL,

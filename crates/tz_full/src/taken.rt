@@ -18,7 +18,8 @@ use crate::refusals::{
     flag_digit, is_exc_return, push_exc_return, push_refused, returning_by, side_of_bit,
 };
 use crate::text::Text;
-use crate::told::{Account, Entering, Handling, Refusal};
+use tz_frames::{Entering, Refusal};
+use tz_sem::{Account, Handling};
 use tz_access::Bus;
 use tz_core::Machine;
 use tz_frames::Returning;
