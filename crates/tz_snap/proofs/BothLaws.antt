@@ -24,7 +24,7 @@ by_index : (bytes : List ℕ) → AreBytes bytes → (k x : ℕ) → slice_get b
 by_index bytes h k x e = let same = get_or_from_slice_get bytes k x 0 e in let below = h k in omega arith
 
 -- words without their first ones
-fewer_words : (n : ℕ) (ws : List ℕ) → AreWords ws → AreWords (drop n ws)
+pub fewer_words : (n : ℕ) (ws : List ℕ) → AreWords ws → AreWords (drop n ws)
 fewer_words zero ws h = h
 fewer_words (suc n) [] h = h
 fewer_words (suc n) (w ∷ ws) h = fewer_words n ws (λ k x e. h (suc k) x e)
