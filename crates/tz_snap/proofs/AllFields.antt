@@ -1,5 +1,5 @@
 -- All fields of a board, group by group: where each group begins, and that words fit all fields where they fit each group.
-use Rattle.std.proofs.Common.{◌≡◌, ℕ, zero, suc, ◌+◌, ◌*◌, List, [], ◌∷◌, ◌++◌, length, map, refl, sym, ap, ◌∙◌, subst, arith}
+use Rattle.std.proofs.Common.{◌≡◌, ℕ, ◌+◌, ◌*◌, List, [], ◌∷◌, ◌++◌, length, map, refl, sym, ap, ◌∙◌, subst, arith}
 use Rattle.std.proofs.lemmas.List.{length-map}
 use Rattle.tz_table.specs.declared.units.Side.{Side}
 use Rattle.tz_table.specs.declared.units.Side.TheVariants.{Secure, NonSecure}
@@ -10,9 +10,9 @@ use Rattle.tz_core.specs.declared.fields.Field.{Field}
 use Rattle.tz_core.specs.declared.fields.Field.TheVariants.{Running, Banked, Shared}
 use Rattle.tz_core.specs.Fields.{fields, running_fields, banked_fields, banked_last, shared_fields, shared_last, mpu_region_fields, sau_region_fields}
 use Rattle.tz_snap.proofs.Counts.{mpu_regions, sau_regions}
-use Rattle.tz_snap.proofs.FieldsRead.{written_by, Fit, Each, Has, Leaves, written_both, fit_both, fit_apart, each_both, each_apart}
-use Rattle.tz_snap.proofs.UnitBounds.{bounds_from, Kept, kept_fit, fit_kept, all_kept, told_bounds, bounds_told, settled_kept, kept_settled}
-use Rattle.tz_snap.proofs.UnitFields.{mpu_fields, sau_fields, with_mpu_bounds, with_sau_bounds, all_bits, sau_rbar_bits, sau_rlar_bits, mpu_written, mpu_fit, fit_mpu, mpu_told, told_mpu, mpu_settled, settled_mpu, sau_written, sau_fit, fit_sau, sau_told, told_sau, sau_settled, settled_sau}
+use Rattle.tz_snap.proofs.FieldsRead.{written_by, Fit, Each, written_both, fit_both, fit_apart, each_both, each_apart}
+use Rattle.tz_snap.proofs.UnitBounds.{bounds_from, Kept, kept_fit, fit_kept, all_kept}
+use Rattle.tz_snap.proofs.UnitFields.{mpu_fields, sau_fields, with_mpu_bounds, with_sau_bounds, all_bits, sau_rbar_bits, sau_rlar_bits, mpu_written, mpu_fit, fit_mpu, sau_written, sau_fit, fit_sau}
 use Rattle.tz_snap.proofs.Groups.{core_fields, monitor_fields, side_first, side_last, both_first, both_last, Starts, Units, core_done, monitor_done, secure_done, secure_mpu_done, secure_timer_done, nonsecure_done, nonsecure_mpu_done, nonsecure_timer_done, shared_done, sau_done, all_done, readied, thirteen, GroupsFit, InGroups}
 
 -- ---- the groups one behind the other

@@ -1,5 +1,5 @@
 -- All fields of a board: what words that fit them make of a state, and that the words of a state fit them.
-use Rattle.std.proofs.Common.{◌≡◌, ℕ, ◌+◌, List, length, refl, sym, ap, ◌∙◌, subst, arith}
+use Rattle.std.proofs.Common.{◌≡◌, ℕ, List, length, refl, sym, ap, ◌∙◌, subst, arith}
 use Rattle.tz_table.specs.declared.units.Side.TheVariants.{Secure, NonSecure}
 use Rattle.tz_model.specs.declared.board.Profile.{Profile}
 use Rattle.tz_model.specs.Board.{BoardValue}
@@ -11,8 +11,8 @@ use Rattle.tz_snap.proofs.FieldsRead.{written_by, Fit, Each, Has, Leaves}
 use Rattle.tz_snap.proofs.SlotsRead.{with_slots}
 use Rattle.tz_snap.proofs.UnitBounds.{Kept, told_bounds, bounds_told, settled_kept, kept_settled}
 use Rattle.tz_snap.proofs.UnitFields.{all_bits, sau_rbar_bits, sau_rlar_bits, mpu_told, told_mpu, mpu_settled, settled_mpu, sau_told, told_sau, sau_settled, settled_sau}
-use Rattle.tz_snap.proofs.Groups.{Starts, Units, all_done, readied, thirteen, grafted, groups_told, groups_settled, monitor_told, monitor_settled, monitor_fit, all_back, groups_accept}
-use Rattle.tz_snap.proofs.AllFields.{starts_of, units_from, UnitsKept, HasUnits, AllFit, IsGrouped, grouped_all, all_grouped, all_written, each_fits, all_fit}
+use Rattle.tz_snap.proofs.Groups.{all_done, readied, thirteen, grafted, groups_told, groups_settled, monitor_told, monitor_settled, monitor_fit, all_back, groups_accept}
+use Rattle.tz_snap.proofs.AllFields.{starts_of, units_from, UnitsKept, HasUnits, AllFit, grouped_all, all_grouped, all_written, all_fit}
 
 module _ (v : ℕ → ℕ) (t : State) (rs : List ℕ) (has : HasUnits t.bus.board t) where
   abbrev b : BoardValue
@@ -78,9 +78,11 @@ module _ (v : ℕ → ℕ) (t : State) (rs : List ℕ) (has : HasUnits t.bus.boa
         secure = sym (bounds_told v b.mpu_secure k.secure_mpu 0 s.bus.mpu_s.regions (omega (arith, units.secure)) secure);
         nonsecure = sym (bounds_told v b.mpu_nonsecure k.nonsecure_mpu 0 s.bus.mpu_ns.regions (omega (arith, units.nonsecure)) nonsecure);
         sau = sym (bounds_told v b.sau_regions k.sau 0 s.bus.sau.regions (omega (arith, units.sau)) sau);
-      }) in
-      (all_fit v t rs has (record {
-        groups = groups_accept v k u t s rs back h.groups;
-        monitor = monitor_fit v k u t s rs h.monitor;
-        kept = kept;
-      }), all_written v t rs has kept ∙ back)
+      }) in (
+        all_fit v t rs has (record {
+          groups = groups_accept v k u t s rs back h.groups;
+          monitor = monitor_fit v k u t s rs h.monitor;
+          kept = kept;
+        }),
+        all_written v t rs has kept ∙ back,
+      )

@@ -11,14 +11,13 @@ use Rattle.tz_state.specs.declared.units.Bounds.{Bounds}
 use Rattle.tz_state.specs.State.{State, with_bus, with_registers, with_monitor}
 use Rattle.tz_core.specs.declared.fields.Field.{Field}
 use Rattle.tz_core.specs.declared.fields.Field.TheVariants.{Running, Banked, Shared}
-use Rattle.tz_core.specs.declared.fields.RunningField.{RunningField}
 use Rattle.tz_core.specs.declared.fields.RunningField.TheVariants as run
 use Rattle.tz_core.specs.Fields.{banked_first, banked_last, shared_first, shared_last}
 use Rattle.tz_core.specs.StateWords.{held_size, held_address, size_number}
 use Rattle.tz_core.specs.ReadWords.{held_from, with_held_address}
 use Rattle.tz_snap.proofs.FieldsRead.{written_by, Fit, Each, Has, Leaves, stays}
 use Rattle.tz_snap.proofs.SlotsRead.{with_slots}
-use Rattle.tz_snap.proofs.UnitFields.{mpu_fields, sau_fields, with_mpu_bounds, with_sau_bounds}
+use Rattle.tz_snap.proofs.UnitFields.{with_mpu_bounds, with_sau_bounds}
 
 -- ---- groups
 
@@ -213,9 +212,10 @@ module _ (v : ℕ → ℕ) (k : Starts) (u : Units) where
 
   monitor_settled_of : (s : State) → Each (Has v s) monitor_fields k.monitor → Each (Leaves v s) monitor_fields k.monitor
   monitor_settled_of s h =
-      let m = s.bus.monitor in
-      (ap (λ (x : Option Exclusive). with_bus s (with_monitor s.bus x)) (ap (held_from (held_address m)) (sym h.0) ∙ size_back m),
-      (ap (λ (x : Option Exclusive). with_bus s (with_monitor s.bus x)) (ap (with_held_address m) (sym h.1.0) ∙ address_back m), tt))
+      let m = s.bus.monitor in (
+        ap (λ (x : Option Exclusive). with_bus s (with_monitor s.bus x)) (ap (held_from (held_address m)) (sym h.0) ∙ size_back m),
+        (ap (λ (x : Option Exclusive). with_bus s (with_monitor s.bus x)) (ap (with_held_address m) (sym h.1.0) ∙ address_back m), tt),
+      )
 
   pub monitor_settled : (s : State) (rs : List ℕ) (xs : List SlotState) → Fit v monitor_fields k.monitor (core_done v k u (readied s (thirteen rs))) → Each (Leaves v (with_slots (all_done v k u (readied s (thirteen rs))) xs)) monitor_fields k.monitor
   monitor_settled s rs xs h = monitor_settled_of (with_slots (all_done v k u (readied s (thirteen rs))) xs) (monitor_told s rs xs h)

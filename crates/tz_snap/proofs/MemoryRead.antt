@@ -1,6 +1,6 @@
 -- Memory that is read word by word, the bytes of each region in their order.
 use Rattle.std.proofs.Common.{◌≡◌, ◌⊎◌, inl, inr, ⊎_elim, ℕ, zero, suc, ◌+◌, ◌-◌, ◌*◌, ◌/◌, ◌%◌, ◌^◌, ◌<◌, ◌≤◌, Bool, true, false, ◌&&◌, ◌||◌, nat_le, nat_lt, cond, if◌then◌else◌, List, [], ◌∷◌, ◌++◌, length, drop, take, Option, Some, None, refl, sym, ap, ◌∙◌, subst, arith, length-drop}
-use Rattle.std.specs.Prelude.{slice_get, slice_index, is_some, unwrap_or, replicate}
+use Rattle.std.specs.Prelude.{slice_index, is_some, unwrap_or, replicate}
 use Rattle.std.specs.Int.{w32, from_le_bytes, to_le_bytes}
 use Rattle.std.specs.Ordering.{nat_cmp, eq_by_cmp}
 use Rattle.std.specs.Cmp.{nat_cmp_total}
@@ -20,7 +20,7 @@ use Rattle.tz_state.specs.Zeros.{zero_entries, zero_memory}
 use Rattle.tz_core.specs.StateWords.{words_from, memory_words, memory_count}
 use Rattle.tz_core.specs.ReadWords.{with_words, with_regions, AreWords}
 use Rattle.tz_snap.proofs.Counts.{from_count}
-use Rattle.tz_snap.proofs.BothLaws.{fewer_words}
+use Rattle.tz_snap.proofs.Words.{fewer_words}
 
 tied : (q a : ℕ) → q ≡ a → eq_by_cmp nat_cmp q a ≡ true
 tied q a e = grind (arith, nat_tests)

@@ -1,5 +1,5 @@
 -- Slots that are read one by one at their places: each from the word of its index, the first of which is k.
-use Rattle.std.proofs.Common.{◌≡◌, ⊎_elim, ℕ, zero, suc, ◌+◌, ◌*◌, ◌^◌, ◌<◌, ◌≤◌, ◌==◌, eqb, ◌/◌, ◌%◌, nat_lt, Bool, true, false, not, ◌&&◌, ◌||◌, if◌then◌else◌, List, [], ◌∷◌, ◌++◌, length, drop, map, get_or, Some, Result, Ok, Err, refl, sym, ap, ◌∙◌, subst, arith}
+use Rattle.std.proofs.Common.{◌≡◌, ⊎_elim, ℕ, zero, suc, ◌+◌, ◌*◌, ◌^◌, ◌<◌, ◌≤◌, ◌==◌, ◌/◌, ◌%◌, nat_lt, Bool, true, false, not, ◌&&◌, ◌||◌, if◌then◌else◌, List, [], ◌∷◌, ◌++◌, length, drop, map, get_or, Some, Ok, Err, refl, sym, ap, ◌∙◌, subst, arith}
 use Rattle.std.specs.Prelude.{slice_get, slice_index, slice_index_or, slice_set}
 use Rattle.std.specs.List.{range_with_len}
 use Rattle.std.proofs.lemmas.Bool.{and_parts, cases_eq, cases_lt, eqb-true, eq-eqb, ne_eqb, lt-ltb, le-ltb}
@@ -152,18 +152,20 @@ module _ (v : ℕ → ℕ) where
   told_made [] k s p h all = tt
   told_made (i ∷ is) k s p h all =
       let xs = s.exceptions.slots in
-      let w = slot_word s.exceptions i in
-      (ap (λ (t : State). slot_in t.exceptions.slots i) (sym (all 0 i refl)) ∙ get_or-set_same xs i (slot_from i w) idle p.0 ∙ ap (slot_from i) h.0,
-      told_made is (k + 1) s p.2 h.1 (λ j q e. all (suc j) q e))
+      let w = slot_word s.exceptions i in (
+        ap (λ (t : State). slot_in t.exceptions.slots i) (sym (all 0 i refl)) ∙ get_or-set_same xs i (slot_from i w) idle p.0 ∙ ap (slot_from i) h.0,
+        told_made is (k + 1) s p.2 h.1 (λ j q e. all (suc j) q e),
+      )
 
   -- words of other slots fit as they do there
   pub told_fit : (is : List ℕ) (k : ℕ) (xs ys : List SlotState) → ArePlaces is (length xs) → SlotsTold v is k ys → SlotsMade v is k ys → SlotsFit v is k xs
   told_fit [] k xs ys p h m = tt
   told_fit (i ∷ is) k xs ys p h m =
       let x = slot_from i (v k) in
-      let long = length-set xs i x in
-      (ap (λ (y : SlotState). number_at y i) (get_or-set_same xs i x idle p.0 ∙ sym m.0) ∙ h.0,
-      told_fit is (k + 1) (slice_set xs i x) ys (subst (ArePlaces is) (sym long) p.2) h.1 m.1)
+      let long = length-set xs i x in (
+        ap (λ (y : SlotState). number_at y i) (get_or-set_same xs i x idle p.0 ∙ sym m.0) ∙ h.0,
+        told_fit is (k + 1) (slice_set xs i x) ys (subst (ArePlaces is) (sym long) p.2) h.1 m.1,
+      )
 
   -- and make the same of them
   one_alike : (i : ℕ) (is : List ℕ) (k : ℕ) (xs ys : List SlotState) → ArePlaces is (length xs) → SlotsMade v is k ys → (is_in i is ≡ false → slot_in xs i ≡ slot_in ys i) → slot_in (slots_by v is k xs) i ≡ slot_in ys i
@@ -201,11 +203,67 @@ range_places a (suc n) m l = (omega arith, out_of_range a (a + 1) n (omega arith
 pub board_places : (n m : ℕ) → 32 + n ≤ m → ArePlaces (slot_places n) m
 unfolding slot_places
 board_places n m l =
-    let out : (i : ℕ) → i < 32 → is_in i (range_with_len 32 n) ≡ false = λ i h. out_of_range i 32 n h in
-    (omega arith, out 4 (omega arith), (omega arith, out 6 (omega arith), (omega arith, out 7 (omega arith), (omega arith, out 8 (omega arith), (omega arith, out 9 (omega arith),
-    (omega arith, out 10 (omega arith), (omega arith, out 12 (omega arith), (omega arith, out 13 (omega arith), (omega arith, out 14 (omega arith), (omega arith, out 22 (omega arith),
-    (omega arith, out 23 (omega arith), (omega arith, out 28 (omega arith), (omega arith, out 29 (omega arith), (omega arith, out 30 (omega arith), (omega arith, out 31 (omega arith),
-    range_places 32 n m l)))))))))))))))
+    let out : (i : ℕ) → i < 32 → is_in i (range_with_len 32 n) ≡ false = λ i h. out_of_range i 32 n h in (
+      omega arith,
+      out 4 (omega arith),
+      (
+        omega arith,
+        out 6 (omega arith),
+        (
+          omega arith,
+          out 7 (omega arith),
+          (
+            omega arith,
+            out 8 (omega arith),
+            (
+              omega arith,
+              out 9 (omega arith),
+              (
+                omega arith,
+                out 10 (omega arith),
+                (
+                  omega arith,
+                  out 12 (omega arith),
+                  (
+                    omega arith,
+                    out 13 (omega arith),
+                    (
+                      omega arith,
+                      out 14 (omega arith),
+                      (
+                        omega arith,
+                        out 22 (omega arith),
+                        (
+                          omega arith,
+                          out 23 (omega arith),
+                          (
+                            omega arith,
+                            out 28 (omega arith),
+                            (
+                              omega arith,
+                              out 29 (omega arith),
+                              (
+                                omega arith,
+                                out 30 (omega arith),
+                                (
+                                  omega arith,
+                                  out 31 (omega arith),
+                                  range_places 32 n m l,
+                                ),
+                              ),
+                            ),
+                          ),
+                        ),
+                      ),
+                    ),
+                  ),
+                ),
+              ),
+            ),
+          ),
+        ),
+      ),
+    )
 
 -- ---- a place is one of the board's exactly where a slot stands there
 

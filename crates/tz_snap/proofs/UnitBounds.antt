@@ -103,10 +103,11 @@ module _ (c d : ℕ → ℕ) (v : ℕ → ℕ) where
       let first : j < length rs = omega arith in
       let long = length-set rs j (record (bounds_at rs j) { rbar = c (v k) }) in
       let second : j < length one = omega arith in
-      let size = length_both rs j (c (v k)) (d (v (k + 1))) in
-      (ap (λ (r : Bounds). r.rbar) (sym (at_set rs j (record (bounds_at rs j) { rbar = c (v k) }) first)) ∙ h.0,
-      ap (λ (r : Bounds). r.rlar) (sym (at_set one j (record (bounds_at one j) { rlar = d (v (k + 1)) }) second)) ∙ h.1,
-      kept_fit n (k + 1 + 1) (j + 1) (with_rlar one j (d (v (k + 1)))) (omega arith) h.2)
+      let size = length_both rs j (c (v k)) (d (v (k + 1))) in (
+        ap (λ (r : Bounds). r.rbar) (sym (at_set rs j (record (bounds_at rs j) { rbar = c (v k) }) first)) ∙ h.0,
+        ap (λ (r : Bounds). r.rlar) (sym (at_set one j (record (bounds_at one j) { rlar = d (v (k + 1)) }) second)) ∙ h.1,
+        kept_fit n (k + 1 + 1) (j + 1) (with_rlar one j (d (v (k + 1)))) (omega arith) h.2,
+      )
 
   pub fit_kept : (n k j : ℕ) (rs : List Bounds) → length rs ≡ j + n → Kept k n → FitBounds k j n rs
   fit_kept zero k j rs e h = tt
@@ -115,25 +116,28 @@ module _ (c d : ℕ → ℕ) (v : ℕ → ℕ) where
       let first : j < length rs = omega arith in
       let long = length-set rs j (record (bounds_at rs j) { rbar = c (v k) }) in
       let second : j < length one = omega arith in
-      let size = length_both rs j (c (v k)) (d (v (k + 1))) in
-      (ap (λ (r : Bounds). r.rbar) (at_set rs j (record (bounds_at rs j) { rbar = c (v k) }) first) ∙ h.0,
-      ap (λ (r : Bounds). r.rlar) (at_set one j (record (bounds_at one j) { rlar = d (v (k + 1)) }) second) ∙ h.1,
-      fit_kept n (k + 1 + 1) (j + 1) (with_rlar one j (d (v (k + 1)))) (omega arith) h.2)
+      let size = length_both rs j (c (v k)) (d (v (k + 1))) in (
+        ap (λ (r : Bounds). r.rbar) (at_set rs j (record (bounds_at rs j) { rbar = c (v k) }) first) ∙ h.0,
+        ap (λ (r : Bounds). r.rlar) (at_set one j (record (bounds_at one j) { rlar = d (v (k + 1)) }) second) ∙ h.1,
+        fit_kept n (k + 1 + 1) (j + 1) (with_rlar one j (d (v (k + 1)))) (omega arith) h.2,
+      )
 
   pub settled_kept : (n k j : ℕ) (rs : List Bounds) → Kept k n → ToldBounds v k j n rs → SettledBounds k j n rs
   settled_kept zero k j rs h i = tt
-  settled_kept (suc n) k j rs h i =
-      (ap (λ (x : ℕ). with_rbar rs j x) (h.0 ∙ sym i.0) ∙ set_at rs j,
-      ap (λ (x : ℕ). with_rlar rs j x) (h.1 ∙ sym i.1) ∙ set_at rs j,
-      settled_kept n (k + 1 + 1) (j + 1) rs h.2 i.2)
+  settled_kept (suc n) k j rs h i = (
+    ap (λ (x : ℕ). with_rbar rs j x) (h.0 ∙ sym i.0) ∙ set_at rs j,
+    ap (λ (x : ℕ). with_rlar rs j x) (h.1 ∙ sym i.1) ∙ set_at rs j,
+    settled_kept n (k + 1 + 1) (j + 1) rs h.2 i.2,
+  )
 
   pub kept_settled : (n k j : ℕ) (rs : List Bounds) → length rs ≡ j + n → ToldBounds v k j n rs → SettledBounds k j n rs → Kept k n
   kept_settled zero k j rs e h i = tt
   kept_settled (suc n) k j rs e h i =
-      let first : j < length rs = omega arith in
-      (ap (λ (r : Bounds). r.rbar) (sym (at_set rs j (record (bounds_at rs j) { rbar = c (v k) }) first) ∙ ap (λ (xs : List Bounds). bounds_at xs j) i.0) ∙ h.0,
-      ap (λ (r : Bounds). r.rlar) (sym (at_set rs j (record (bounds_at rs j) { rlar = d (v (k + 1)) }) first) ∙ ap (λ (xs : List Bounds). bounds_at xs j) i.1) ∙ h.1,
-      kept_settled n (k + 1 + 1) (j + 1) rs (omega arith) h.2 i.2)
+      let first : j < length rs = omega arith in (
+        ap (λ (r : Bounds). r.rbar) (sym (at_set rs j (record (bounds_at rs j) { rbar = c (v k) }) first) ∙ ap (λ (xs : List Bounds). bounds_at xs j) i.0) ∙ h.0,
+        ap (λ (r : Bounds). r.rlar) (sym (at_set rs j (record (bounds_at rs j) { rlar = d (v (k + 1)) }) first) ∙ ap (λ (xs : List Bounds). bounds_at xs j) i.1) ∙ h.1,
+        kept_settled n (k + 1 + 1) (j + 1) rs (omega arith) h.2 i.2,
+      )
 
   one_behind : (n k j : ℕ) (r : Bounds) (rs : List Bounds) → bounds_written k (suc j) n (r ∷ rs) ≡ r ∷ bounds_written k j n rs
   one_behind zero k j r rs = refl

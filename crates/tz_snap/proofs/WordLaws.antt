@@ -1,26 +1,22 @@
 -- The words of a state of a board make that state again, and words that make one are its words.
-use Rattle.std.proofs.Common.{◌≡◌, ⊎_elim, ℕ, ◌+◌, ◌-◌, ◌^◌, ◌<◌, ◌≤◌, nat_le, Bool, false, List, [], ◌∷◌, ◌++◌, length, drop, map, get_or, Some, Result, Ok, Err, refl, sym, ap, ◌∙◌, subst, arith, append_assoc, length-append, length-drop}
-use Rattle.std.specs.Prelude.{slice_get, slice_index, slice_index_or, replicate, is_some}
-use Rattle.std.specs.FinMap.{get}
+use Rattle.std.proofs.Common.{◌≡◌, ⊎_elim, ℕ, ◌+◌, ◌-◌, ◌^◌, ◌<◌, ◌≤◌, nat_le, List, ◌++◌, length, drop, map, Result, Ok, Err, refl, sym, ap, ◌∙◌, subst, arith, append_assoc, length-append, length-drop}
+use Rattle.std.specs.Prelude.{slice_index, slice_index_or, replicate}
 use Rattle.std.proofs.lemmas.Bool.{and_parts, cases_lt, leb-true}
 use Rattle.std.proofs.lemmas.List.{drop_at, length-map, length-replicate, get_or-replicate, get_or_past}
 use Rattle.std.proofs.lemmas.Option.{slice_get-get_or}
-use Rattle.tz_model.specs.declared.board.Region.{Region}
 use Rattle.tz_model.specs.Board.{BoardValue, IsBoard, within}
-use Rattle.tz_state.specs.Access.{is_mapped}
-use Rattle.tz_state.specs.Memory.{Memory, byte_at}
+use Rattle.tz_state.specs.Memory.{Memory}
 use Rattle.tz_state.specs.declared.slot.SlotState.{SlotState}
 use Rattle.tz_state.specs.State.{State}
-use Rattle.tz_state.specs.Slots.{ExceptionsValue, places, idle, at, is_place}
+use Rattle.tz_state.specs.Slots.{places, idle}
 use Rattle.tz_state.specs.Regions.{no_bounds}
 use Rattle.tz_state.specs.UnitRegisters.{bounds_of, reset_sau, reset_mpu}
 use Rattle.tz_state.specs.Zeros.{zero_memory}
-use Rattle.tz_core.specs.declared.fields.Field.{Field}
 use Rattle.tz_core.specs.Fields.{fields, slot_places}
-use Rattle.tz_core.specs.StateWords.{word_of, slot_word, memory_words, state_words, field_count, slot_count, memory_count, word_count}
-use Rattle.tz_core.specs.ReadWords.{AreWords, IsState, IsTold, blank, read_fields, read_slots, read_words, and_slots, with_regions}
+use Rattle.tz_core.specs.StateWords.{word_of, slot_word, memory_words, state_words, field_count, slot_count, word_count}
+use Rattle.tz_core.specs.ReadWords.{AreWords, IsState, blank, read_fields, read_slots, read_words, and_slots, with_regions}
 use Rattle.tz_snap.proofs.Counts.{fields_count, slots_count, state_count}
-use Rattle.tz_snap.proofs.BothLaws.{fewer_words}
+use Rattle.tz_snap.proofs.Words.{fewer_words}
 use Rattle.tz_snap.proofs.FieldsRead.{Each, Has, Leaves, written_by, words_told, told_words, told_settled, settled_told}
 use Rattle.tz_snap.proofs.FieldsRead as one_field
 use Rattle.tz_snap.proofs.SlotsRead.{ArePlaces, SlotsTold, SlotsMade, SlotsFit, slots_by, with_slots, is_in, length_by, others_stay, fit_told, all_told, told_made, told_fit, made_alike, board_places, places_are}
