@@ -206,7 +206,7 @@ impl Machine {
         self.go_next(course, code)
     }
 
-    /// Runs an instruction whose place and condition let it run.
+    /// Runs an instruction whose place and condition let it run. It is always inlined, as `make_step` is.
     #[inline(always)]
     fn run_here(&mut self, insn: &Insn, code: &Code, course: Course, stores: &mut Stores) -> Ending
         requires { array_vec_len stores.old ≡ 0 }
@@ -379,7 +379,8 @@ impl Machine {
         self.preempt(course, back)
     }
 
-    /// Makes one step after what it begins with, but for its report: notes the stores, and tells how it ended.
+    /// Makes one step after what it begins with, but for its report: notes the stores, and tells how it ended. Each of
+    /// its two callers has a copy of its own, since what a call hands back and forth would cost each step some 50 instructions.
     #[inline(always)]
     #[tactic(auto, unfolding(tz_sem::specs::Step::ended))]
     fn make_step(&mut self, stores: &mut Stores) -> Ending
