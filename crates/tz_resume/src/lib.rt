@@ -4,11 +4,15 @@
 //! The definitions stand in `specs/`; the calls are laws. Nothing here runs.
 #![tactic(auto)]
 
+mod known;
+
 ghost use Rattle.tz_resume.specs.Exact.{EntriesResume};
 ghost use Rattle.tz_resume.specs.Number.{NumbersFit};
 ghost use Rattle.tz_resume.specs.Resumption.{FramesGiveBack};
 ghost use Rattle.tz_resume.specs.Run.{BootsResume, RunsResume};
 ghost use Rattle.tz_resume.specs.Steps.{CallsStay, ReturnedSo, StepsResume, TakenSo};
+
+pub use known::know_state;
 
 /// What both frames hold gives back the registers and the stack pointer of the code that they were written for.
 pub fn frames_give_back()
