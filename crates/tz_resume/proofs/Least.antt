@@ -1,17 +1,16 @@
 -- A slot that pends before all others that are ready comes first.
-use Rattle.std.proofs.Common.{◌≡◌, ◌≢◌, ◌⊎◌, inl, inr, ℕ, zero, suc, ◌+◌, ◌*◌, ◌/◌, ◌%◌, ◌<◌, ◌≤◌, Bool, true, false, ◌&&◌, ◌||◌, cond, List, [], ◌∷◌, length, Option, Some, None, refl, sym, ap, ◌∙◌, subst, arith}
+use Rattle.std.proofs.Common.{◌≡◌, ◌≢◌, ◌⊎◌, inl, inr, ℕ, zero, suc, ◌+◌, ◌/◌, ◌%◌, ◌<◌, ◌≤◌, Bool, true, false, ◌&&◌, ◌||◌, cond, List, [], ◌∷◌, length, Option, Some, None, refl, sym, ap, ◌∙◌, subst, arith}
 use Rattle.std.specs.Prelude.{◌==◌, nat_lt, slice_set, slice_index_or}
 use Rattle.std.proofs.lemmas.Bool.Decides.{nat_tests}
 use Rattle.std.proofs.lemmas.List.{length-set, get_or-set_same}
 use Rattle.tz_table.specs.declared.units.Side.{Side}
 use Rattle.tz_table.specs.declared.units.Side.TheVariants.{Secure, NonSecure}
-use Rattle.tz_model.specs.declared.report.Slot.{Slot}
 use Rattle.tz_regs.specs.declared.parts.Masks.{Masks}
 use Rattle.tz_state.specs.declared.slot.SlotState.{SlotState}
 use Rattle.tz_state.specs.Execution.{execution, can_take_any, takes_first}
 use Rattle.tz_state.specs.First.{FitGroups}
 use Rattle.tz_state.specs.Priority.{nmi_priority, zero_priority, hard_priority, restricted_priority, group_of, priority_of, rank_of, is_ready, chosen_place, slot_found, chosen}
-use Rattle.tz_state.specs.Slots.{ExceptionsValue, places, idle, at, with_slot, is_place, exception_number, side_at, system_side, slot_at, index_of, is_always_enabled}
+use Rattle.tz_state.specs.Slots.{ExceptionsValue, places, idle, at, with_slot, is_place, exception_number, system_side, slot_at, index_of, is_always_enabled}
 use Rattle.tz_state.specs.SlotChanges.{pended}
 use Rattle.tz_nvic.proofs.Least.{none_below, least_found, least_is}
 use Rattle.tz_nvic.proofs.Places.{index_back}
@@ -85,8 +84,8 @@ comes_first e p fits below ready lower =
     let f = pending_at e p in
     least_is (is_ready f) (rank_of f) 272 p below ready
     (λ j small r d.
-      let less : priority_of e p < priority_of e j = lower j small (moved (is_ready f j) (is_ready e j) (ready_same e p j d) r) d in
-      told_by_rank f p j fits (omega (arith, below)) (omega (arith, small)) (inl (omega (arith, less, priority_same e p p, priority_same e p j))))
+    let less : priority_of e p < priority_of e j = lower j small (moved (is_ready f j) (is_ready e j) (ready_same e p j d) r) d in
+    told_by_rank f p j fits (omega (arith, below)) (omega (arith, small)) (inl (omega (arith, less, priority_same e p p, priority_same e p j))))
 
 -- ---- what is ready where nothing can be taken
 

@@ -1,6 +1,6 @@
 -- SVC of Secure code whose basic frame is written without a fault leaves the core in Secure state: what it pends is of
 -- the Secure side and comes first, and so is the HardFault that stands in for it.
-use Rattle.std.proofs.Common.{◌≡◌, ◌≢◌, ℕ, zero, suc, ◌+◌, ◌^◌, ◌<◌, ◌≤◌, Bool, true, false, ◌&&◌, ◌||◌, not, cond, List, [], ◌∷◌, length, Option, Some, None, Result, Ok, Err, refl, sym, ap, ◌∙◌, subst, arith}
+use Rattle.std.proofs.Common.{◌≡◌, ℕ, suc, ◌<◌, Bool, true, false, ◌&&◌, ◌||◌, not, cond, List, [], ◌∷◌, length, Option, Some, None, Result, Ok, Err, refl, sym, ap, ◌∙◌, subst, arith}
 use Rattle.std.specs.Prelude.{nat_lt, slice_set}
 use Rattle.std.proofs.lemmas.Bool.Decides.{nat_tests}
 use Rattle.std.proofs.lemmas.List.{length-set}
@@ -14,7 +14,6 @@ use Rattle.tz_model.specs.declared.report.Slot.{Slot}
 use Rattle.tz_regs.specs.declared.parts.Core.{Core}
 use Rattle.tz_regs.specs.declared.parts.Masks.{Masks}
 use Rattle.tz_regs.specs.Banks.{stacks_of}
-use Rattle.tz_state.specs.declared.slot.SlotState.{SlotState}
 use Rattle.tz_state.specs.declared.taken.Taken.{Taken as Becomes}
 use Rattle.tz_state.specs.declared.taken.Taken.TheVariants.{AsIs, Hard, Lockup}
 use Rattle.tz_state.specs.Due.{slot_of_event, slots_pended, slots_due, due, begun}
@@ -34,14 +33,14 @@ use Rattle.tz_frames.specs.Enter.{Work, Chosen, Done, goes_on, tries, choosing, 
 use Rattle.tz_frames.specs.FrameAccess.{Vector}
 use Rattle.tz_frames.specs.Machine.{Framed, framed}
 use Rattle.tz_frames.specs.Stack.{Pushed, pushed, pushed_with, pushed_basic, pushed_additional, with_side_sp, splim_of, written}
-use Rattle.tz_frames.specs.Status.{Raised, slot, raised_as, faulted, with_status}
+use Rattle.tz_frames.specs.Status.{Raised, slot, raised_as}
 use Rattle.tz_sem.specs.declared.ending.Course.{Course}
-use Rattle.tz_sem.specs.Ended.{Ended, with_stores}
+use Rattle.tz_sem.specs.Ended.{Ended}
 use Rattle.tz_sem.specs.Step.{started}
-use Rattle.tz_sem.specs.Taking.{state_of, locks, framed_in, taken_by, after_entry, preempted, goes_on_at, passed_by, after_raise, faults}
+use Rattle.tz_sem.specs.Taking.{state_of, framed_in, taken_by, after_entry, preempted, goes_on_at, passed_by, after_raise, faults}
 use Rattle.tz_resume.specs.Resumption.{basic_pushed}
 use Rattle.tz_resume.specs.Steps.{IsTyped, CallsBy, raised_by_call, behind_call}
-use Rattle.tz_resume.proofs.Least.{call_high, hard_few, none_lower, call_first, hard_first, hard_after_call}
+use Rattle.tz_resume.proofs.Least.{none_lower, call_first, hard_first, hard_after_call}
 
 -- ---- what a step begins with keeps what types say
 
@@ -168,12 +167,12 @@ preempted_secure : (s : State) (course : Course) (back : ℕ) → s.core.run.sid
 unfolding preempted
 preempted_secure s course back side none more =
     by (enters framed s.bus.board.profile s.core s.exceptions (framed_in course.negative s) back) (entry_secure s.bus.board.profile s.core s.exceptions (framed_in course.negative s) back side none more) where
-  result : (d : Done Framed) (x : Entered) → IsSecure d → (taken_by (state_of d.core d.exceptions d.held.bus) course x).state.core.run.side ≡ Secure
-  result d (entered.Taken given touched) k = k
-  result d (entered.Lockup touched) k = k
+      result : (d : Done Framed) (x : Entered) → IsSecure d → (taken_by (state_of d.core d.exceptions d.held.bus) course x).state.core.run.side ≡ Secure
+      result d (entered.Taken given touched) k = k
+      result d (entered.Lockup touched) k = k
 
-  by : (d : Done Framed) → IsSecure d → (after_entry course d).state.core.run.side ≡ Secure
-  by d k = result d d.result k
+      by : (d : Done Framed) → IsSecure d → (after_entry course d).state.core.run.side ≡ Secure
+      by d k = result d d.result k
 
 -- ---- SVC
 
@@ -225,15 +224,15 @@ secured_call s0 course fits size cant none = by (escalated e m (slot 11 Secure))
   by AsIs low none' =
       preempted_secure (state_of (passed_by Call s.core) (pended e (slot 11 Secure)) s.bus) course back refl none'
       (λ w side is.
-        call_secure s.bus.board.profile w side (ap (λ (f : ExceptionsValue). chosen f) is ∙ call_first e m fits size cant low)
-        (ap (λ (f : ExceptionsValue). chosen (pended f (slot 3 Secure))) is ∙ hard_after_call e m fits size cant low))
+      call_secure s.bus.board.profile w side (ap (λ (f : ExceptionsValue). chosen f) is ∙ call_first e m fits size cant low)
+      (ap (λ (f : ExceptionsValue). chosen (pended f (slot 3 Secure))) is ∙ hard_after_call e m fits size cant low))
   by (Hard side) (same, low) none' =
       let r = raised_as (Hard side) (slot 11 Secure) s.core e in
       preempted_secure (state_of (passed_by Call r.core) r.exceptions s.bus) course back refl none'
       (λ w side' is.
-        hard_secure s.bus.board.profile 3 w side'
-        (ap (λ (f : ExceptionsValue). chosen f) (is ∙ ap (λ (of : Side). pended e (slot 3 of)) same)
-        ∙ hard_first e fits size (λ j small ready d. omega (arith, low, none_lower e m fits cant j small ready))))
+      hard_secure s.bus.board.profile 3 w side'
+      (ap (λ (f : ExceptionsValue). chosen f) (is ∙ ap (λ (of : Side). pended e (slot 3 of)) same)
+      ∙ hard_first e fits size (λ j small ready d. omega (arith, low, none_lower e m fits cant j small ready))))
   by Lockup k none' = refl
 
 secure_state : (s : State) → s.core.run.side ≡ Secure → s ≡ secured s

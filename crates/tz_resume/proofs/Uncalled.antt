@@ -1,5 +1,5 @@
 -- SVC alone makes the fault of SVC: no access, no fetch and no return does.
-use Rattle.std.proofs.Common.{◌≡◌, ℕ, ◌+◌, ◌%◌, ◌^◌, Bool, true, false, ◌&&◌, not, cond, List, [], ◌∷◌, Option, Some, None, Result, Ok, Err, refl, ap}
+use Rattle.std.proofs.Common.{◌≡◌, ℕ, ◌+◌, ◌%◌, ◌^◌, Bool, true, false, ◌&&◌, not, cond, List, [], ◌∷◌, Option, Some, None, Result, Ok, Err, refl}
 use Rattle.std.specs.Prelude.{◌==◌, nat_lt}
 use Rattle.tz_table.specs.declared.units.Side.{Side}
 use Rattle.tz_table.specs.declared.units.Side.TheVariants.{Secure, NonSecure}
@@ -9,10 +9,8 @@ use Rattle.tz_table.specs.declared.instruction.Address.{Address}
 use Rattle.tz_table.specs.declared.instruction.Address.TheVariants.{Pre, Post}
 use Rattle.tz_table.specs.declared.instruction.Insn.{Insn}
 use Rattle.tz_table.specs.declared.instruction.Insn.TheVariants as insns
-use Rattle.tz_model.specs.declared.fetch.Fetched.{Fetched}
 use Rattle.tz_model.specs.declared.report.Fault.{Fault}
-use Rattle.tz_model.specs.declared.report.Fault.TheVariants.{Unaligned, DataAccess, Violation, Precise, StackLimit, InvPc, Exec, ExecBus, EntryPoint, Call}
-use Rattle.tz_model.specs.declared.report.Outcome.{Outcome}
+use Rattle.tz_model.specs.declared.report.Fault.TheVariants.{Unaligned, DataAccess, Violation, Precise, StackLimit, InvPc, Exec, ExecBus, EntryPoint}
 use Rattle.tz_model.specs.Ports.{Access, Load, Store, with_read, after_answer, answers, cut_to}
 use Rattle.tz_model.specs.Words.{wrap}
 use Rattle.tz_regs.specs.declared.parts.Core.{Core}
@@ -25,10 +23,9 @@ use Rattle.tz_state.specs.Fetch.{wrong_side, half_verdict, with_second, with_fir
 use Rattle.tz_state.specs.Memory.{every, half_at}
 use Rattle.tz_state.specs.State.{Bus, State, map_in, is_held}
 use Rattle.tz_frames.specs.FrameAccess.{SecureLoad}
-use Rattle.tz_frames.specs.Gate.{call_base, call_stores, after_call, calls_ns, return_base, numbers_agree, came_back, after_first, after_second, function_returned}
+use Rattle.tz_frames.specs.Gate.{call_base, call_stores, after_call, calls_ns, return_base, numbers_agree, came_back, after_first, function_returned}
 use Rattle.tz_frames.specs.Machine.{Framed, framer, frame_verdict, in_map_alone, framed_read, framed}
-use Rattle.tz_sem.specs.declared.family.Family.{Family}
-use Rattle.tz_sem.specs.declared.family.Family.TheVariants.{Alu, LoadStore, Branch, System}
+use Rattle.tz_sem.specs.declared.family.Family.TheVariants.{Alu, LoadStore, Branch}
 use Rattle.tz_sem.specs.Exec.{after_accesses, over, unless_refused, alone, loads_stores, Exclusivity, Free, Marks, Takes, exclusively, exclusivity, released, not_stored, executed_by}
 use Rattle.tz_sem.specs.LoadStore.{below_limit, refusal_of, refusal_past, refusal, plan_load_store, finish_load_store, offset_at, past_words, words_loaded, words_stored}
 use Rattle.tz_sem.specs.Local.{Local, Finished, local_of, finished_in, reg}
@@ -154,10 +151,10 @@ branch_uncalled s i =
 pub calls_uncalled : (c : Core) (h : Reached) (target next : ℕ) → Uncalled (calls_ns access c h target next).outcome
 calls_uncalled c h target next =
     by (nat_lt (call_base c) (pointer_limit_of c.registers.ipsr c.stacks_s)) (answers access h (call_stores c next)) (answers_uncalled (call_stores c next) h) where
-  by : (t : Bool) (a : Reached × Result (List ℕ) Fault) → Uncalled a.1 → Uncalled (cond t (record { core = c; held = h; outcome = Err (StackLimit Secure) }) (after_call c target a)).outcome
-  by true a k = refl
-  by false (g, Ok words) k = tt
-  by false (g, Err fault) k = k
+      by : (t : Bool) (a : Reached × Result (List ℕ) Fault) → Uncalled a.1 → Uncalled (cond t (record { core = c; held = h; outcome = Err (StackLimit Secure) }) (after_call c target a)).outcome
+      by true a k = refl
+      by false (g, Ok words) k = tt
+      by false (g, Err fault) k = k
 
 alone_uncalled : (a : ℕ) (v : Option Fault) → NoneCalled v → NoneCalled (in_map_alone a v)
 alone_uncalled a None k = none_if (is_private a) (Some (Precise a)) None refl tt

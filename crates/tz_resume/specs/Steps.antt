@@ -1,5 +1,5 @@
 -- Steps in which Secure code is preempted, and steps that let it go on.
-use Rattle.std.specs.Prelude.{◌≡◌, ◌<◌, ◌^◌, ◌≤◌, None, ℕ, Bool, true, false, List, length, slice_index}
+use Rattle.std.specs.Prelude.{◌≡◌, ◌<◌, ◌^◌, None, ℕ, Bool, true, false, List, length, slice_index}
 use Rattle.tz_table.specs.declared.units.Side.TheVariants.{Secure}
 use Rattle.tz_table.specs.declared.units.Code.{Code}
 use Rattle.tz_model.specs.declared.report.Fault.TheVariants.{Call}
@@ -12,15 +12,13 @@ use Rattle.tz_state.specs.Execution.{takes_first}
 use Rattle.tz_state.specs.First.{FitGroups}
 use Rattle.tz_state.specs.Slots.{places}
 use Rattle.tz_state.specs.State.{State}
-use Rattle.tz_frames.specs.Enter.{is_secure}
 use Rattle.tz_frames.specs.Leave.{has_callee, returns_to_process, return_sp}
 use Rattle.tz_frames.specs.Status.{Raised, faulted}
-use Rattle.tz_sem.specs.declared.ending.Cause.{Cause}
 use Rattle.tz_sem.specs.declared.ending.Cause.TheVariants.{Resumed, Taken}
 use Rattle.tz_sem.specs.declared.ending.Course.{Course}
 use Rattle.tz_sem.specs.Ended.{Passed, Ended, with_stores}
 use Rattle.tz_sem.specs.Taking.{state_of, framed_in, passed_by, goes_on_at, preempted, faults, returns}
-use Rattle.tz_sem.specs.Step.{started, ended, awake, course_in, step}
+use Rattle.tz_sem.specs.Step.{started, ended, step}
 use Rattle.tz_resume.specs.Words.{SameBytes, IsWhole}
 use Rattle.tz_resume.specs.Number.{IsNumbered}
 use Rattle.tz_resume.specs.Resumption.{process_of, basic_pushed, both_pushed, IsStacked, GoesOn}
