@@ -248,6 +248,6 @@ pub calls_stay : (s : State) (e : Ended) (at : State) (course : Course) → IsTy
     → (basic_pushed (behind_call at).core (framed_in course.negative (behind_call at)) (goes_on_at Call at.core.registers.pc)).fault ≡ None
     → e.state.core.run.side ≡ Secure
 calls_stay s e at course t k secure none =
-    ap (λ (x : Ended). x.state.core.run.side) k.ends
+    ap (λ (x : State). x.core.run.side) k.state
     ∙ call_stays at course (subst (λ (x : ExceptionsValue). FitGroups x) (sym k.exceptions) t.groups) (ap (λ (x : ExceptionsValue). length x.slots) k.exceptions ∙ t.slots)
     (ap (λ (x : ExceptionsValue). takes_first x at.core.masks) k.exceptions ∙ ap (λ (m : Masks). takes_first s.exceptions m) k.masks ∙ k.first) (k.side ∙ secure) none

@@ -126,7 +126,7 @@ code_resumes s events from course typed numbered i k s' events' later value p r 
       basic = k.basic;
       additional = k.additional;
     } in
-    let e : (step s events).state ≡ (preempted from course back).state = ap (λ (x : Ended). x.state) i.ends in
+    let e : (step s events).state ≡ (preempted from course back).state = i.state in
     let process : process_of s.core ≡ process_of from.core =
     ap (λ (r : Registers). uses_process r.ipsr s.core.stacks_s) (sym i.registers) ∙ ap (λ (own : Stacks). uses_process from.core.registers.ipsr own) (sym i.stacks) in
     let taken : TakesBack (process_of from.core) (preempted from course back).state later value (returns later r.course r.code value) =
@@ -135,8 +135,8 @@ code_resumes s events from course typed numbered i k s' events' later value p r 
     (subst (λ (after : State). TakesBack (process_of s.core) after later value p) e t)) in
     let preempts : Preempts from course back (preempted from course back) = record {
       stacked = stacked;
-      taken = ap (λ (x : Ended). x.ending.cause) (sym i.ends) ∙ k.taken;
-      nonsecure = ap (λ (x : Ended). is_nonsecure_side x.state.core.run.side) (sym i.ends) ∙ k.nonsecure;
+      taken = sym i.cause ∙ k.taken;
+      nonsecure = ap (λ (x : State). is_nonsecure_side x.core.run.side) (sym i.state) ∙ k.nonsecure;
     } in
     let goes = states_resume from course back preempts later r.course r.code value taken in
     let ends : (step s' events').state.core ≡ (returns later r.course r.code value).state.core = ap (λ (x : Ended). x.state.core) r.ends ∙ ap (λ (q : Passed). q.state.core) r.returned in

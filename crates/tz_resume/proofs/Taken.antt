@@ -112,19 +112,20 @@ raised_keeps (Hard side) given s c e k = record { side = k.side; registers = k.r
 raised_keeps Lockup given s c e k = record { side = k.side; registers = k.registers; stacks = k.stacks }
 
 -- the entry for a fault that goes on where it was
-raise_tells : (s x : State) (course : Course) (stores : List Store) (r : Raised) (back : ℕ) → Keeps s r.core → Holds s x → back ≡ s.core.registers.pc
-    → Tells s (with_stores stores (cond r.locks (locks (state_of r.core r.exceptions x.bus) course.touched) (preempted (state_of r.core r.exceptions x.bus) course back)))
-raise_tells s x course stores r back k w at = by r.locks where
+raise_tells : (s x : State) (course : Course) (r : Raised) (e : Ended) (back : ℕ) → Keeps s r.core → Holds s x → back ≡ s.core.registers.pc
+    → let p = cond r.locks (locks (state_of r.core r.exceptions x.bus) course.touched) (preempted (state_of r.core r.exceptions x.bus) course back) in
+    e.state ≡ p.state → e.ending.cause ≡ p.ending.cause → Tells s e
+raise_tells s x course r e back k w at = by r.locks where
   from : State
   from = state_of r.core r.exceptions x.bus
 
-  by : (t : Bool) → Tells s (with_stores stores (cond t (locks from course.touched) (preempted from course back)))
-  by true e = cc
-  by false e =
+  by : (t : Bool) → e.state ≡ (cond t (locks from course.touched) (preempted from course back)).state → e.ending.cause ≡ (cond t (locks from course.touched) (preempted from course back)).ending.cause → Tells s e
+  by true state cause is = cc
+  by false state cause is =
       ByEntry from course s.core.registers.pc
       (AtCode (record {
-        stores = stores;
-        ends = ap (λ (pc : ℕ). with_stores stores (preempted from course pc)) at;
+        state = state ∙ ap (λ (pc : ℕ). (preempted from course pc).state) at;
+        cause = cause ∙ ap (λ (pc : ℕ). (preempted from course pc).ending.cause) at;
         side = k.side;
         registers = k.registers;
         stacks = k.stacks;
@@ -141,13 +142,13 @@ faulted_keeps s x fault k =
 call_tells : (s x : State) (course : Course) (stores : List Store) → Keeps s x.core → Quiet s x → HowEnded s (with_stores stores (faults x course Call))
 call_tells s x course stores k q =
     ByEntry (behind_call x) course (goes_on_at Call x.core.registers.pc)
-    (BehindCall x (record { stores = stores; ends = refl; side = k.side; masks = q.masks; exceptions = q.exceptions; first = q.first }) refl refl)
+    (BehindCall x (record { state = refl; cause = refl; side = k.side; masks = q.masks; exceptions = q.exceptions; first = q.first }) refl refl)
 
 faults_tell : (fault : Fault) (s x : State) (course : Course) (stores : List Store) → Keeps s x.core → Holds s x → CallsQuiet fault s x → Tells s (with_stores stores (faults x course fault))
 unfolding faults
 faults_tell Call s x course stores k w q e = call_tells s x course stores k q
 faults_tell fault s x course stores k w q e =
-    raise_tells s x course stores (faulted x.core.run.side fault x.core x.exceptions) x.core.registers.pc (faulted_keeps s x fault k) w (ap (λ (r : Registers). r.pc) k.registers) e
+    raise_tells s x course (faulted x.core.run.side fault x.core x.exceptions) (with_stores stores (faults x course fault)) x.core.registers.pc (faulted_keeps s x fault k) w (ap (λ (r : Registers). r.pc) k.registers) refl refl e
 
 -- ---- an instruction that faulted left registers and the Secure stack
 
@@ -357,7 +358,7 @@ ended_so s = by s.core.run.locked (takes_first s.exceptions s.core.masks) refl w
   by true u f e = cc
   by false true f e =
       ByEntry (awake s) (course_in s (is_secure s.core.run.side)) s.core.registers.pc
-      (AtCode (record { stores = []; ends = refl; side = refl; registers = refl; stacks = refl; whole = λ h. h }) refl)
+      (AtCode (record { state = refl; cause = refl; side = refl; registers = refl; stacks = refl; whole = λ h. h }) refl)
   by false false f e = sleep_tells s s.core.run.sleep f e
 
 pub taken_so : (s : State) → (ended s).ending.cause ≡ Taken → HowEnded s (ended s)
@@ -388,8 +389,8 @@ call_not s course = by (faulted s.core.run.side Call s.core s.exceptions) where
     by_locks false e = entry_not (from r) course (goes_on_at Call s.core.registers.pc) e
 
 entry_so : (s : State) (e : Ended) (from : State) (course : Course) (back : ℕ) → Entry s e from course back → e.ending.cause ≡ Resumed → ⊥
-entry_so s e from course back (AtCode i at) is = entry_not from course s.core.registers.pc (ap (λ (x : Ended). x.ending.cause) (sym i.ends) ∙ is)
-entry_so s e from course back (BehindCall x i same at) is = call_not x course (ap (λ (x : Ended). x.ending.cause) (sym i.ends) ∙ is)
+entry_so s e from course back (AtCode i at) is = entry_not from course s.core.registers.pc (sym i.cause ∙ is)
+entry_so s e from course back (BehindCall x i same at) is = call_not x course (sym i.cause ∙ is)
 
 pub returned_so : (s : State) → (ended s).ending.cause ≡ Resumed → IsReturn (ended s)
 returned_so s e = by (ended_so s (ap is_exceptional e)) where

@@ -46,10 +46,10 @@ pub record IsTyped (s : State) : Type 0 where
 -- ---- entries
 
 -- a step, after what it begins with, that is an entry from the code that ran: from its side, with its registers and its
--- Secure stacks, and the code is to go on at its PC. Stores that were made before stand
+-- Secure stacks, and the code is to go on at its PC
 pub record EntersBy (s : State) (e : Ended) (from : State) (course : Course) : Type 0 where
-  pub stores : List Store
-  pub ends : e ≡ with_stores stores (preempted from course s.core.registers.pc)
+  pub state : e.state ≡ (preempted from course s.core.registers.pc).state
+  pub cause : e.ending.cause ≡ (preempted from course s.core.registers.pc).ending.cause
   pub side : from.core.run.side ≡ s.core.run.side
   pub registers : from.core.registers ≡ s.core.registers
   pub stacks : from.core.stacks_s ≡ s.core.stacks_s
@@ -57,8 +57,8 @@ pub record EntersBy (s : State) (e : Ended) (from : State) (course : Course) : T
 
 -- a step that is SVC, which no exception came before: it changed nothing, and what it pends is entered
 pub record CallsBy (s : State) (e : Ended) (at : State) (course : Course) : Type 0 where
-  pub stores : List Store
-  pub ends : e ≡ with_stores stores (faults at course Call)
+  pub state : e.state ≡ (faults at course Call).state
+  pub cause : e.ending.cause ≡ (faults at course Call).ending.cause
   pub side : at.core.run.side ≡ s.core.run.side
   pub masks : at.core.masks ≡ s.core.masks
   pub exceptions : at.exceptions ≡ s.exceptions
