@@ -34,7 +34,7 @@ untied q a e = grind (arith, nat_tests)
 abbrev pub SameAddresses : Memory → Memory → Type 0
 SameAddresses m n = (a : ℕ) → is_some (get m a) ≡ is_some (get n a)
 
-byte_kept : (m : Memory) (a x : ℕ) → SameAddresses (with_byte m a x) m
+pub byte_kept : (m : Memory) (a x : ℕ) → SameAddresses (with_byte m a x) m
 unfolding with_byte
 byte_kept m a x c = go (get m a) refl where
   at_same : (t : Bool) → eq_by_cmp nat_cmp c a ≡ t → is_some (get m a) ≡ true → is_some (cond t (Some x) (get m c)) ≡ is_some (get m c)
@@ -433,7 +433,7 @@ zero_mapped rs c = ap is_some (get_zero rs c) ∙ go (is_mapped rs c) where
   go true = refl
   go false = refl
 
-zero_small : (rs : List Region) (c : ℕ) → byte_at (zero_memory rs) c < 256
+pub zero_small : (rs : List Region) (c : ℕ) → byte_at (zero_memory rs) c < 256
 zero_small rs c = subst (λ (o : Option ℕ). unwrap_or o 0 < 256) (sym (get_zero rs c)) (go (is_mapped rs c)) where
   go : (t : Bool) → unwrap_or (if t then Some 0 else None) 0 < 256
   go true = omega arith
@@ -441,7 +441,7 @@ zero_small rs c = subst (λ (o : Option ℕ). unwrap_or o 0 < 256) (sym (get_zer
 
 -- ---- bytes stay small
 
-byte_small : (m : Memory) (a x : ℕ) → x < 256 → ((c : ℕ) → byte_at m c < 256) → (c : ℕ) → byte_at (with_byte m a x) c < 256
+pub byte_small : (m : Memory) (a x : ℕ) → x < 256 → ((c : ℕ) → byte_at m c < 256) → (c : ℕ) → byte_at (with_byte m a x) c < 256
 unfolding with_byte
 byte_small m a x l small c = go (is_some (get m a)) where
   either : (t : Bool) → unwrap_or (cond t (Some x) (get m c)) 0 < 256

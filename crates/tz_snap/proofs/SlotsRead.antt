@@ -14,12 +14,12 @@ use Rattle.tz_core.specs.ReadWords.{IsSlotTold, slot_fits, slot_from, slot_writt
 use Rattle.tz_snap.proofs.FieldsRead.{at_index, first_of, passed, same_state}
 
 -- the word of what stands at a place
-abbrev number_at : SlotState → ℕ → ℕ
+abbrev pub number_at : SlotState → ℕ → ℕ
 number_at x i =
     x.priority + 2 ^ 8 * number_of x.pending + 2 ^ 9 * number_of x.active + 2 ^ 10 * number_of (is_always_enabled (exception_number i) || x.enabled)
     + 2 ^ 11 * side_number x.target
 
-abbrev slot_in : List SlotState → ℕ → SlotState
+abbrev pub slot_in : List SlotState → ℕ → SlotState
 slot_in xs i = slice_index_or xs i idle
 
 abbrev pub with_slots : State → List SlotState → State
@@ -264,6 +264,11 @@ board_places n m l =
         ),
       ),
     )
+
+pub place_below : (n : ℕ) (is : List ℕ) → ArePlaces is n → (k i : ℕ) → slice_get is k ≡ Some i → i < n
+place_below n [] p k i e = cc
+place_below n (j ∷ is) p zero i e = let same : j ≡ i = cc in let below = p.0 in omega arith
+place_below n (j ∷ is) p (suc k) i e = place_below n is p.2 k i e
 
 -- ---- a place is one of the board's exactly where a slot stands there
 
