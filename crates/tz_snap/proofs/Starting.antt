@@ -1,5 +1,5 @@
 -- The state in which a machine starts is one of its board.
-use Rattle.std.proofs.Common.{◌≡◌, ⊎_elim, ℕ, zero, suc, ◌+◌, ◌-◌, ◌*◌, ◌/◌, ◌%◌, ◌^◌, ◌<◌, ◌≤◌, ◌==◌, nat_le, nat_lt, Bool, true, false, not, ◌&&◌, ◌||◌, if◌then◌else◌, List, [], ◌∷◌, ◌++◌, length, map, Some, refl, sym, ap, ◌∙◌, subst, arith}
+use Rattle.std.proofs.Common.{◌≡◌, ℕ, zero, suc, ◌+◌, ◌-◌, ◌*◌, ◌/◌, ◌%◌, ◌^◌, ◌<◌, ◌≤◌, ◌==◌, nat_le, nat_lt, Bool, true, false, not, ◌&&◌, ◌||◌, if◌then◌else◌, List, [], ◌∷◌, ◌++◌, length, map, Some, refl, sym, ap, ◌∙◌, subst, arith}
 use Rattle.std.specs.Prelude.{replicate, slice_get, slice_set}
 use Rattle.std.proofs.lemmas.Bool.{and_parts, eqb-true, leb-true, ltb-true}
 use Rattle.std.proofs.lemmas.List.{length-replicate, set-get_or}
@@ -15,7 +15,6 @@ use Rattle.tz_regs.specs.Registers.{word_aligned}
 use Rattle.tz_regs.specs.Special.{number_of}
 use Rattle.tz_state.specs.declared.slot.SlotState.{SlotState}
 use Rattle.tz_state.specs.declared.units.Bounds.{Bounds}
-use Rattle.tz_state.specs.Access.{is_mapped}
 use Rattle.tz_state.specs.Memory.{Memory, byte_at, word_at, with_byte, with_bytes}
 use Rattle.tz_state.specs.Regions.{no_bounds}
 use Rattle.tz_state.specs.Slots.{idle, exception_number, first_interrupt_place, has_fixed_priority, is_always_enabled}
@@ -24,15 +23,14 @@ use Rattle.tz_state.specs.UnitRegisters.{bounds_at, bounds_of, reset_mpu, reset_
 use Rattle.tz_state.specs.Zeros.{zero_memory}
 use Rattle.tz_sem.specs.Boot.{boot, boot_memory, has_vectors, reset, with_segments}
 use Rattle.tz_core.specs.declared.fields.Field.{Field}
-use Rattle.tz_core.specs.declared.fields.Field.TheVariants.{Running, Banked, Shared}
+use Rattle.tz_core.specs.declared.fields.Field.TheVariants.{Running}
 use Rattle.tz_core.specs.declared.fields.RunningField.TheVariants as run
 use Rattle.tz_core.specs.Fields.{fields, slot_places, mpu_region_fields, sau_region_fields}
-use Rattle.tz_core.specs.StateWords.{slot_word}
 use Rattle.tz_core.specs.ReadWords.{IsState, IsTold, IsSlotTold, is_set, side_from, slot_from}
 use Rattle.tz_snap.specs.FileWords.{AreBytes, HasBytes}
-use Rattle.tz_snap.proofs.AllFields.{starts_of, IsGrouped, grouped_all, HasUnits}
+use Rattle.tz_snap.proofs.AllFields.{starts_of, grouped_all}
 use Rattle.tz_snap.proofs.FieldsRead.{Each}
-use Rattle.tz_snap.proofs.Groups.{core_fields, monitor_fields, side_first, side_last, both_first, both_last}
+use Rattle.tz_snap.proofs.Groups.{core_fields, side_first, side_last, both_first, both_last}
 use Rattle.tz_snap.proofs.MemoryRead.{SameAddresses, byte_kept, byte_small, zero_mapped, zero_small}
 use Rattle.tz_snap.proofs.SlotsRead.{board_places, number_at, place_below, slot_in, with_slots}
 use Rattle.tz_snap.proofs.StateFits.{word_fits}
@@ -80,17 +78,23 @@ mpu_tells side s none zero k j = tt
 mpu_tells Secure s none (suc n) k j =
     let rs = s.bus.mpu_s.regions in
     let rbar : (bounds_at rs j).rbar ≡ 0 = ap (λ (r : Bounds). r.rbar) (none j) in
-    let rlar : (bounds_at rs j).rlar ≡ 0 = ap (λ (r : Bounds). r.rlar) (none j) in
-    ((omega arith, ap (with_mpu_bounds s Secure) (set_at rs j)),
-    ((omega arith, ap (λ (w : ℕ). with_mpu_bounds s Secure (with_rlar rs j w)) (mpu_rlar_back s.bus.board.profile (bounds_at rs j) (none j)) ∙ ap (with_mpu_bounds s Secure) (set_at rs j)),
-    mpu_tells Secure s none n (k + 1 + 1) (j + 1)))
+    let rlar : (bounds_at rs j).rlar ≡ 0 = ap (λ (r : Bounds). r.rlar) (none j) in (
+      (omega arith, ap (with_mpu_bounds s Secure) (set_at rs j)),
+      (
+        (omega arith, ap (λ (w : ℕ). with_mpu_bounds s Secure (with_rlar rs j w)) (mpu_rlar_back s.bus.board.profile (bounds_at rs j) (none j)) ∙ ap (with_mpu_bounds s Secure) (set_at rs j)),
+        mpu_tells Secure s none n (k + 1 + 1) (j + 1),
+      ),
+    )
 mpu_tells NonSecure s none (suc n) k j =
     let rs = s.bus.mpu_ns.regions in
     let rbar : (bounds_at rs j).rbar ≡ 0 = ap (λ (r : Bounds). r.rbar) (none j) in
-    let rlar : (bounds_at rs j).rlar ≡ 0 = ap (λ (r : Bounds). r.rlar) (none j) in
-    ((omega arith, ap (with_mpu_bounds s NonSecure) (set_at rs j)),
-    ((omega arith, ap (λ (w : ℕ). with_mpu_bounds s NonSecure (with_rlar rs j w)) (mpu_rlar_back s.bus.board.profile (bounds_at rs j) (none j)) ∙ ap (with_mpu_bounds s NonSecure) (set_at rs j)),
-    mpu_tells NonSecure s none n (k + 1 + 1) (j + 1)))
+    let rlar : (bounds_at rs j).rlar ≡ 0 = ap (λ (r : Bounds). r.rlar) (none j) in (
+      (omega arith, ap (with_mpu_bounds s NonSecure) (set_at rs j)),
+      (
+        (omega arith, ap (λ (w : ℕ). with_mpu_bounds s NonSecure (with_rlar rs j w)) (mpu_rlar_back s.bus.board.profile (bounds_at rs j) (none j)) ∙ ap (with_mpu_bounds s NonSecure) (set_at rs j)),
+        mpu_tells NonSecure s none n (k + 1 + 1) (j + 1),
+      ),
+    )
 
 -- what a region of the SAU can hold
 record IsSauBounds (x : Bounds) : Type 0 where
@@ -130,10 +134,13 @@ unfolding sau_region_fields
 sau_tells s each zero k j = tt
 sau_tells s each (suc n) k j =
     let rs = s.bus.sau.regions in
-    let x = each j in
-    ((x.rbar, ap (λ (w : ℕ). with_sau_bounds s (with_rbar rs j w)) x.base ∙ ap (with_sau_bounds s) (set_at rs j)),
-    ((x.rlar, ap (λ (w : ℕ). with_sau_bounds s (with_rlar rs j w)) x.limit ∙ ap (with_sau_bounds s) (set_at rs j)),
-    sau_tells s each n (k + 1 + 1) (j + 1)))
+    let x = each j in (
+      (x.rbar, ap (λ (w : ℕ). with_sau_bounds s (with_rbar rs j w)) x.base ∙ ap (with_sau_bounds s) (set_at rs j)),
+      (
+        (x.rlar, ap (λ (w : ℕ). with_sau_bounds s (with_rlar rs j w)) x.limit ∙ ap (with_sau_bounds s) (set_at rs j)),
+        sau_tells s each n (k + 1 + 1) (j + 1),
+      ),
+    )
 
 started_fits : (rs : List SauRegion) → started rs < 2 ^ 32
 started_fits [] = omega arith
@@ -204,10 +211,58 @@ module _ (b : BoardValue) (m : Memory) (sp start : ℕ) (locked : Bool) (board :
   core_tells : Each (Tells s) core_fields 0
   core_tells =
       let n : 0 < 2 ^ 32 = omega arith in
-      let even : even_of (even_of start) ≡ even_of start = omega arith in
-      ((n, refl), ((flag_fits locked, ap (λ (x : Bool). with_core s (record s.core { run = record s.core.run { locked = x } })) (flag_back locked)), ((n, refl), ((n, refl),
-      ((n, refl), ((n, refl), ((n, refl), ((n, refl), ((n, refl), ((n, refl), ((n, refl), ((n, refl), ((n, refl), ((n, refl), ((n, refl), ((n, refl), ((n, refl),
-      ((omega arith, refl), ((omega arith, ap (λ (x : ℕ). with_registers s (record s.core.registers { pc = x })) even), (xpsr_told s (start % 2 == 1), tt))))))))))))))))))))
+      let even : even_of (even_of start) ≡ even_of start = omega arith in (
+        (n, refl),
+        (
+          (flag_fits locked, ap (λ (x : Bool). with_core s (record s.core { run = record s.core.run { locked = x } })) (flag_back locked)),
+          (
+            (n, refl),
+            (
+              (n, refl),
+              (
+                (n, refl),
+                (
+                  (n, refl),
+                  (
+                    (n, refl),
+                    (
+                      (n, refl),
+                      (
+                        (n, refl),
+                        (
+                          (n, refl),
+                          (
+                            (n, refl),
+                            (
+                              (n, refl),
+                              (
+                                (n, refl),
+                                (
+                                  (n, refl),
+                                  (
+                                    (n, refl),
+                                    (
+                                      (n, refl),
+                                      (
+                                        (n, refl),
+                                        ((omega arith, refl), ((omega arith, ap (λ (x : ℕ). with_registers s (record s.core.registers { pc = x })) even), (xpsr_told s (start % 2 == 1), tt))),
+                                      ),
+                                    ),
+                                  ),
+                                ),
+                              ),
+                            ),
+                          ),
+                        ),
+                      ),
+                    ),
+                  ),
+                ),
+              ),
+            ),
+          ),
+        ),
+      )
 
   secure_tells : Each (Tells s) (side_first Secure) 22
   unfolding reset_mpu
@@ -217,10 +272,34 @@ module _ (b : BoardValue) (m : Memory) (sp start : ℕ) (locked : Bool) (board :
       let vtor = and_parts (is_multiple 128 b.secure_vtor) (nat_lt b.secure_vtor (2 ^ 32)) (and_parts (is_vtor b.secure_vtor) (is_vtor b.nonsecure_vtor) board.vtors).0 in
       let low = ltb-true b.secure_vtor (2 ^ 32) vtor.1 in
       let multiple = eqb-true (b.secure_vtor % 128) 0 vtor.0 in
-      let whole : b.secure_vtor / 128 * 128 ≡ b.secure_vtor = omega arith in
-      ((omega arith, ap (λ (x : ℕ). with_core s (record s.core { stacks_s = record s.core.stacks_s { msp = x } })) aligned), ((n, refl), ((n, refl), ((n, refl), ((n, refl), ((n, refl), ((n, refl), ((n, refl),
-      ((low, ap (λ (x : ℕ). with_core s (record s.core { status = record s.core.status { s = record s.core.status.s { vtor = x } } })) whole),
-      ((n, refl), ((n, refl), ((n, refl), ((n, refl), ((n, refl), ((n, refl), ((n, refl), ((n, refl), ((n, refl), tt))))))))))))))))))
+      let whole : b.secure_vtor / 128 * 128 ≡ b.secure_vtor = omega arith in (
+        (omega arith, ap (λ (x : ℕ). with_core s (record s.core { stacks_s = record s.core.stacks_s { msp = x } })) aligned),
+        (
+          (n, refl),
+          (
+            (n, refl),
+            (
+              (n, refl),
+              (
+                (n, refl),
+                (
+                  (n, refl),
+                  (
+                    (n, refl),
+                    (
+                      (n, refl),
+                      (
+                        (low, ap (λ (x : ℕ). with_core s (record s.core { status = record s.core.status { s = record s.core.status.s { vtor = x } } })) whole),
+                        ((n, refl), ((n, refl), ((n, refl), ((n, refl), ((n, refl), ((n, refl), ((n, refl), ((n, refl), ((n, refl), tt))))))))),
+                      ),
+                    ),
+                  ),
+                ),
+              ),
+            ),
+          ),
+        ),
+      )
 
   nonsecure_tells : (k : ℕ) → Each (Tells s) (side_first NonSecure) k
   unfolding reset_mpu
@@ -229,10 +308,34 @@ module _ (b : BoardValue) (m : Memory) (sp start : ℕ) (locked : Bool) (board :
       let vtor = and_parts (is_multiple 128 b.nonsecure_vtor) (nat_lt b.nonsecure_vtor (2 ^ 32)) (and_parts (is_vtor b.secure_vtor) (is_vtor b.nonsecure_vtor) board.vtors).1 in
       let low = ltb-true b.nonsecure_vtor (2 ^ 32) vtor.1 in
       let multiple = eqb-true (b.nonsecure_vtor % 128) 0 vtor.0 in
-      let whole : b.nonsecure_vtor / 128 * 128 ≡ b.nonsecure_vtor = omega arith in
-      ((n, refl), ((n, refl), ((n, refl), ((n, refl), ((n, refl), ((n, refl), ((n, refl), ((n, refl),
-      ((low, ap (λ (x : ℕ). with_core s (record s.core { status = record s.core.status { ns = record s.core.status.ns { vtor = x } } })) whole),
-      ((n, refl), ((n, refl), ((n, refl), ((n, refl), ((n, refl), ((n, refl), ((n, refl), ((n, refl), ((n, refl), tt))))))))))))))))))
+      let whole : b.nonsecure_vtor / 128 * 128 ≡ b.nonsecure_vtor = omega arith in (
+        (n, refl),
+        (
+          (n, refl),
+          (
+            (n, refl),
+            (
+              (n, refl),
+              (
+                (n, refl),
+                (
+                  (n, refl),
+                  (
+                    (n, refl),
+                    (
+                      (n, refl),
+                      (
+                        (low, ap (λ (x : ℕ). with_core s (record s.core { status = record s.core.status { ns = record s.core.status.ns { vtor = x } } })) whole),
+                        ((n, refl), ((n, refl), ((n, refl), ((n, refl), ((n, refl), ((n, refl), ((n, refl), ((n, refl), ((n, refl), tt))))))))),
+                      ),
+                    ),
+                  ),
+                ),
+              ),
+            ),
+          ),
+        ),
+      )
 
   timer_tells : (side : Side) (k : ℕ) → Each (Tells s) (side_last side) k
   timer_tells Secure k = let n : 0 < 2 ^ 32 = omega arith in ((n, refl), ((n, refl), ((n, refl), tt)))
