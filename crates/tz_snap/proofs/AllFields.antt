@@ -85,6 +85,12 @@ mpu_end side n k l e = let count = mpu_count side n in omega arith
 sau_end : (n k l : ℕ) → k + 2 * n ≡ l → k + length (sau_fields 0 n) ≡ l
 sau_end n k l e = let count = sau_count n in omega arith
 
+secure_mpu_end : (b : BoardValue) → (starts_of b).secure_mpu + length (mpu_fields Secure 0 b.mpu_secure) ≡ (starts_of b).secure_timer
+secure_mpu_end b = mpu_end Secure b.mpu_secure (starts_of b).secure_mpu (starts_of b).secure_timer refl
+
+nonsecure_mpu_end : (b : BoardValue) → (starts_of b).nonsecure_mpu + length (mpu_fields NonSecure 0 b.mpu_nonsecure) ≡ (starts_of b).nonsecure_timer
+nonsecure_mpu_end b = mpu_end NonSecure b.mpu_nonsecure (starts_of b).nonsecure_mpu (starts_of b).nonsecure_timer refl
+
 -- the regions that the words give
 abbrev pub units_from : (ℕ → ℕ) → BoardValue → Units
 units_from v b =
@@ -123,10 +129,10 @@ grouped_all P b h =
     let a = each_both P (sau_fields 0 b.sau_regions) both_last k.sau k.last (sau_end b.sau_regions k.sau k.last refl) h.sau g.last in
     let c = each_both P both_first (from_sau b) k.shared k.sau (omega arith) g.shared a in
     let d = each_both P (side_last NonSecure) (both_first ++ from_sau b) k.nonsecure_timer k.shared (omega arith) g.nonsecure_timer c in
-    let e = each_both P (mpu_fields NonSecure 0 b.mpu_nonsecure) (from_nonsecure_timer b) k.nonsecure_mpu k.nonsecure_timer (mpu_end NonSecure b.mpu_nonsecure k.nonsecure_mpu k.nonsecure_timer refl) h.nonsecure d in
+    let e = each_both P (mpu_fields NonSecure 0 b.mpu_nonsecure) (from_nonsecure_timer b) k.nonsecure_mpu k.nonsecure_timer (nonsecure_mpu_end b) h.nonsecure d in
     let f = each_both P (side_first NonSecure) (from_nonsecure_mpu b) k.nonsecure k.nonsecure_mpu (omega arith) g.nonsecure e in
     let i = each_both P (side_last Secure) (side_first NonSecure ++ from_nonsecure_mpu b) k.secure_timer k.nonsecure (omega arith) g.secure_timer f in
-    let j = each_both P (mpu_fields Secure 0 b.mpu_secure) (from_secure_timer b) k.secure_mpu k.secure_timer (mpu_end Secure b.mpu_secure k.secure_mpu k.secure_timer refl) h.secure i in
+    let j = each_both P (mpu_fields Secure 0 b.mpu_secure) (from_secure_timer b) k.secure_mpu k.secure_timer (secure_mpu_end b) h.secure i in
     let l = each_both P (side_first Secure) (from_secure_mpu b) k.secure k.secure_mpu (omega arith) g.secure j in
     let m = each_both P monitor_fields (side_first Secure ++ from_secure_mpu b) k.monitor k.secure (omega arith) h.monitor l in
     let all = each_both P core_fields (monitor_fields ++ (side_first Secure ++ from_secure_mpu b)) k.core k.monitor (omega arith) g.core m in
@@ -139,10 +145,10 @@ all_grouped P b h =
     let a = each_apart P core_fields (monitor_fields ++ (side_first Secure ++ from_secure_mpu b)) k.core k.monitor (omega arith) all in
     let c = each_apart P monitor_fields (side_first Secure ++ from_secure_mpu b) k.monitor k.secure (omega arith) a.1 in
     let d = each_apart P (side_first Secure) (from_secure_mpu b) k.secure k.secure_mpu (omega arith) c.1 in
-    let e = each_apart P (mpu_fields Secure 0 b.mpu_secure) (from_secure_timer b) k.secure_mpu k.secure_timer (mpu_end Secure b.mpu_secure k.secure_mpu k.secure_timer refl) d.1 in
+    let e = each_apart P (mpu_fields Secure 0 b.mpu_secure) (from_secure_timer b) k.secure_mpu k.secure_timer (secure_mpu_end b) d.1 in
     let f = each_apart P (side_last Secure) (side_first NonSecure ++ from_nonsecure_mpu b) k.secure_timer k.nonsecure (omega arith) e.1 in
     let i = each_apart P (side_first NonSecure) (from_nonsecure_mpu b) k.nonsecure k.nonsecure_mpu (omega arith) f.1 in
-    let j = each_apart P (mpu_fields NonSecure 0 b.mpu_nonsecure) (from_nonsecure_timer b) k.nonsecure_mpu k.nonsecure_timer (mpu_end NonSecure b.mpu_nonsecure k.nonsecure_mpu k.nonsecure_timer refl) i.1 in
+    let j = each_apart P (mpu_fields NonSecure 0 b.mpu_nonsecure) (from_nonsecure_timer b) k.nonsecure_mpu k.nonsecure_timer (nonsecure_mpu_end b) i.1 in
     let l = each_apart P (side_last NonSecure) (both_first ++ from_sau b) k.nonsecure_timer k.shared (omega arith) j.1 in
     let m = each_apart P both_first (from_sau b) k.shared k.sau (omega arith) l.1 in
     let n = each_apart P (sau_fields 0 b.sau_regions) both_last k.sau k.last (sau_end b.sau_regions k.sau k.last refl) m.1 in
@@ -195,11 +201,11 @@ module _ (v : ℕ → ℕ) (t : State) (rs : List ℕ) (has : HasUnits t.bus.boa
       ∙ written_both v core_fields (monitor_fields ++ (side_first Secure ++ from_secure_mpu b)) k.core k.monitor ready (omega arith)
       ∙ written_both v monitor_fields (side_first Secure ++ from_secure_mpu b) k.monitor k.secure (core_done v k units ready) (omega arith)
       ∙ written_both v (side_first Secure) (from_secure_mpu b) k.secure k.secure_mpu (monitor_done v k units ready) (omega arith)
-      ∙ written_both v (mpu_fields Secure 0 b.mpu_secure) (from_secure_timer b) k.secure_mpu k.secure_timer (secure_done v k units ready) (mpu_end Secure b.mpu_secure k.secure_mpu k.secure_timer refl)
+      ∙ written_both v (mpu_fields Secure 0 b.mpu_secure) (from_secure_timer b) k.secure_mpu k.secure_timer (secure_done v k units ready) (secure_mpu_end b)
       ∙ ap (written_by v (from_secure_timer b) k.secure_timer) (secure_is h)
       ∙ written_both v (side_last Secure) (side_first NonSecure ++ from_nonsecure_mpu b) k.secure_timer k.nonsecure (secure_mpu_done v k units ready) (omega arith)
       ∙ written_both v (side_first NonSecure) (from_nonsecure_mpu b) k.nonsecure k.nonsecure_mpu (secure_timer_done v k units ready) (omega arith)
-      ∙ written_both v (mpu_fields NonSecure 0 b.mpu_nonsecure) (from_nonsecure_timer b) k.nonsecure_mpu k.nonsecure_timer (nonsecure_done v k units ready) (mpu_end NonSecure b.mpu_nonsecure k.nonsecure_mpu k.nonsecure_timer refl)
+      ∙ written_both v (mpu_fields NonSecure 0 b.mpu_nonsecure) (from_nonsecure_timer b) k.nonsecure_mpu k.nonsecure_timer (nonsecure_done v k units ready) (nonsecure_mpu_end b)
       ∙ ap (written_by v (from_nonsecure_timer b) k.nonsecure_timer) (nonsecure_is h)
       ∙ written_both v (side_last NonSecure) (both_first ++ from_sau b) k.nonsecure_timer k.shared (nonsecure_mpu_done v k units ready) (omega arith)
       ∙ written_both v both_first (from_sau b) k.shared k.sau (nonsecure_timer_done v k units ready) (omega arith)
@@ -221,14 +227,15 @@ module _ (v : ℕ → ℕ) (t : State) (rs : List ℕ) (has : HasUnits t.bus.boa
       let c = fit_apart v monitor_fields (side_first Secure ++ from_secure_mpu b) k.monitor k.secure (core_done v k units ready) (omega arith) a.1 in
       let d = fit_apart v (side_first Secure) (from_secure_mpu b) k.secure k.secure_mpu (monitor_done v k units ready) (omega arith) c.1 in
       let before = secure_done v k units ready in
-      let e = fit_apart v (mpu_fields Secure 0 b.mpu_secure) (from_secure_timer b) k.secure_mpu k.secure_timer before (mpu_end Secure b.mpu_secure k.secure_mpu k.secure_timer refl) d.1 in
+      let e = fit_apart v (mpu_fields Secure 0 b.mpu_secure) (from_secure_timer b) k.secure_mpu k.secure_timer before (secure_mpu_end b) d.1 in
       let kept_s = kept_fit all_bits (rlar_bits b.profile) v b.mpu_secure k.secure_mpu 0 t.bus.mpu_s.regions (omega (arith, has.secure)) (mpu_fit v Secure b.mpu_secure k.secure_mpu 0 before e.0) in
       let on = subst (Fit v (from_secure_timer b) k.secure_timer) (mpu_done v Secure b.mpu_secure k.secure_mpu before has.secure kept_s) e.1 in
       let f = fit_apart v (side_last Secure) (side_first NonSecure ++ from_nonsecure_mpu b) k.secure_timer k.nonsecure (secure_mpu_done v k units ready) (omega arith) on in
       let i = fit_apart v (side_first NonSecure) (from_nonsecure_mpu b) k.nonsecure k.nonsecure_mpu (secure_timer_done v k units ready) (omega arith) f.1 in
       let before_ns = nonsecure_done v k units ready in
-      let j = fit_apart v (mpu_fields NonSecure 0 b.mpu_nonsecure) (from_nonsecure_timer b) k.nonsecure_mpu k.nonsecure_timer before_ns (mpu_end NonSecure b.mpu_nonsecure k.nonsecure_mpu k.nonsecure_timer refl) i.1 in
-      let kept_ns = kept_fit all_bits (rlar_bits b.profile) v b.mpu_nonsecure k.nonsecure_mpu 0 t.bus.mpu_ns.regions (omega (arith, has.nonsecure)) (mpu_fit v NonSecure b.mpu_nonsecure k.nonsecure_mpu 0 before_ns j.0) in
+      let j = fit_apart v (mpu_fields NonSecure 0 b.mpu_nonsecure) (from_nonsecure_timer b) k.nonsecure_mpu k.nonsecure_timer before_ns (nonsecure_mpu_end b) i.1 in
+      let fit_ns = mpu_fit v NonSecure b.mpu_nonsecure k.nonsecure_mpu 0 before_ns j.0 in
+      let kept_ns = kept_fit all_bits (rlar_bits b.profile) v b.mpu_nonsecure k.nonsecure_mpu 0 t.bus.mpu_ns.regions (omega (arith, has.nonsecure)) fit_ns in
       let on_ns = subst (Fit v (from_nonsecure_timer b) k.nonsecure_timer) (mpu_done v NonSecure b.mpu_nonsecure k.nonsecure_mpu before_ns has.nonsecure kept_ns) j.1 in
       let l = fit_apart v (side_last NonSecure) (both_first ++ from_sau b) k.nonsecure_timer k.shared (nonsecure_mpu_done v k units ready) (omega arith) on_ns in
       let m = fit_apart v both_first (from_sau b) k.shared k.sau (nonsecure_timer_done v k units ready) (omega arith) l.1 in
@@ -254,14 +261,16 @@ module _ (v : ℕ → ℕ) (t : State) (rs : List ℕ) (has : HasUnits t.bus.boa
       let c = fit_both v both_first (from_sau b) k.shared k.sau (nonsecure_timer_done v k units ready) (omega arith) g.shared a in
       let d = fit_both v (side_last NonSecure) (both_first ++ from_sau b) k.nonsecure_timer k.shared (nonsecure_mpu_done v k units ready) (omega arith) g.nonsecure_timer c in
       let before_ns = nonsecure_done v k units ready in
-      let ns_fit = fit_mpu v NonSecure b.mpu_nonsecure k.nonsecure_mpu 0 before_ns (fit_kept all_bits (rlar_bits b.profile) v b.mpu_nonsecure k.nonsecure_mpu 0 t.bus.mpu_ns.regions (omega (arith, has.nonsecure)) u.nonsecure) in
-      let e = fit_both v (mpu_fields NonSecure 0 b.mpu_nonsecure) (from_nonsecure_timer b) k.nonsecure_mpu k.nonsecure_timer before_ns (mpu_end NonSecure b.mpu_nonsecure k.nonsecure_mpu k.nonsecure_timer refl) ns_fit
+      let ns_bounds = fit_kept all_bits (rlar_bits b.profile) v b.mpu_nonsecure k.nonsecure_mpu 0 t.bus.mpu_ns.regions (omega (arith, has.nonsecure)) u.nonsecure in
+      let ns_fit = fit_mpu v NonSecure b.mpu_nonsecure k.nonsecure_mpu 0 before_ns ns_bounds in
+      let e = fit_both v (mpu_fields NonSecure 0 b.mpu_nonsecure) (from_nonsecure_timer b) k.nonsecure_mpu k.nonsecure_timer before_ns (nonsecure_mpu_end b) ns_fit
       (subst (Fit v (from_nonsecure_timer b) k.nonsecure_timer) (sym (nonsecure_is u)) d) in
       let f = fit_both v (side_first NonSecure) (from_nonsecure_mpu b) k.nonsecure k.nonsecure_mpu (secure_timer_done v k units ready) (omega arith) g.nonsecure e in
       let i = fit_both v (side_last Secure) (side_first NonSecure ++ from_nonsecure_mpu b) k.secure_timer k.nonsecure (secure_mpu_done v k units ready) (omega arith) g.secure_timer f in
       let before = secure_done v k units ready in
-      let s_fit = fit_mpu v Secure b.mpu_secure k.secure_mpu 0 before (fit_kept all_bits (rlar_bits b.profile) v b.mpu_secure k.secure_mpu 0 t.bus.mpu_s.regions (omega (arith, has.secure)) u.secure) in
-      let j = fit_both v (mpu_fields Secure 0 b.mpu_secure) (from_secure_timer b) k.secure_mpu k.secure_timer before (mpu_end Secure b.mpu_secure k.secure_mpu k.secure_timer refl) s_fit
+      let s_bounds = fit_kept all_bits (rlar_bits b.profile) v b.mpu_secure k.secure_mpu 0 t.bus.mpu_s.regions (omega (arith, has.secure)) u.secure in
+      let s_fit = fit_mpu v Secure b.mpu_secure k.secure_mpu 0 before s_bounds in
+      let j = fit_both v (mpu_fields Secure 0 b.mpu_secure) (from_secure_timer b) k.secure_mpu k.secure_timer before (secure_mpu_end b) s_fit
       (subst (Fit v (from_secure_timer b) k.secure_timer) (sym (secure_is u)) i) in
       let l = fit_both v (side_first Secure) (from_secure_mpu b) k.secure k.secure_mpu (monitor_done v k units ready) (omega arith) g.secure j in
       let m = fit_both v monitor_fields (side_first Secure ++ from_secure_mpu b) k.monitor k.secure (core_done v k units ready) (omega arith) h.monitor l in

@@ -33,7 +33,8 @@ told_apart b s t n m board h i few few' e =
 by_index : (bytes : List ℕ) → AreBytes bytes → (k x : ℕ) → slice_get bytes k ≡ Some x → x < 256
 by_index bytes h k x e = let same = get_or_from_slice_get bytes k x 0 e in let below = h k in omega arith
 
-pub read_only : (b : BoardValue) (bytes : List ℕ) (x : SavedState) → (((k w : ℕ) → slice_get bytes k ≡ Some w → w < 256) → AreWords (words_of bytes)) → IsBoard b → AreBytes bytes → saved_of b bytes ≡ Ok x
+pub read_only : (b : BoardValue) (bytes : List ℕ) (x : SavedState) → (((k w : ℕ) → slice_get bytes k ≡ Some w → w < 256) → AreWords (words_of bytes)) → IsBoard b → AreBytes bytes
+    → saved_of b bytes ≡ Ok x
     → (bytes ≡ file_of x.state x.step) × IsState b x.state × (x.step ≤ most_steps)
 unfolding file_of file_words
 read_only b bytes x words board all e =

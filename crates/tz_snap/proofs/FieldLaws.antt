@@ -65,12 +65,14 @@ module _ (v : ℕ → ℕ) (t : State) (rs : List ℕ) (has : HasUnits t.bus.boa
       let nonsecure = mpu_told v NonSecure b.mpu_nonsecure k.nonsecure_mpu 0 s h.nonsecure in
       let sau = sau_told v b.sau_regions k.sau 0 s h.sau in
       let profile : s.bus.board.profile ≡ b.profile = ap (λ (x : BoardValue). x.profile) board in
+      let secure_settled = mpu_settled v Secure b.mpu_secure k.secure_mpu 0 s i.secure in
+      let nonsecure_settled = mpu_settled v NonSecure b.mpu_nonsecure k.nonsecure_mpu 0 s i.nonsecure in
       let kept : UnitsKept v b =
       record {
         secure = subst (λ (p : Profile). Kept all_bits (rlar_bits p) v k.secure_mpu b.mpu_secure) profile
-            (kept_settled all_bits (rlar_bits s.bus.board.profile) v b.mpu_secure k.secure_mpu 0 s.bus.mpu_s.regions (omega (arith, units.secure)) secure (mpu_settled v Secure b.mpu_secure k.secure_mpu 0 s i.secure));
+            (kept_settled all_bits (rlar_bits s.bus.board.profile) v b.mpu_secure k.secure_mpu 0 s.bus.mpu_s.regions (omega (arith, units.secure)) secure secure_settled);
         nonsecure = subst (λ (p : Profile). Kept all_bits (rlar_bits p) v k.nonsecure_mpu b.mpu_nonsecure) profile
-            (kept_settled all_bits (rlar_bits s.bus.board.profile) v b.mpu_nonsecure k.nonsecure_mpu 0 s.bus.mpu_ns.regions (omega (arith, units.nonsecure)) nonsecure (mpu_settled v NonSecure b.mpu_nonsecure k.nonsecure_mpu 0 s i.nonsecure));
+            (kept_settled all_bits (rlar_bits s.bus.board.profile) v b.mpu_nonsecure k.nonsecure_mpu 0 s.bus.mpu_ns.regions (omega (arith, units.nonsecure)) nonsecure nonsecure_settled);
         sau = kept_settled sau_rbar_bits sau_rlar_bits v b.sau_regions k.sau 0 s.bus.sau.regions (omega (arith, units.sau)) sau (sau_settled v b.sau_regions k.sau 0 s i.sau);
       }
       in

@@ -59,7 +59,8 @@ passed false k r u e = cc
 pub same_state : (s u : State) → ◌≡◌ {A = Result State ℕ} (Ok s) (Ok u) → s ≡ u
 same_state s u e = cc
 
-pub read_fit : (ws : List ℕ) (fs : List Field) (k : ℕ) (s u : State) → k + length fs ≤ length ws → read_fields fs (drop k ws) k s ≡ Ok u → Fit (slice_index ws) fs k s × (written_by (slice_index ws) fs k s ≡ u)
+pub read_fit : (ws : List ℕ) (fs : List Field) (k : ℕ) (s u : State) → k + length fs ≤ length ws → read_fields fs (drop k ws) k s ≡ Ok u
+    → Fit (slice_index ws) fs k s × (written_by (slice_index ws) fs k s ≡ u)
 unfolding read_fields
 read_fit ws [] k s u l e = (tt, same_state s u e)
 read_fit ws (f ∷ fs) k s u l e =

@@ -132,7 +132,8 @@ pub record InGroups (P : ℕ → Field → Type 0) (k : Starts) : Type 0 where
   pub last : Each P both_last k.last
 
 -- in the end slots are written, too
-pub groups_told : (v : ℕ → ℕ) (k : Starts) (u : Units) (s : State) (rs : List ℕ) (xs : List SlotState) → GroupsFit v k u (readied s (thirteen rs)) → InGroups (Has v (with_slots (all_done v k u (readied s (thirteen rs))) xs)) k
+pub groups_told : (v : ℕ → ℕ) (k : Starts) (u : Units) (s : State) (rs : List ℕ) (xs : List SlotState) → GroupsFit v k u (readied s (thirteen rs))
+    → InGroups (Has v (with_slots (all_done v k u (readied s (thirteen rs))) xs)) k
 groups_told v k u s rs xs h = record { core = h.core; secure = h.secure; secure_timer = h.secure_timer; nonsecure = h.nonsecure; nonsecure_timer = h.nonsecure_timer; shared = h.shared; last = h.last }
 
 pub groups_fit : (v : ℕ → ℕ) (k : Starts) (u : Units) (s : State) (rs : List ℕ) → InGroups (Has v (all_done v k u (readied s (thirteen rs)))) k → GroupsFit v k u (readied s (thirteen rs))
@@ -207,7 +208,8 @@ abbrev opened : State → List ℕ → State
 opened s rs = with_registers s (record s.core.registers { general = rs })
 
 module _ (v : ℕ → ℕ) (k : Starts) (u : Units) where
-  pub monitor_told : (s : State) (rs : List ℕ) (xs : List SlotState) → Fit v monitor_fields k.monitor (core_done v k u (readied s (thirteen rs))) → Each (Has v (with_slots (all_done v k u (readied s (thirteen rs))) xs)) monitor_fields k.monitor
+  pub monitor_told : (s : State) (rs : List ℕ) (xs : List SlotState) → Fit v monitor_fields k.monitor (core_done v k u (readied s (thirteen rs)))
+      → Each (Has v (with_slots (all_done v k u (readied s (thirteen rs))) xs)) monitor_fields k.monitor
   monitor_told s rs xs h = (size_kept (held_from 0 (v k.monitor)) (v (k.monitor + 1)) ∙ h.0, (h.1.0, tt))
 
   monitor_settled_of : (s : State) → Each (Has v s) monitor_fields k.monitor → Each (Leaves v s) monitor_fields k.monitor
@@ -217,7 +219,8 @@ module _ (v : ℕ → ℕ) (k : Starts) (u : Units) where
         (ap (λ (x : Option Exclusive). with_bus s (with_monitor s.bus x)) (ap (with_held_address m) (sym h.1.0) ∙ address_back m), tt),
       )
 
-  pub monitor_settled : (s : State) (rs : List ℕ) (xs : List SlotState) → Fit v monitor_fields k.monitor (core_done v k u (readied s (thirteen rs))) → Each (Leaves v (with_slots (all_done v k u (readied s (thirteen rs))) xs)) monitor_fields k.monitor
+  pub monitor_settled : (s : State) (rs : List ℕ) (xs : List SlotState) → Fit v monitor_fields k.monitor (core_done v k u (readied s (thirteen rs)))
+      → Each (Leaves v (with_slots (all_done v k u (readied s (thirteen rs))) xs)) monitor_fields k.monitor
   monitor_settled s rs xs h = monitor_settled_of (with_slots (all_done v k u (readied s (thirteen rs))) xs) (monitor_told s rs xs h)
 
   pub monitor_fit : (t s : State) (rs : List ℕ) → Each (Has v s) monitor_fields k.monitor → Fit v monitor_fields k.monitor (core_done v k u (readied t (thirteen rs)))

@@ -17,3 +17,4 @@ pub mod FieldLaws
 pub mod SlotsRead
 pub mod MemoryRead
 pub mod WordLaws
+pub mod Starting

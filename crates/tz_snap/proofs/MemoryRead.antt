@@ -34,7 +34,7 @@ untied q a e = grind (arith, nat_tests)
 abbrev pub SameAddresses : Memory → Memory → Type 0
 SameAddresses m n = (a : ℕ) → is_some (get m a) ≡ is_some (get n a)
 
-byte_kept : (m : Memory) (a x : ℕ) → SameAddresses (with_byte m a x) m
+pub byte_kept : (m : Memory) (a x : ℕ) → SameAddresses (with_byte m a x) m
 unfolding with_byte
 byte_kept m a x c = go (get m a) refl where
   at_same : (t : Bool) → eq_by_cmp nat_cmp c a ≡ t → is_some (get m a) ≡ true → is_some (cond t (Some x) (get m c)) ≡ is_some (get m c)
@@ -216,7 +216,8 @@ word_copied m n a l small there c low high =
     by_place put h0 h1 h2 h3 (inr x) (inr y) (inl z) = at put (a + 2) c (omega arith) h2
     by_place put h0 h1 h2 h3 (inr x) (inr y) (inr z) = at put (a + 3) c (omega arith) h3
 
-words_copied : (m n : Memory) (a k : ℕ) (more : List ℕ) → a + 4 * k ≤ 2 ^ 32 → ((c : ℕ) → byte_at n c < 256) → AreThere m a (4 * k) → (c : ℕ) → a ≤ c → c < a + 4 * k → byte_at (with_words m a k (words_from n a k ++ more)) c ≡ byte_at n c
+words_copied : (m n : Memory) (a k : ℕ) (more : List ℕ) → a + 4 * k ≤ 2 ^ 32 → ((c : ℕ) → byte_at n c < 256) → AreThere m a (4 * k) → (c : ℕ) → a ≤ c → c < a + 4 * k
+    → byte_at (with_words m a k (words_from n a k ++ more)) c ≡ byte_at n c
 unfolding with_words words_from
 words_copied m n a zero more l small there c low high = absurd (omega arith)
 words_copied m n a (suc k) more l small there c low high =
@@ -337,7 +338,8 @@ region_there m r rs block there c low high =
         ap (λ (t : Bool). t && nat_lt (c - r.base) r.size) (le-leb r.base c low) ∙ lt-ltb (c - r.base) r.size (omega arith)
 
 -- words that were put into regions are their words
-pub regions_put : (m : Memory) (rs : List Region) (ws : List ℕ) → are_regions rs ≡ true → are_apart rs ≡ true → AreMapped m rs → AreWords ws → length ws ≡ memory_count rs → memory_words (with_regions m rs ws) rs ≡ ws
+pub regions_put : (m : Memory) (rs : List Region) (ws : List ℕ) → are_regions rs ≡ true → are_apart rs ≡ true → AreMapped m rs → AreWords ws → length ws ≡ memory_count rs
+    → memory_words (with_regions m rs ws) rs ≡ ws
 unfolding with_regions memory_words
 regions_put m [] [] are apart there small long = refl
 regions_put m [] (w ∷ ws) are apart there small long = absurd (omega arith)
@@ -370,7 +372,8 @@ unfolding is_mapped
 none_mapped c e = cc
 
 -- the words of another memory leave its bytes there
-regions_copied : (m n : Memory) (rs : List Region) (c : ℕ) → are_regions rs ≡ true → AreMapped m rs → ((a : ℕ) → byte_at n a < 256) → is_mapped rs c ≡ true → byte_at (with_regions m rs (memory_words n rs)) c ≡ byte_at n c
+regions_copied : (m n : Memory) (rs : List Region) (c : ℕ) → are_regions rs ≡ true → AreMapped m rs → ((a : ℕ) → byte_at n a < 256) → is_mapped rs c ≡ true
+    → byte_at (with_regions m rs (memory_words n rs)) c ≡ byte_at n c
 unfolding with_regions memory_words
 regions_copied m n [] c are there small is = absurd (none_mapped c is)
 regions_copied m n (r ∷ rs) c are there small is =
@@ -419,7 +422,8 @@ find_zero : (rs : List Region) (c : ℕ) → find nat_cmp c (zero_entries rs) �
 unfolding is_mapped
 find_zero [] c = refl
 find_zero (r ∷ rs) c = go (in_region r c) refl (find_zero rs c) where
-  go : (t : Bool) → in_region r c ≡ t → find nat_cmp c (zero_entries rs) ≡ (if is_mapped rs c then Some 0 else None) → find nat_cmp c (zero_entries (r ∷ rs)) ≡ (if (if t then true else is_mapped rs c) then Some 0 else None)
+  go : (t : Bool) → in_region r c ≡ t → find nat_cmp c (zero_entries rs) ≡ (if is_mapped rs c then Some 0 else None)
+      → find nat_cmp c (zero_entries (r ∷ rs)) ≡ (if (if t then true else is_mapped rs c) then Some 0 else None)
   go true e h = let inside = within_region r c e in find_in r.base r.size c (zero_entries rs) inside.0 inside.1
   go false e h = find_out r.base r.size c (zero_entries rs) (beside_region r c e) ∙ h
 
@@ -433,7 +437,7 @@ zero_mapped rs c = ap is_some (get_zero rs c) ∙ go (is_mapped rs c) where
   go true = refl
   go false = refl
 
-zero_small : (rs : List Region) (c : ℕ) → byte_at (zero_memory rs) c < 256
+pub zero_small : (rs : List Region) (c : ℕ) → byte_at (zero_memory rs) c < 256
 zero_small rs c = subst (λ (o : Option ℕ). unwrap_or o 0 < 256) (sym (get_zero rs c)) (go (is_mapped rs c)) where
   go : (t : Bool) → unwrap_or (if t then Some 0 else None) 0 < 256
   go true = omega arith
@@ -441,7 +445,7 @@ zero_small rs c = subst (λ (o : Option ℕ). unwrap_or o 0 < 256) (sym (get_zer
 
 -- ---- bytes stay small
 
-byte_small : (m : Memory) (a x : ℕ) → x < 256 → ((c : ℕ) → byte_at m c < 256) → (c : ℕ) → byte_at (with_byte m a x) c < 256
+pub byte_small : (m : Memory) (a x : ℕ) → x < 256 → ((c : ℕ) → byte_at m c < 256) → (c : ℕ) → byte_at (with_byte m a x) c < 256
 unfolding with_byte
 byte_small m a x l small c = go (is_some (get m a)) where
   either : (t : Bool) → unwrap_or (cond t (Some x) (get m c)) 0 < 256
@@ -491,7 +495,8 @@ same_option (Some x) None e h = cc
 same_option (Some x) (Some y) e h = ap Some (h refl)
 
 -- the words of a memory make it again
-pub memory_back : (rs : List Region) (n : Memory) → are_regions rs ≡ true → ((a : ℕ) → is_some (get n a) ≡ is_mapped rs a) → ((a : ℕ) → byte_at n a < 256) → with_regions (zero_memory rs) rs (memory_words n rs) ≡ n
+pub memory_back : (rs : List Region) (n : Memory) → are_regions rs ≡ true → ((a : ℕ) → is_some (get n a) ≡ is_mapped rs a) → ((a : ℕ) → byte_at n a < 256)
+    → with_regions (zero_memory rs) rs (memory_words n rs) ≡ n
 memory_back rs n are mapped small =
     let m = with_regions (zero_memory rs) rs (memory_words n rs) in
     let there : (a : ℕ) → is_some (get m a) ≡ is_mapped rs a = λ a. regions_kept (zero_memory rs) rs (memory_words n rs) a ∙ zero_mapped rs a in

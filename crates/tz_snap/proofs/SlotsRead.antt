@@ -14,12 +14,12 @@ use Rattle.tz_core.specs.ReadWords.{IsSlotTold, slot_fits, slot_from, slot_writt
 use Rattle.tz_snap.proofs.FieldsRead.{at_index, first_of, passed, same_state}
 
 -- the word of what stands at a place
-abbrev number_at : SlotState → ℕ → ℕ
+abbrev pub number_at : SlotState → ℕ → ℕ
 number_at x i =
     x.priority + 2 ^ 8 * number_of x.pending + 2 ^ 9 * number_of x.active + 2 ^ 10 * number_of (is_always_enabled (exception_number i) || x.enabled)
     + 2 ^ 11 * side_number x.target
 
-abbrev slot_in : List SlotState → ℕ → SlotState
+abbrev pub slot_in : List SlotState → ℕ → SlotState
 slot_in xs i = slice_index_or xs i idle
 
 abbrev pub with_slots : State → List SlotState → State
@@ -63,7 +63,8 @@ one_more : (ws : List ℕ) (i : ℕ) (is : List ℕ) (k : ℕ) (s : State) → k
 unfolding read_slots
 one_more ws i is k s l = ap (λ (xs : List ℕ). read_slots (i ∷ is) xs k s) (at_index ws k l)
 
-pub fit_read : (ws is : List ℕ) (k : ℕ) (s : State) → k + length is ≤ length ws → SlotsFit (slice_index ws) is k s.exceptions.slots → read_slots is (drop k ws) k s ≡ Ok (with_slots s (slots_by (slice_index ws) is k s.exceptions.slots))
+pub fit_read : (ws is : List ℕ) (k : ℕ) (s : State) → k + length is ≤ length ws → SlotsFit (slice_index ws) is k s.exceptions.slots
+    → read_slots is (drop k ws) k s ≡ Ok (with_slots s (slots_by (slice_index ws) is k s.exceptions.slots))
 unfolding read_slots
 fit_read ws [] k s l h = refl
 fit_read ws (i ∷ is) k s l h =
@@ -148,7 +149,8 @@ module _ (v : ℕ → ℕ) where
       subst (IsSlotTold s) same (ap (λ (w : ℕ). slot_written s p w) h.0 ∙ ap (with_slots s) (made_settled p k xs m.0))
   all_told (p ∷ is) k s h m (suc j) i e = all_told is (k + 1) s h.1 m.1 j i e
 
-  pub told_made : (is : List ℕ) (k : ℕ) (s : State) → ArePlaces is (length s.exceptions.slots) → SlotsTold v is k s.exceptions.slots → ((j i : ℕ) → slice_get is j ≡ Some i → IsSlotTold s i) → SlotsMade v is k s.exceptions.slots
+  pub told_made : (is : List ℕ) (k : ℕ) (s : State) → ArePlaces is (length s.exceptions.slots) → SlotsTold v is k s.exceptions.slots
+      → ((j i : ℕ) → slice_get is j ≡ Some i → IsSlotTold s i) → SlotsMade v is k s.exceptions.slots
   told_made [] k s p h all = tt
   told_made (i ∷ is) k s p h all =
       let xs = s.exceptions.slots in
@@ -168,7 +170,8 @@ module _ (v : ℕ → ℕ) where
       )
 
   -- and make the same of them
-  one_alike : (i : ℕ) (is : List ℕ) (k : ℕ) (xs ys : List SlotState) → ArePlaces is (length xs) → SlotsMade v is k ys → (is_in i is ≡ false → slot_in xs i ≡ slot_in ys i) → slot_in (slots_by v is k xs) i ≡ slot_in ys i
+  one_alike : (i : ℕ) (is : List ℕ) (k : ℕ) (xs ys : List SlotState) → ArePlaces is (length xs) → SlotsMade v is k ys → (is_in i is ≡ false → slot_in xs i ≡ slot_in ys i)
+      → slot_in (slots_by v is k xs) i ≡ slot_in ys i
   one_alike i [] k xs ys p m h = h refl
   one_alike i (j ∷ is) k xs ys p m h =
       let x = slot_from j (v k) in
@@ -179,7 +182,8 @@ module _ (v : ℕ → ℕ) where
       (λ (ne : i ≡ j → ⊥). get_or-set_other xs j i x idle ne ∙ h (other_place i j is ne ∙ out))
       (cases_eq i j))
 
-  pub made_alike : (is : List ℕ) (k : ℕ) (xs ys : List SlotState) → length xs ≡ length ys → ArePlaces is (length xs) → SlotsMade v is k ys → ((i : ℕ) → i < length xs → is_in i is ≡ false → slot_in xs i ≡ slot_in ys i) → slots_by v is k xs ≡ ys
+  pub made_alike : (is : List ℕ) (k : ℕ) (xs ys : List SlotState) → length xs ≡ length ys → ArePlaces is (length xs) → SlotsMade v is k ys
+      → ((i : ℕ) → i < length xs → is_in i is ≡ false → slot_in xs i ≡ slot_in ys i) → slots_by v is k xs ≡ ys
   made_alike is k xs ys e p m h =
       let size = length_by is k xs in
       same_lists (slots_by v is k xs) ys (size ∙ e) (λ i d l.
@@ -264,6 +268,11 @@ board_places n m l =
         ),
       ),
     )
+
+pub place_below : (n : ℕ) (is : List ℕ) → ArePlaces is n → (k i : ℕ) → slice_get is k ≡ Some i → i < n
+place_below n [] p k i e = cc
+place_below n (j ∷ is) p zero i e = let same : j ≡ i = cc in let below = p.0 in omega arith
+place_below n (j ∷ is) p (suc k) i e = place_below n is p.2 k i e
 
 -- ---- a place is one of the board's exactly where a slot stands there
 

@@ -13,7 +13,7 @@ at_set [] j x l = absurd (omega arith)
 at_set (r ∷ rs) zero x l = refl
 at_set (r ∷ rs) (suc j) x l = at_set rs j x (omega arith)
 
-set_at : (rs : List Bounds) (j : ℕ) → slice_set rs j (bounds_at rs j) ≡ rs
+pub set_at : (rs : List Bounds) (j : ℕ) → slice_set rs j (bounds_at rs j) ≡ rs
 set_at [] j = refl
 set_at (r ∷ rs) zero = refl
 set_at (r ∷ rs) (suc j) = ap (λ (xs : List Bounds). r ∷ xs) (set_at rs j)

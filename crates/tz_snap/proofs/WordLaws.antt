@@ -37,7 +37,7 @@ blank_sau b few =
     let three = length-replicate (b.sau_regions - length b.sau) no_bounds in
     omega arith
 
-blank_units : (b : BoardValue) (m : Memory) → IsBoard b → HasUnits b (blank b m)
+pub blank_units : (b : BoardValue) (m : Memory) → IsBoard b → HasUnits b (blank b m)
 unfolding reset_mpu
 blank_units b m h = record {
   secure = length-replicate b.mpu_secure no_bounds;
@@ -45,7 +45,7 @@ blank_units b m h = record {
   sau = blank_sau b (leb-true (length b.sau) b.sau_regions h.few_sau);
 }
 
-few_places : (b : BoardValue) → IsBoard b → 32 + b.interrupts ≤ places
+pub few_places : (b : BoardValue) → IsBoard b → 32 + b.interrupts ≤ places
 few_places b h =
     let one = and_parts (within 1 240 b.interrupts) _ h.counts in
     let most = leb-true b.interrupts 240 (and_parts (nat_le 1 b.interrupts) (nat_le b.interrupts 240) one.0).1 in
@@ -58,7 +58,7 @@ field_end b = let count = fields_count b in omega arith
 slot_end : (b : BoardValue) → field_count b + length (slot_places b.interrupts) ≡ field_count b + slot_count b
 slot_end b = let count = slots_count b.interrupts in omega arith
 
-idle_slots : (i : ℕ) → i < places → slice_index_or (replicate places idle) i idle ≡ idle
+pub idle_slots : (i : ℕ) → i < places → slice_index_or (replicate places idle) i idle ≡ idle
 idle_slots i l = get_or-replicate places i idle idle l
 
 blank_places : (b : BoardValue) → IsBoard b → ArePlaces (slot_places b.interrupts) (length (replicate places idle))

@@ -2,10 +2,12 @@
 
 ghost use Rattle.std.specs.Prelude.{◌≡◌, ◌≤◌, ℕ, List, Ok, length};
 ghost use Rattle.tz_model.specs.Board.{BoardValue, IsBoard};
+ghost use Rattle.tz_model.specs.Image.{ImageValue};
 ghost use Rattle.tz_state.specs.State.{State};
+ghost use Rattle.tz_sem.specs.Boot.{boot};
 ghost use Rattle.tz_core.specs.StateWords.{state_words, word_count};
 ghost use Rattle.tz_core.specs.ReadWords.{AreWords, IsState, read_words};
-ghost use Rattle.tz_snap.specs.FileWords.{AreBytes};
+ghost use Rattle.tz_snap.specs.FileWords.{AreBytes, HasBytes};
 ghost use Rattle.tz_snap.specs.StateFile.{SavedState, file_of, most_steps, saved_of};
 
 use tz_core::words_are_counted;
@@ -34,3 +36,8 @@ pub fn only_files_are_read()
 {
     words_are_counted();
 }
+
+/// The state in which a machine starts is one of its board.
+pub fn start_is_a_state()
+    ensures { (b : BoardValue) (secure nonsecure : ImageValue) → IsBoard b → HasBytes secure → HasBytes nonsecure → IsState b (boot b secure nonsecure) }
+{}
