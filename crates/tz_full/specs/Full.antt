@@ -10,10 +10,10 @@ use Rattle.tz_sem.specs.Run.{Events}
 use Rattle.tz_sem.specs.Step.{step}
 use Rattle.tz_text.specs.Line.{line}
 use Rattle.tz_full.specs.BegunLines.{events_text, begun_text}
-use Rattle.tz_full.specs.RanCrossing.{crossing_text}
-use Rattle.tz_full.specs.RanLoads.{loads_by, store_lines}
-use Rattle.tz_full.specs.RanPlaces.{done_by}
-use Rattle.tz_full.specs.RanWays.{ways_text, resumed_text}
+use Rattle.tz_full.specs.CrossingLine.{crossing_text}
+use Rattle.tz_full.specs.LoadLines.{loads_by, store_lines}
+use Rattle.tz_full.specs.Instruction.{done_by}
+use Rattle.tz_full.specs.WayLines.{ways_text, resumed_text}
 use Rattle.tz_full.specs.TakenLines.{taken_text}
 
 -- the accesses of the instruction, then SG, a call or a return from one

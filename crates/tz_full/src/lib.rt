@@ -6,20 +6,20 @@
 #![tactic(auto)]
 
 mod begun;
+mod crossing;
 mod entry;
 mod escalation;
 mod faults;
 mod frames;
 mod full;
+mod instruction;
 mod loads;
 mod names;
-mod ran_crossing;
-mod ran_names;
-mod ran_places;
-mod ran_ways;
 mod refusals;
+mod register_names;
 mod run;
 mod taken;
 mod text;
+mod ways;
 
 pub use run::run_full;

@@ -1,6 +1,6 @@
 use Rattle.tz_show.proofs.Texts.{follows}
-use Rattle.tz_full.specs.RanWays.{gateway_text}
-use Rattle.tz_full.proofs.ran_ways.push_gateway.Goals as goal
+use Rattle.tz_full.specs.WayLines.{gateway_text}
+use Rattle.tz_full.proofs.ways.push_gateway.Goals as goal
 
 pub returns-clause-bytes : goal.returns-clause-bytes
 unfolding gateway_text

@@ -3,30 +3,29 @@
 ghost use Rattle.std.specs.Prelude.{◌≡◌, ◌≤◌, ◌+◌, ◌++◌};
 ghost use Rattle.arrayvec.specs.ArrayString.{array_string_len};
 ghost use Rattle.tz_frames.specs.Gate.{return_base};
-ghost use Rattle.tz_full.specs.RanLoads.{value_in};
-ghost use Rattle.tz_full.specs.RanPlaces.{returning_core};
-ghost use Rattle.tz_full.specs.RanWays.{gateway_text, entered_by, number_text, call_frame_text, called_text, came_from, from_call_text, fnc_text, fnc_by, basic_from_text, additional_from_text, frames_from, frames_read, goes_on_text, resumed_with, resumed_by, resumed_at, resumed_text, went_by, ways_text};
+ghost use Rattle.tz_full.specs.LoadLines.{value_in};
+ghost use Rattle.tz_full.specs.Instruction.{returning_core};
+ghost use Rattle.tz_full.specs.WayLines.{gateway_text, entered_by, number_text, call_frame_text, called_text, came_from, from_call_text, fnc_text, fnc_by, basic_from_text, additional_from_text, frames_from, frames_read, goes_on_text, resumed_with, resumed_by, resumed_at, resumed_text, went_by, ways_text};
 
 use crate::frames::{push_additional, push_frame};
+use crate::instruction::{done_by, popped_by};
 use crate::loads::{push_held, value_in};
-use crate::ran_places::{done_by, popped_by};
 use crate::refusals::push_exc_return;
 use crate::text::{Text, push_place};
-use tz_sem::Account;
 use tz_access::Bus;
 use tz_core::Machine;
 use tz_frames::{ADDITIONAL_FRAME_SIZE, Returning};
 use tz_gate::is_fnc_return;
 use tz_model::{Report, Side, Size, StepKind};
 use tz_regs::Core;
-use tz_sem::Cause;
+use tz_sem::{Account, Cause};
 use tz_show::{frame_pointer, frame_uses_process, has_callee, returning_by};
 use tz_syntax::{push_decimal, push_hex_word};
 
 // ---- SG
 
 /// Where SG was reached, and where Secure code goes on.
-#[tactic(auto, unfolding(crate::specs::RanWays::gateway_text))]
+#[tactic(auto, unfolding(crate::specs::WayLines::gateway_text))]
 fn push_gateway(text: &mut Text, pc: u32, machine: &Machine)
     requires { array_string_len text.old + 60 ≤ 4096 }
     ensures bytes { text.new.bytes ≡ text.old.bytes ++ gateway_text pc machine.now }
@@ -68,7 +67,7 @@ fn push_number(text: &mut Text, bus: &Bus, addr: u32)
 }
 
 /// The frame of a call, and its two words.
-#[tactic(auto, unfolding(crate::specs::RanWays::call_frame_text))]
+#[tactic(auto, unfolding(crate::specs::WayLines::call_frame_text))]
 fn push_call_frame(text: &mut Text, bus: &Bus, base: u32)
     requires { array_string_len text.old + 62 ≤ 4096 }
     ensures bytes { text.new.bytes ≡ text.old.bytes ++ call_frame_text bus.now base }
@@ -83,7 +82,7 @@ fn push_call_frame(text: &mut Text, bus: &Bus, base: u32)
 }
 
 /// What BLXNS has left at the Secure stack pointer.
-#[tactic(auto, unfolding(crate::specs::RanWays::called_text))]
+#[tactic(auto, unfolding(crate::specs::WayLines::called_text))]
 fn push_called(text: &mut Text, account: &Account, machine: &Machine)
     requires { array_string_len text.old + 68 ≤ 4096 }
     ensures bytes { text.new.bytes ≡ text.old.bytes ++ called_text account.now machine.now }
@@ -101,7 +100,7 @@ fn push_called(text: &mut Text, account: &Account, machine: &Machine)
 // ---- FNC_RETURN
 
 /// The core from which code returns.
-#[tactic(auto, unfolding(crate::specs::RanPlaces::returning_core))]
+#[tactic(auto, unfolding(crate::specs::Instruction::returning_core))]
 fn returning_core(account: &Account, report: &Report) -> Core
     ensures { result ≡ returning_core account.now report.now }
 {
@@ -140,7 +139,7 @@ fn push_from_call(text: &mut Text, bus: &Bus, base: Option<u32>)
 }
 
 /// The value by which code returned from a call, and the frame.
-#[tactic(auto, unfolding(crate::specs::RanWays::fnc_text))]
+#[tactic(auto, unfolding(crate::specs::WayLines::fnc_text))]
 fn push_fnc(text: &mut Text, account: &Account, report: &Report, machine: &Machine, value: u32)
     requires { array_string_len text.old + 90 ≤ 4096 }
     ensures bytes { text.new.bytes ≡ text.old.bytes ++ fnc_text account.now report.now machine.now value }
@@ -166,7 +165,7 @@ fn push_fnc_by(text: &mut Text, account: &Account, report: &Report, machine: &Ma
 }
 
 /// The lines of SG, of BLXNS and of FNC_RETURN.
-#[tactic(auto, unfolding(crate::specs::RanWays::ways_text))]
+#[tactic(auto, unfolding(crate::specs::WayLines::ways_text))]
 pub fn push_ways(text: &mut Text, account: &Account, report: &Report, machine: &Machine)
     requires { array_string_len text.old + 158 ≤ 4096 }
     ensures bytes { text.new.bytes ≡ text.old.bytes ++ ways_text account.now report.now machine.now }
@@ -227,7 +226,7 @@ fn push_frames_from(
 }
 
 /// The frames by the core from which the exception returned.
-#[tactic(auto, unfolding(crate::specs::RanWays::frames_read))]
+#[tactic(auto, unfolding(crate::specs::WayLines::frames_read))]
 fn push_frames_read(text: &mut Text, bus: &Bus, core: &Core, returning: &Returning)
     requires { array_string_len text.old + 340 ≤ 4096 }
     ensures bytes { text.new.bytes ≡ text.old.bytes ++ frames_read bus.now core.now returning.now }
@@ -249,7 +248,7 @@ fn push_frames_read(text: &mut Text, bus: &Bus, core: &Core, returning: &Returni
 }
 
 /// Where the code goes on that the exception had interrupted.
-#[tactic(auto, unfolding(crate::specs::RanWays::goes_on_text))]
+#[tactic(auto, unfolding(crate::specs::WayLines::goes_on_text))]
 fn push_goes_on(text: &mut Text, core: &Core)
     requires { array_string_len text.old + 35 ≤ 4096 }
     ensures bytes { text.new.bytes ≡ text.old.bytes ++ goes_on_text core.now }
@@ -280,7 +279,7 @@ fn push_resumed_by(
 }
 
 /// The lines of the return of an exception: its value, the frames, and where the code goes on that it had interrupted.
-#[tactic(auto, unfolding(crate::specs::RanWays::resumed_text))]
+#[tactic(auto, unfolding(crate::specs::WayLines::resumed_text))]
 pub fn push_resumed(text: &mut Text, account: &Account, report: &Report, machine: &Machine)
     requires { array_string_len text.old + 439 ≤ 4096 }
     ensures bytes { text.new.bytes ≡ text.old.bytes ++ resumed_text account.now report.now machine.now }

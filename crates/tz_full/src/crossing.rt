@@ -3,7 +3,7 @@
 ghost use Rattle.std.specs.Prelude.{◌≡◌, ◌≤◌, ◌+◌, ◌++◌};
 ghost use Rattle.arrayvec.specs.ArrayString.{array_string_len};
 ghost use Rattle.tz_frames.specs.Registers.{saved_of};
-ghost use Rattle.tz_full.specs.RanCrossing.{kind_text, flags_text, all_text, called_with_text, handed_text, way_text, crossing_text};
+ghost use Rattle.tz_full.specs.CrossingLine.{kind_text, flags_text, all_text, called_with_text, handed_text, way_text, crossing_text};
 
 use crate::text::{Text, push_register, push_registers};
 use tz_model::{CrossKind, Way};
@@ -26,7 +26,7 @@ fn push_kind(text: &mut Text, kind: CrossKind)
 }
 
 /// The flags, the IT state and T, and where code goes on.
-#[tactic(auto, unfolding(crate::specs::RanCrossing::flags_text))]
+#[tactic(auto, unfolding(crate::specs::CrossingLine::flags_text))]
 fn push_flags(text: &mut Text, registers: &Registers)
     requires { array_string_len text.old + 46 ≤ 4096 }
     ensures bytes { text.new.bytes ≡ text.old.bytes ++ flags_text registers.now }
@@ -42,7 +42,7 @@ fn push_flags(text: &mut Text, registers: &Registers)
     push_hex_word(text, registers.pc);
 }
 
-#[tactic(auto, unfolding(crate::specs::RanCrossing::all_text))]
+#[tactic(auto, unfolding(crate::specs::CrossingLine::all_text))]
 fn push_all(text: &mut Text, registers: &Registers)
     requires { array_string_len text.old + 228 ≤ 4096 }
     ensures bytes { text.new.bytes ≡ text.old.bytes ++ all_text registers.now }
@@ -53,7 +53,7 @@ fn push_all(text: &mut Text, registers: &Registers)
     push_flags(text, registers);
 }
 
-#[tactic(auto, unfolding(crate::specs::RanCrossing::called_with_text))]
+#[tactic(auto, unfolding(crate::specs::CrossingLine::called_with_text))]
 fn push_called_with(text: &mut Text, registers: &Registers)
     requires { array_string_len text.old + 215 ≤ 4096 }
     ensures bytes { text.new.bytes ≡ text.old.bytes ++ called_with_text registers.now }
@@ -96,7 +96,7 @@ fn push_handed(text: &mut Text, kind: CrossKind, registers: &Registers)
 }
 
 /// The line of a way out.
-#[tactic(auto, unfolding(crate::specs::RanCrossing::way_text))]
+#[tactic(auto, unfolding(crate::specs::CrossingLine::way_text))]
 fn push_way(text: &mut Text, way: &Way, registers: &Registers)
     requires { array_string_len text.old + 264 ≤ 4096 }
     ensures bytes { text.new.bytes ≡ text.old.bytes ++ way_text way.now registers.now }

@@ -1,6 +1,6 @@
 use Rattle.tz_show.proofs.Texts.{follows}
-use Rattle.tz_full.specs.RanWays.{goes_on_text}
-use Rattle.tz_full.proofs.ran_ways.push_goes_on.Goals as goal
+use Rattle.tz_full.specs.WayLines.{goes_on_text}
+use Rattle.tz_full.proofs.ways.push_goes_on.Goals as goal
 
 pub returns-clause-bytes : goal.returns-clause-bytes
 unfolding goes_on_text

@@ -24,8 +24,8 @@ use Rattle.tz_sem.specs.Local.{Local, local_of}
 use Rattle.tz_syntax.specs.Digits.{hex_word}
 use Rattle.tz_sem.specs.declared.account.Account.{Account}
 use Rattle.tz_sem.specs.declared.ending.Handling.{Handling}
-use Rattle.tz_full.specs.RanNames.{name_at}
-use Rattle.tz_full.specs.RanPlaces.{filled_by}
+use Rattle.tz_full.specs.RegisterNames.{name_at}
+use Rattle.tz_full.specs.Instruction.{filled_by}
 
 -- ---- its accesses
 

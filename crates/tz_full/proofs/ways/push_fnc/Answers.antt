@@ -1,6 +1,6 @@
 use Rattle.tz_show.proofs.Texts.{follows}
-use Rattle.tz_full.specs.RanWays.{fnc_text}
-use Rattle.tz_full.proofs.ran_ways.push_fnc.Goals as goal
+use Rattle.tz_full.specs.WayLines.{fnc_text}
+use Rattle.tz_full.proofs.ways.push_fnc.Goals as goal
 
 pub returns-clause-bytes : goal.returns-clause-bytes
 unfolding fnc_text

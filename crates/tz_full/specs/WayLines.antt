@@ -24,8 +24,8 @@ use Rattle.tz_show.specs.Frames.{frame_pointer, frame_uses_process}
 use Rattle.tz_sem.specs.declared.account.Account.{Account}
 use Rattle.tz_full.specs.FrameLines.{frame_text, additional_text}
 use Rattle.tz_full.specs.RefusalLines.{exc_return_line}
-use Rattle.tz_full.specs.RanLoads.{value_in, held_text}
-use Rattle.tz_full.specs.RanPlaces.{returning_core}
+use Rattle.tz_full.specs.LoadLines.{value_in, held_text}
+use Rattle.tz_full.specs.Instruction.{returning_core}
 use Rattle.tz_full.specs.Words.{place_text}
 
 -- ---- SG

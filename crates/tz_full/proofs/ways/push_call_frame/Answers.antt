@@ -1,6 +1,6 @@
 use Rattle.tz_show.proofs.Texts.{follows}
-use Rattle.tz_full.specs.RanWays.{call_frame_text}
-use Rattle.tz_full.proofs.ran_ways.push_call_frame.Goals as goal
+use Rattle.tz_full.specs.WayLines.{call_frame_text}
+use Rattle.tz_full.proofs.ways.push_call_frame.Goals as goal
 
 pub returns-clause-bytes : goal.returns-clause-bytes
 unfolding call_frame_text

@@ -1,6 +1,6 @@
 use Rattle.tz_show.proofs.Texts.{follows}
-use Rattle.tz_full.specs.RanCrossing.{way_text}
-use Rattle.tz_full.proofs.ran_crossing.push_way.Goals as goal
+use Rattle.tz_full.specs.CrossingLine.{way_text}
+use Rattle.tz_full.proofs.crossing.push_way.Goals as goal
 
 pub returns-clause-bytes : goal.returns-clause-bytes
 unfolding way_text

@@ -4,7 +4,7 @@
 ghost use Rattle.std.specs.Prelude.{◌≡◌, ◌≤◌, ◌+◌, ◌++◌, ◌/◌, ◌%◌, decimal, length, option_map, IfSome};
 ghost use Rattle.arrayvec.specs.ArrayString.{array_string_len};
 ghost use Rattle.tz_state.specs.RegisterTable.{register_in, timer_rows, nvic_rows, control_rows, mpu_rows, sau_rows, register_at};
-ghost use Rattle.tz_full.specs.RanNames.{register_name, name_or_reserved, named, name_at};
+ghost use Rattle.tz_full.specs.RegisterNames.{register_name, name_or_reserved, named, name_at};
 
 use crate::text::Text;
 use tz_model::address_map::{SCS_FIRST, SCS_LAST, SCS_NS_FIRST, SCS_NS_LAST};
@@ -158,7 +158,7 @@ fn push_at_offset(text: &mut Text, offset: u32, suffix: &str)
 
 /// The register whose word holds an address, with `_NS` where the alias of the Non-secure view has it; `reserved` where
 /// there is none.
-#[tactic(auto, unfolding(crate::specs::RanNames::name_at))]
+#[tactic(auto, unfolding(crate::specs::RegisterNames::name_at))]
 pub fn push_name_at(text: &mut Text, addr: u32)
     requires { array_string_len text.old + 22 ≤ 4096 }
     ensures bytes { text.new.bytes ≡ text.old.bytes ++ name_at addr }

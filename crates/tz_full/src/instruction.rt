@@ -6,7 +6,7 @@ ghost use Rattle.tz_model.specs.Codes.{meaning_of, second_of};
 ghost use Rattle.tz_sem.specs.ItRules.{is_passed_over};
 ghost use Rattle.tz_sem.specs.Local.{reg, local_of, with_local, put};
 ghost use Rattle.tz_sem.specs.LoadStore.{based, based_past, is_listed, listed, literal_at, lowest, offset_at, past_words, place_of, words_loaded};
-ghost use Rattle.tz_full.specs.RanPlaces.{unskipped, meant, done_by, popped, popped_by};
+ghost use Rattle.tz_full.specs.Instruction.{unskipped, meant, done_by, popped, popped_by};
 
 use arrayvec::ArrayVec;
 use tz_bits::shift_c;
