@@ -1,6 +1,6 @@
 -- The frames of an entry: what it interrupts, the basic frame, and the additional one; each as it was written, or why it
 -- wasn't (DDI0553, `PushStack`, `PushCalleeStack`).
-use Rattle.std.specs.Prelude.{ℕ, Bool, true, false, ◌&&◌, ◌||◌, not, if◌then◌else◌, Option, Some, None, List, [], ◌++◌, codes}
+use Rattle.std.specs.Prelude.{ℕ, Bool, true, ◌&&◌, ◌||◌, not, if◌then◌else◌, Option, Some, None, List, ◌++◌, codes}
 use Rattle.tz_table.specs.declared.units.Side.{Side}
 use Rattle.tz_table.specs.declared.units.Side.TheVariants.{Secure, NonSecure}
 use Rattle.tz_model.specs.declared.report.Fault.{Fault}

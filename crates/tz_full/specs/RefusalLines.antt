@@ -1,6 +1,5 @@
 -- The value by which an exception returns, and why it is refused (DDI0553, EXC_RETURN, `ValidateExceptionReturn`).
 use Rattle.std.specs.Prelude.{ℕ, ◌/◌, ◌%◌, ◌^◌, ◌==◌, Bool, false, ◌&&◌, not, if◌then◌else◌, List, ◌++◌, codes, decimal}
-use Rattle.tz_table.specs.declared.units.Side.{Side}
 use Rattle.tz_model.specs.declared.report.Fault.{Fault}
 use Rattle.tz_model.specs.Words.{is_nonsecure_side}
 use Rattle.tz_regs.specs.declared.parts.Core.{Core}
