@@ -2,3 +2,4 @@ pub mod Before
 pub mod EventLines
 pub mod Listing
 pub mod LoadLines
+pub mod Told

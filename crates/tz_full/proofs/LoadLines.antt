@@ -6,7 +6,7 @@ use Rattle.tz_model.specs.Ports.{Access, Load}
 use Rattle.tz_model.specs.Words.{wrap}
 use Rattle.tz_state.specs.State.{Bus}
 use Rattle.tz_sem.specs.LoadStore.{pair_loads}
-use Rattle.tz_full.specs.RanLoads.{load_line, loads_text}
+use Rattle.tz_full.specs.LoadLines.{load_line, loads_text}
 
 pub one_load : (b : Bus) (word : Option ℕ) (size : Size) (a : ℕ) (must_align user : Bool) → loads_text b (word ∷ []) (Load size a must_align user ∷ []) ≡ load_line b size a word
 unfolding loads_text

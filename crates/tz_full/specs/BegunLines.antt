@@ -8,7 +8,7 @@ use Rattle.tz_model.specs.declared.report.Sleep.TheVariants.{Awake, Wfi, Wfe}
 use Rattle.tz_model.specs.declared.report.StepKind.{StepKind}
 use Rattle.tz_model.specs.declared.report.StepKind.TheVariants.{Idle}
 use Rattle.tz_regs.specs.declared.parts.Running.{Running}
-use Rattle.tz_full.specs.declared.told.Account.{Account}
+use Rattle.tz_sem.specs.declared.account.Account.{Account}
 
 -- ---- events
 

@@ -1,6 +1,6 @@
 -- The frames of an entry: what it interrupts, the basic frame, and the additional one; each as it was written, or why it
 -- wasn't (DDI0553, `PushStack`, `PushCalleeStack`).
-use Rattle.std.specs.Prelude.{ℕ, Bool, true, false, ◌&&◌, ◌||◌, not, if◌then◌else◌, Option, Some, None, List, [], ◌++◌, codes}
+use Rattle.std.specs.Prelude.{ℕ, Bool, true, ◌&&◌, ◌||◌, not, if◌then◌else◌, Option, Some, None, List, ◌++◌, codes}
 use Rattle.tz_table.specs.declared.units.Side.{Side}
 use Rattle.tz_table.specs.declared.units.Side.TheVariants.{Secure, NonSecure}
 use Rattle.tz_model.specs.declared.report.Fault.{Fault}
@@ -20,8 +20,8 @@ use Rattle.tz_full.specs.Words.{side_text, mode_text, stack_text, place_text}
 use Rattle.tz_full.specs.FaultNames.{word_text}
 use Rattle.tz_full.specs.Escalation.{raised_text}
 use Rattle.tz_full.specs.FrameLines.{frame_text, additional_text}
-use Rattle.tz_full.specs.declared.told.Entering.{Entering}
-use Rattle.tz_full.specs.declared.told.FrameFault.{FrameFault}
+use Rattle.tz_frames.specs.declared.entering.Entering.{Entering}
+use Rattle.tz_frames.specs.declared.entering.FrameFault.{FrameFault}
 
 -- ---- what is interrupted
 

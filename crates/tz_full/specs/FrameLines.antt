@@ -1,7 +1,6 @@
 -- Frames on stacks, by what memory has of them (DDI0553, `PushStack`, `PushCalleeStack`).
 use Rattle.std.specs.Prelude.{ℕ, ◌+◌, ◌*◌, Bool, if◌then◌else◌, List, [], ◌∷◌, ◌++◌, codes}
 use Rattle.tz_table.specs.declared.units.Side.{Side}
-use Rattle.tz_table.specs.declared.units.Side.TheVariants.{Secure}
 use Rattle.tz_table.specs.declared.units.Size.TheVariants.{Word}
 use Rattle.tz_model.specs.Words.{wrap}
 use Rattle.tz_state.specs.Access.{is_mapped}

@@ -1,6 +1,5 @@
 -- The value by which an exception returns, and why it is refused (DDI0553, EXC_RETURN, `ValidateExceptionReturn`).
 use Rattle.std.specs.Prelude.{ℕ, ◌/◌, ◌%◌, ◌^◌, ◌==◌, Bool, false, ◌&&◌, not, if◌then◌else◌, List, ◌++◌, codes, decimal}
-use Rattle.tz_table.specs.declared.units.Side.{Side}
 use Rattle.tz_model.specs.declared.report.Fault.{Fault}
 use Rattle.tz_model.specs.Words.{is_nonsecure_side}
 use Rattle.tz_regs.specs.declared.parts.Core.{Core}
@@ -15,8 +14,8 @@ use Rattle.tz_frames.specs.Leave.{is_set, returning_by, side_of_bit}
 use Rattle.tz_syntax.specs.Digits.{hex_word}
 use Rattle.tz_full.specs.Words.{side_text, mode_text}
 use Rattle.tz_full.specs.FaultNames.{fault_name, word_text}
-use Rattle.tz_full.specs.declared.told.Refusal.{Refusal}
-use Rattle.tz_full.specs.declared.told.Refusal.TheVariants.{Value, Frame, Mode}
+use Rattle.tz_frames.specs.declared.leaving.Refusal.{Refusal}
+use Rattle.tz_frames.specs.declared.leaving.Refusal.TheVariants.{Value, Frame, Mode}
 
 -- ---- the value
 

@@ -31,11 +31,11 @@ use Rattle.tz_full.specs.Escalation.{raised_text}
 use Rattle.tz_full.specs.FrameLines.{known_word}
 use Rattle.tz_full.specs.RefusalLines.{flag_digit, exc_return_line, refused_line}
 use Rattle.tz_full.specs.EntryFrames.{interrupted_line, chain_line, basic_lines, has_additional, additional_process, additional_lines}
-use Rattle.tz_full.specs.declared.told.Account.{Account}
-use Rattle.tz_full.specs.declared.told.Entering.{Entering}
-use Rattle.tz_full.specs.declared.told.Handling.{Handling}
-use Rattle.tz_full.specs.declared.told.Refusal.{Refusal}
-use Rattle.tz_full.specs.declared.told.Refusal.TheVariants.{Value, Frame, Mode}
+use Rattle.tz_sem.specs.declared.account.Account.{Account}
+use Rattle.tz_frames.specs.declared.entering.Entering.{Entering}
+use Rattle.tz_sem.specs.declared.ending.Handling.{Handling}
+use Rattle.tz_frames.specs.declared.leaving.Refusal.{Refusal}
+use Rattle.tz_frames.specs.declared.leaving.Refusal.TheVariants.{Value, Frame, Mode}
 
 -- ---- the exception that was taken
 

@@ -5,9 +5,9 @@ ghost use Rattle.arrayvec.specs.ArrayString.{array_string_len};
 ghost use Rattle.tz_full.specs.BegunLines.{irq_line, event_line, line_where, is_asleep, is_idle, sleep_ends, begun_text};
 
 use crate::text::Text;
-use crate::told::Account;
 use tz_model::{Report, ScriptEvent, Sleep, StepKind};
 use tz_regs::Running;
+use tz_sem::Account;
 use tz_syntax::push_decimal;
 
 /// An external interrupt of the script that is due.

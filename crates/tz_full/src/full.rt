@@ -10,15 +10,15 @@ ghost use Rattle.tz_full.specs.BegunLines.{event_line, events_text};
 ghost use Rattle.tz_full.specs.Full.{ran_text, handled_text, rest_text, full};
 
 use crate::begun::{push_begun, push_event};
+use crate::crossing::push_crossing;
+use crate::instruction::done_by;
 use crate::loads::{push_loads_by, push_stores};
-use crate::ran_crossing::push_crossing;
-use crate::ran_places::done_by;
-use crate::ran_ways::{push_resumed, push_ways};
 use crate::taken::push_taken;
 use crate::text::Text;
-use crate::told::Account;
+use crate::ways::{push_resumed, push_ways};
 use tz_core::Machine;
 use tz_model::{Report, ScriptEvent, Sink, SinkError, View};
+use tz_sem::Account;
 use tz_text::{Line, push_line};
 
 /// The accesses of the instruction, then SG, a call or a return from one.

@@ -1,25 +1,25 @@
-//! What view `full` tells of a step under its line: issue texts in short.
+//! View `full`: the line of a step as in view `all`, and under it what the line doesn't say.
 //!
-//! Each line is exactly what its definition says of the account of the step, its report, the events that were due and
-//! the state after it. They are built in a text that the caller holds; no memory is taken, and nothing is changed.
+//! `run_full` writes exactly what the definition `full_from` says. What is shown of a step is a function of the account of
+//! it, its report, the events that were due and the state after it. No memory is taken, and nothing here knows where bytes
+//! go.
 #![tactic(auto)]
 
 mod begun;
+mod crossing;
 mod entry;
 mod escalation;
 mod faults;
 mod frames;
 mod full;
+mod instruction;
 mod loads;
 mod names;
-mod ran_crossing;
-mod ran_names;
-mod ran_places;
-mod ran_ways;
 mod refusals;
+mod register_names;
+mod run;
 mod taken;
 mod text;
-pub mod told;
+mod ways;
 
-pub use full::{Texts, put_step};
-pub use told::{Account, Ending, Entering, FrameFault, Handling, Refusal};
+pub use run::run_full;

@@ -10,18 +10,17 @@ ghost use Rattle.tz_state.specs.Access.{is_private};
 ghost use Rattle.tz_sem.specs.LoadStore.{is_listed, listed, lowest, pair_loads, word_loads, words_loaded};
 ghost use Rattle.tz_sem.specs.Local.{local_of, reg};
 ghost use Rattle.tz_table.specs.declared.instruction.Insn.TheVariants.{TableBranch};
-ghost use Rattle.tz_full.specs.RanLoads.{value_in, word_to_pc, is_resumed, told_of, entry_word, size_text, known_text, held_text, read_text, load_line, loads_text, loads_of, loads_by, store_line, store_lines};
+ghost use Rattle.tz_full.specs.LoadLines.{value_in, word_to_pc, is_resumed, told_of, entry_word, size_text, known_text, held_text, read_text, load_line, loads_text, loads_of, loads_by, store_line, store_lines};
 
-use crate::ran_names::push_name_at;
-use crate::ran_places::{at_offset, filled_of, lowest, place, reg};
+use crate::instruction::{at_offset, filled_of, lowest, place, reg};
+use crate::register_names::push_name_at;
 use crate::text::Text;
-use crate::told::{Account, Handling};
 use tz_access::Bus;
 use tz_core::Machine;
 use tz_model::address_map::{PRIVATE_FIRST, PRIVATE_LAST};
 use tz_model::{Insn, Size, Store};
 use tz_regs::{Core, Registers};
-use tz_sem::Cause;
+use tz_sem::{Account, Cause, Handling};
 use tz_syntax::push_hex_word;
 
 // ---- what registers tell of a word that was read
@@ -54,7 +53,7 @@ fn is_resumed(cause: Cause) -> bool
 }
 
 /// What is told of the word that went to a register, by the core after the step.
-#[tactic(auto, unfolding(crate::specs::RanLoads::told_of))]
+#[tactic(auto, unfolding(crate::specs::LoadLines::told_of))]
 fn told_of(account: &Account, core: &Core, number: u8) -> Option<u32>
     ensures { result ≡ told_of account.now core.now number }
 {
@@ -68,7 +67,7 @@ fn told_of(account: &Account, core: &Core, number: u8) -> Option<u32>
 }
 
 /// The entry of a table, by how far the branch went.
-#[tactic(auto, unfolding(crate::specs::RanLoads::entry_word))]
+#[tactic(auto, unfolding(crate::specs::LoadLines::entry_word))]
 fn entry_word(before: &Core, after: &Core) -> Option<u32>
     ensures { result ≡ entry_word before.now after.now }
 {
@@ -114,7 +113,7 @@ fn push_known(text: &mut Text, size: Size, word: Option<u32>)
 }
 
 /// The number at an address, where regions hold all its bytes.
-#[tactic(auto, unfolding(crate::specs::RanLoads::held_text))]
+#[tactic(auto, unfolding(crate::specs::LoadLines::held_text))]
 pub fn push_held(text: &mut Text, bus: &Bus, size: Size, addr: u32)
     requires { array_string_len text.old + 8 ≤ 4096 }
     ensures bytes { text.new.bytes ≡ text.old.bytes ++ held_text bus.now size addr }
@@ -149,7 +148,7 @@ fn push_read(text: &mut Text, bus: &Bus, size: Size, addr: u32, word: Option<u32
 }
 
 /// The line of a load.
-#[tactic(auto, unfolding(crate::specs::RanLoads::load_line))]
+#[tactic(auto, unfolding(crate::specs::LoadLines::load_line))]
 fn push_load(text: &mut Text, bus: &Bus, size: Size, addr: u32, word: Option<u32>)
     requires { array_string_len text.old + 60 ≤ 4096 }
     ensures bytes { text.new.bytes ≡ text.old.bytes ++ load_line bus.now size addr word }
@@ -163,7 +162,7 @@ fn push_load(text: &mut Text, bus: &Bus, size: Size, addr: u32, word: Option<u32
 }
 
 /// The lines of words in a row, each by the register that it went to.
-#[tactic(auto, unfolding(crate::specs::RanLoads::loads_text))]
+#[tactic(auto, unfolding(crate::specs::LoadLines::loads_text))]
 fn push_words(text: &mut Text, account: &Account, machine: &Machine, addr: u32, numbers: &[u8])
     requires { array_string_len text.old + 60 * length numbers.now ≤ 4096 }
     ensures bytes { text.new.bytes ≡ text.old.bytes ++ loads_text machine.now.bus (map (told_of account.now machine.now.core) numbers.now) (word_loads addr (length numbers.now)) }
@@ -303,7 +302,7 @@ pub fn push_loads_by(text: &mut Text, account: &Account, machine: &Machine, insn
 // ---- stores
 
 /// The line of a store, where it went to a system register.
-#[tactic(auto, unfolding(crate::specs::RanLoads::store_line))]
+#[tactic(auto, unfolding(crate::specs::LoadLines::store_line))]
 fn push_store(text: &mut Text, store: &Store)
     requires { array_string_len text.old + 42 ≤ 4096 }
     ensures bytes { text.new.bytes ≡ text.old.bytes ++ store_line store.now }
@@ -319,7 +318,7 @@ fn push_store(text: &mut Text, store: &Store)
 }
 
 /// The lines of stores to system registers.
-#[tactic(auto, unfolding(crate::specs::RanLoads::store_lines))]
+#[tactic(auto, unfolding(crate::specs::LoadLines::store_lines))]
 pub fn push_stores(text: &mut Text, stores: &[Store])
     requires { array_string_len text.old + 42 * length stores.now ≤ 4096 }
     ensures bytes { text.new.bytes ≡ text.old.bytes ++ store_lines stores.now }

@@ -8,12 +8,11 @@ ghost use Rattle.tz_full.specs.RefusalLines.{flag_digit, pointer_text, bits_text
 
 use crate::faults::{fault_name, push_word_fault};
 use crate::text::{Text, push_mode, push_side};
-use crate::told::Refusal;
 use tz_frames::return_bits::{
     EXC_RETURN_DCRS, EXC_RETURN_ES, EXC_RETURN_FTYPE, EXC_RETURN_MODE, EXC_RETURN_PREFIX,
     EXC_RETURN_S, EXC_RETURN_SPSEL,
 };
-use tz_frames::{Returning, StackFault};
+use tz_frames::{Refusal, Returning, StackFault};
 use tz_model::{Fault, Side};
 use tz_regs::Core;
 use tz_syntax::{push_decimal, push_hex_word};

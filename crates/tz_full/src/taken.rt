@@ -18,15 +18,14 @@ use crate::refusals::{
     flag_digit, is_exc_return, push_exc_return, push_refused, returning_by, side_of_bit,
 };
 use crate::text::Text;
-use crate::told::{Account, Entering, Handling, Refusal};
 use tz_access::Bus;
 use tz_core::Machine;
-use tz_frames::Returning;
 use tz_frames::return_bits::EXC_RETURN_DCRS;
+use tz_frames::{Entering, Refusal, Returning};
 use tz_model::{Fault, Profile, Side, Size, Slot};
 use tz_nvic::{Exceptions, PLACES};
 use tz_regs::Core;
-use tz_sem::Cause;
+use tz_sem::{Account, Cause, Handling};
 use tz_syntax::{push_decimal, push_hex_word};
 
 fn is_taken(cause: Cause) -> bool

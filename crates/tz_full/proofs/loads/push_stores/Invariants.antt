@@ -1,6 +1,6 @@
 use Rattle.std.proofs.Common.{◌≡◌, ◌≤◌, ◌+◌, ◌*◌, ◌++◌, drop}
 use Rattle.arrayvec.specs.ArrayString.{array_string_len}
-use Rattle.tz_full.specs.RanLoads.{store_lines}
+use Rattle.tz_full.specs.LoadLines.{store_lines}
 use Rattle.tz_full.proofs.loads.push_stores.Given as goal
 
 abbrev pub invariant-loop-store : goal.invariant-loop-store

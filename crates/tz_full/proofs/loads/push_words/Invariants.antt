@@ -1,7 +1,7 @@
 use Rattle.std.proofs.Common.{◌≡◌, ◌≤◌, ◌+◌, ◌*◌, ◌++◌, drop, length, map}
 use Rattle.arrayvec.specs.ArrayString.{array_string_len}
 use Rattle.tz_sem.specs.LoadStore.{word_loads}
-use Rattle.tz_full.specs.RanLoads.{loads_text, told_of}
+use Rattle.tz_full.specs.LoadLines.{loads_text, told_of}
 use Rattle.tz_full.proofs.loads.push_words.Given as goal
 
 abbrev pub invariant-loop-number : goal.invariant-loop-number
