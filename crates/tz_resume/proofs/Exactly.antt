@@ -10,7 +10,7 @@ use Rattle.tz_frames.specs.Enter.{enters}
 use Rattle.tz_frames.specs.Leave.{leaves}
 use Rattle.tz_resume.specs.Words.{SameBytes}
 use Rattle.tz_resume.specs.Resumption.{process_of, frames_at, both_pushed, Takes, GoesOn}
-use Rattle.tz_resume.specs.Exact.{IsPreempted, IsTakenBack, returning, leaver, left_at}
+use Rattle.tz_resume.specs.Entries.{IsPreempted, IsTakenBack, returning, leaver, left_at}
 use Rattle.tz_resume.proofs.Resuming.{frames_give_back}
 use Rattle.tz_resume.proofs.Entry.{entry_leaves}
 use Rattle.tz_resume.proofs.Return.{leaves_went}

@@ -19,7 +19,7 @@ use Rattle.tz_frames.specs.Machine.{Framed, framed}
 use Rattle.tz_frames.specs.Status.{Raised, faulted, frame_faulted}
 use Rattle.tz_frames.specs.Enter.{chooses, with_lock}
 use Rattle.tz_frames.specs.Leave.{Leaving, left_of, chaining, chained, chained_raised, unstacked, resumed, modes_agree, resumes, goes_back, leaves_noting, leaves, exc_return_fault, freed, slot_returning, side_of_bit}
-use Rattle.tz_resume.specs.Exact.{returning, leaver}
+use Rattle.tz_resume.specs.Entries.{returning, leaver}
 
 -- what goes on where a return ends so
 pub record Went (c : Core) (r : Returning) (h : Framed) (l : Leaving Framed) : Type 0 where

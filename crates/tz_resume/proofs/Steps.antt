@@ -27,7 +27,7 @@ use Rattle.tz_sem.specs.Taking.{state_of, framed_in, goes_on_at, taken_by, preem
 use Rattle.tz_sem.specs.Step.{started, ended, step}
 use Rattle.tz_resume.specs.Words.{SameBytes}
 use Rattle.tz_resume.specs.Resumption.{process_of, basic_pushed, IsSound, IsStacked, GoesOn}
-use Rattle.tz_resume.specs.Exact.{left_at, IsPreempted, IsTakenBack}
+use Rattle.tz_resume.specs.Entries.{left_at, IsPreempted, IsTakenBack}
 use Rattle.tz_resume.specs.Number.{IsNumbered}
 use Rattle.tz_resume.specs.Steps.{Preempts, IsTyped, Entry, AtCode, BehindCall, CallsBy, behind_call, IsPreemption, left_in, TakesBack, EntersBy, ReturnsBy}
 use Rattle.tz_resume.proofs.Exactly.{entries_resume}
