@@ -84,6 +84,15 @@ def state_in(file):
     return found
 
 
+def page_in(run):
+    """The first line of a page, and what stands behind its sections: memory."""
+    if run.status or run.err:
+        return anything(run)
+    first, _, _ = run.out.partition(b"\n")
+    at = run.out.find(b"\nMemory\n")
+    return first.decode(), run.out[at:] if at >= 0 else b""
+
+
 def states(cases, lists):
     shelf = {}
     given = States(whole(lists.pop("board")), words_of_rows(lists.pop("words")))
@@ -117,6 +126,10 @@ def states(cases, lists):
         board, file = given.files(name, values)
         return answered({**shelf, "board": board, "state": file}, place, status, line, told)
 
+    def shown(place, first, name, values, line, memory):
+        board, file = given.files(name, values)
+        return [Job({**shelf, "board": board, "state": file}, line, [Check(place, (first, memory), page_in)])]
+
     files(cases, lists, shelf)
     cases.each(lists.pop("states"), [text, text, words_of, values_of], state)
     cases.each(lists.pop("snaps"), [text, words_of], snap)
@@ -127,3 +140,4 @@ def states(cases, lists):
     cases.cuts(lists.pop("cuts"), file, lambda place, wanted, data: [read(place, wanted, board, data)])
     cases.each(lists.pop("long"), [decimal, decimal, unescaped], long)
     cases.each(lists.pop("resumes"), [decimal, text, values_of, words_of, unescaped], resumed)
+    cases.each(lists.pop("pages"), [text, text, values_of, words_of, unescaped], shown)

@@ -19,7 +19,7 @@ impl Bus {
     }
 
     /// There is a byte at exactly the addresses of the board's regions.
-    fn know_filled(&self)
+    pub fn know_filled(&self)
         ensures { IsFilled (record { regions = self.now.board.regions; bytes = self.now.memory }) }
     {
         self.memory.know_filled();

@@ -4,7 +4,7 @@
 //! events of a step is found by halving. What a script means doesn't depend on that: it is seen as the list
 //! of its events with their steps, in the order of the file.
 
-ghost use Rattle.std.specs.Prelude.{◌≡◌, ℕ, ◌<◌, ◌≤◌, ◌+◌, ◌++◌, [], ◌∷◌, IfOk, IsTrue, ◌≢◌, MatchOption, slice_index, length};
+ghost use Rattle.std.specs.Prelude.{◌≡◌, ℕ, true, ◌<◌, ◌≤◌, ◌+◌, ◌++◌, [], ◌∷◌, IfOk, IsTrue, ◌≢◌, MatchOption, slice_index, length};
 ghost use Rattle.tz_board.specs.Scripts.{IsScript, due_at, last_step, most_events};
 ghost use Rattle.tz_board.specs.Script.{IsKept, Opens, all_timed, ascend, steps_of};
 
@@ -67,6 +67,40 @@ fn find<L: Ledger>(moments: &[Moment], step: u32, steps: &mut Steps<L>) -> Optio
         }
     }
     None
+}
+
+/// Whether a step is above the moment before a place, and so above all before it.
+fn is_past<L: Ledger>(moments: &[Moment], place: usize, step: u32, steps: &mut Steps<L>) -> bool
+    requires ascending { IsTrue (ascend (steps_of moments.now)) }
+    requires within { place ≤ length moments.now }
+    ensures below { result ≡ true → (k : ℕ) → k < place → slice_index (steps_of moments.now) k < step }
+    ensures looks { (steps.old ≤ steps.new) × (steps.new ≤ steps.old + 1) }
+{
+    if place == 0 {
+        return true;
+    }
+    steps.look();
+    moments[place - 1].step < step
+}
+
+/// Whether a step is above the moment before a place and below the one there, where there are such moments: then no
+/// moment is of that step.
+fn is_between<L: Ledger>(moments: &[Moment], place: usize, step: u32, steps: &mut Steps<L>) -> bool
+    requires ascending { IsTrue (ascend (steps_of moments.now)) }
+    ensures none { result ≡ true → (k : ℕ) → k < length moments.now → slice_index (steps_of moments.now) k ≢ step }
+    ensures looks { (steps.old ≤ steps.new) × (steps.new ≤ steps.old + 2) }
+{
+    if place > moments.len() {
+        return false;
+    }
+    if !is_past(moments, place, step, steps) {
+        return false;
+    }
+    if place == moments.len() {
+        return true;
+    }
+    steps.look();
+    step < moments[place].step
 }
 
 /// A moment without events.
@@ -166,6 +200,29 @@ impl Script {
     {
         match find(&self.moments, step, steps) {
             Some(index) => &self.moments[index].events,
+            None => &[],
+        }
+    }
+
+    /// The events of a step, as `due` gives them, for steps that are asked for one after another: `place` says where among
+    /// the moments to look first, whatever it is, and is then behind the moment that was found. At most 16 steps are looked at.
+    pub fn due_next<L: Ledger>(
+        &self,
+        place: &mut usize,
+        step: u32,
+        steps: &mut Steps<L>,
+    ) -> &[ScriptEvent]
+        ensures events { result.now ≡ due_at step self.now }
+        ensures looks { (steps.old ≤ steps.new) × (steps.new ≤ steps.old + 16) }
+    {
+        if is_between(&self.moments, *place, step, steps) {
+            return &[];
+        }
+        match find(&self.moments, step, steps) {
+            Some(index) => {
+                *place = index + 1;
+                &self.moments[index].events
+            }
             None => &[],
         }
     }

@@ -10,7 +10,7 @@ use Rattle.tz_twin.specs.Trace.{text_from}
 use Rattle.tz_run.specs.Events.{events_of}
 use Rattle.tz_twin.proofs.TwoRuns.{isolated}
 use Rattle.tz_cli.specs.Run.{RunWords}
-use Rattle.tz_cli.specs.Commands.{Command, Run, Pair, Asm, Dis, Gates, Snap, Show, Resume, command_of}
+use Rattle.tz_cli.specs.Commands.{Command, Run, RunFull, Pair, Asm, Dis, Gates, Snap, Show, ShowSaved, Resume, command_of}
 use Rattle.tz_cli.specs.Told.{Stop, BadWords, TooManySteps, Unread, TooLong, BadBoard, BadImage, BadState, BadScript, BadSource, TooFar, Told, Unknown, Stops, Gives, told_then}
 use Rattle.tz_cli.specs.Reads.{TellsOf}
 use Rattle.tz_cli.specs.Starts.{state_of}
@@ -25,6 +25,7 @@ use Rattle.tz_cli.proofs.Reached.{absent_task, never_gives}
 done_below : (o : Option Command) (n : ℕ) → IsDone o n → n < 2
 done_below None n h = absurd h
 done_below (Some (Run r)) n h = omega arith
+done_below (Some (RunFull s)) n h = omega arith
 done_below (Some (Pair p)) n (inl h) = omega arith
 done_below (Some (Pair p)) n (inr h) = omega arith
 done_below (Some (Asm a)) n h = omega arith
@@ -32,6 +33,7 @@ done_below (Some (Dis d)) n h = omega arith
 done_below (Some (Gates s)) n h = omega arith
 done_below (Some (Snap s)) n h = omega arith
 done_below (Some (Show s)) n h = omega arith
+done_below (Some (ShowSaved w)) n h = omega arith
 done_below (Some (Resume w)) n h = omega arith
 
 stop_above : (stop : Stop) → 2 ≤ status_of stop

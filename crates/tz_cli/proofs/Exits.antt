@@ -236,9 +236,10 @@ work_next work words start = Gives (work_task work words start)
 work_settles : (held : List ℕ → Held) (words : StartWords) (work : Work)
     → files_of held (Some (command_with words work)) ≡ settling (work_next work words) (within_limit words.steps (start_files held words))
 work_settles held words (works.Trace view) = settling_twice _ _ (within_limit words.steps (start_files held words))
+work_settles held words works.Full = refl
 work_settles held words works.Gates = refl
 work_settles held words works.Save = refl
-work_settles held words works.Page = refl
+work_settles held words (works.Page ranges) = refl
 
 pub work_comes : (c : Call) (words : StartWords) (work : Work) → c.command ≡ Some (command_with words work) → c.room ≡ 64 + longest (names_of (command_with words work))
     → Comes c (command_with words work) (within_limit words.steps (start_files c.shelf.held words)) (work_next work words)
@@ -246,9 +247,10 @@ work_comes c words work is room = record { is = is; room = room; settles = work_
 
 pub work_done : (words : StartWords) (work : Work) (start : Start) → IsDone (Some (command_with words work)) (work_task work words start).status
 work_done words (works.Trace view) start = refl
+work_done words works.Full start = refl
 work_done words works.Gates start = refl
 work_done words works.Save start = refl
-work_done words works.Page start = refl
+work_done words (works.Page ranges) start = refl
 
 -- ---- a run that goes on
 

@@ -1,19 +1,31 @@
 -- The names of files are words.
-use Rattle.std.proofs.Common.{◌≡◌, ℕ, ◌≤◌, Bool, true, false, cond, List, [], ◌∷◌, length, Option, Some, None, refl, subst, arith}
-use Rattle.std.specs.Prelude.{max, option_map, option_and_then, codes}
+use Rattle.std.proofs.Common.{◌≡◌, ◌==◌, ℕ, ◌+◌, ◌≤◌, ◌++◌, Bool, true, false, cond, List, [], ◌∷◌, length, Option, Some, None, refl, subst, arith}
+use Rattle.std.specs.Prelude.{max, option_map, option_and_then, unwrap_or, codes}
+use Rattle.std.specs.List.{list_any, after_first, position_or_len}
+use Rattle.std.proofs.lemmas.List.{length-drop}
 use Rattle.std.specs.Str.{bytes_eq}
 use Rattle.tz_table.specs.declared.units.Side.{Side}
 use Rattle.tz_model.specs.declared.report.View.{View}
-use Rattle.tz_cli.specs.Parts.{Text, Look, EndsOptions, Named, NamedWith, Refused, Positional, look_of, Parts, Next, AnyWord, ItsValue, parts_by, parts_of, with_positional, with_value}
+use Rattle.tz_show.specs.declared.memory.Range.{Range}
+use Rattle.tz_cli.specs.Parts.{Text, is_hyphened, Look, EndsOptions, Named, NamedWith, Refused, Positional, look_of, Parts, Next, AnyWord, ItsValue, parts_by, parts_of, with_positional, with_value}
 use Rattle.tz_cli.specs.Counts.{count_of}
 use Rattle.tz_cli.specs.StartWords.{StartWords, bare_with, start_behind, start_names, start_parts, start_with}
-use Rattle.tz_cli.specs.Run.{RunWords, run_behind, run_of, run_parts, run_with, start_of, view_of}
+use Rattle.tz_cli.specs.Ranges.{cut_at, range_of}
+use Rattle.tz_cli.specs.declared.words.show.ShowOption.{ShowOption}
+use Rattle.tz_cli.specs.declared.words.show.ShowOption.TheVariants as options
+use Rattle.tz_cli.specs.declared.words.show.Next.{Next as NextWord}
+use Rattle.tz_cli.specs.declared.words.show.Next.TheVariants as nexts
+use Rattle.tz_cli.specs.ShowWords.{ShowWords, SavedWords, ShowParts, no_parts, option_named, with_range, with_state, with_option, with_any, with_next, with_word, with_words, show_names, saved_names}
+use Rattle.tz_cli.specs.ShowWords as shown
+use Rattle.tz_cli.specs.Run.{view_of}
 use Rattle.tz_cli.specs.Resume.{ResumeWords, resume_behind, resume_names, resume_parts, resume_with}
 use Rattle.tz_cli.specs.Pair.{PairWords, pair_behind, pair_names, pair_parts, pair_with}
 use Rattle.tz_cli.specs.Asm.{AsmWords, asm_behind, asm_names, asm_parts, asm_with, form_of}
 use Rattle.tz_cli.specs.declared.words.asm.Form.{Form}
+use Rattle.tz_cli.specs.declared.words.start.Work.{Work}
+use Rattle.tz_cli.specs.declared.words.start.Work.TheVariants as works
 use Rattle.tz_cli.specs.Dis.{DisWords, dis_behind, dis_names, dis_parts, dis_with, side_named}
-use Rattle.tz_cli.specs.Commands.{Command, Run, Pair, Asm, Dis, Gates, Snap, Show, Resume, command_behind, command_of, longest, names_of}
+use Rattle.tz_cli.specs.Commands.{Command, Pair, Asm, Dis, Gates, Snap, Show, ShowSaved, Resume, command_with, run_with, run_parts, run_behind, work_of, show_with, show_next, show_parts, show_behind, command_behind, command_of, longest, names_of}
 
 -- no positional word is longer than a bound
 abbrev pub Within : ℕ → Option Parts → Type 0
@@ -80,9 +92,16 @@ start_in (a ∷ b ∷ c ∷ d ∷ w ∷ x ∷ more) s e = absurd (cc)
 start_in (a ∷ b ∷ c ∷ d ∷ w ∷ []) s e =
     mapped_within (λ (n : ℕ). a ∷ b ∷ c ∷ d ∷ []) start_names (longest (a ∷ b ∷ c ∷ d ∷ w ∷ [])) _ (count_of w) s (λ n. refl) (λ n h. omega arith) e
 
-run_in : (view : Option View) (words : List Text) (r : RunWords) → run_with view words ≡ Some r → longest (start_names (start_of r)) ≤ longest words
-run_in None words r e = absurd (cc)
-run_in (Some view) words r e = mapped_within start_names (λ (x : RunWords). start_names (start_of x)) (longest words) (λ s. run_of s view) (start_with words) r (λ s. refl) (start_in words) e
+names_with : (work : Work) (s : StartWords) → longest (names_of (command_with s work)) ≡ longest (start_names s)
+names_with (works.Trace view) s = refl
+names_with works.Full s = refl
+names_with works.Gates s = refl
+names_with works.Save s = refl
+names_with (works.Page ranges) s = refl
+
+run_in : (work : Option Work) (words : List Text) (command : Command) → run_with work words ≡ Some command → longest (names_of command) ≤ longest words
+run_in None words command e = absurd (cc)
+run_in (Some work) words command e = mapped_within start_names names_of (longest words) (λ s. command_with s work) (start_with words) command (names_with work) (start_in words) e
 
 bare_in : (values words : List Text) (s : StartWords) → bare_with values words ≡ Some s → longest (start_names s) ≤ longest words
 bare_in [] words s e = start_in words s e
@@ -131,6 +150,103 @@ dis_in [] (a ∷ b ∷ w ∷ x ∷ more) d e = absurd (cc)
 dis_in [] (a ∷ b ∷ w ∷ []) d e =
     mapped_within (λ (s : Side). a ∷ b ∷ []) dis_names (longest (a ∷ b ∷ w ∷ [])) _ (side_named w) d (λ s. refl) (λ s h. omega arith) e
 
+-- ---- the words of `show`
+
+longest_last : (words : List Text) (word : Text) → longest (words ++ word ∷ []) ≡ max (longest words) (length word)
+longest_last [] word = omega arith
+longest_last (w ∷ words) word = let l = longest_last words word in omega (arith, l)
+
+-- the longest name among what was read
+abbrev named : ShowParts → ℕ
+named p = max (longest p.positionals) (length (unwrap_or p.state []))
+
+abbrev NamedIn : ℕ → Option ShowParts → Type 0
+NamedIn n None = Unit {0}
+NamedIn n (Some p) = named p ≤ n
+
+-- the value of an option is no longer than its word
+abbrev Shorter : ℕ → Option Text → Type 0
+Shorter n None = Unit {0}
+Shorter n (Some value) = length value ≤ n
+
+after_shorter : (c : ℕ) (word : Text) → length (after_first (λ x. x == c) word) ≤ length word
+after_shorter c word = let l = length-drop (position_or_len (λ x. x == c) word + 1) word in omega (arith, l)
+
+cut_shorter : (word : Text) (n : ℕ) → length word ≤ n → Shorter n (cut_at 61 word).1
+cut_shorter word n l = by_test (list_any (λ x. x == 61) word)
+  where
+    by_test : (b : Bool) → Shorter n (cond b (Some (after_first (λ x. x == 61) word)) None)
+    by_test true = let shorter = after_shorter 61 word in omega (arith, l, shorter)
+    by_test false = tt
+
+module _ (n : ℕ) (p : ShowParts) (before : named p ≤ n) where
+  named_range : (range : Option Range) → NamedIn n (with_range range p)
+  named_range None = tt
+  named_range (Some range) = before
+
+  named_state : (state : Option Text) (file : Text) → length file ≤ n → NamedIn n (with_state state file p)
+  named_state None file l = omega (arith, before, l)
+  named_state (Some other) file l = tt
+
+  named_value : (option : ShowOption) (value : Text) → length value ≤ n → NamedIn n (shown.with_value option value p)
+  named_value options.Memory value l = named_range (range_of value)
+  named_value options.State value l = named_state p.state value l
+
+  named_option : (option : Option ShowOption) (value : Option Text) → Shorter n value → NamedIn n (with_option option value p)
+  named_option None value l = tt
+  named_option (Some option) None l = before
+  named_option (Some option) (Some value) l = named_value option value l
+
+  named_positional : (word : Text) → length word ≤ n → NamedIn n (Some (shown.with_positional word p))
+  named_positional word l = let last = longest_last p.positionals word in omega (arith, last, before, l)
+
+  named_any : (word : Text) → length word ≤ n → NamedIn n (with_any word p)
+  named_any word l = by_end (bytes_eq word (codes "--")) (is_hyphened word)
+    where
+      by_end : (ends hyphened : Bool) → NamedIn n (cond ends (Some (record p { next = nexts.NoOption }))
+          (cond hyphened (with_option (option_named (cut_at 61 word).0) (cut_at 61 word).1 p) (Some (shown.with_positional word p))))
+      by_end true hyphened = before
+      by_end false true = named_option (option_named (cut_at 61 word).0) (cut_at 61 word).1 (cut_shorter word n l)
+      by_end false false = named_positional word l
+
+  named_next : (next : NextWord) (word : Text) → length word ≤ n → NamedIn n (with_next next word p)
+  named_next nexts.AnyWord word l = named_any word l
+  named_next (nexts.ItsValue option) word l = named_value option word l
+  named_next nexts.NoOption word l = named_positional word l
+
+named_then : (n : ℕ) (words : List Text) (o : Option ShowParts) → NamedIn n o → ((q : ShowParts) → named q ≤ n → NamedIn n (with_words words q)) → NamedIn n (option_and_then (with_words words) o)
+named_then n words None h go = tt
+named_then n words (Some q) h go = go q h
+
+named_words : (n : ℕ) (words : List Text) (p : ShowParts) → named p ≤ n → longest words ≤ n → NamedIn n (with_words words p)
+unfolding with_word
+named_words n [] p before l = before
+named_words n (word ∷ words) p before l =
+    named_then n words (with_word word p) (named_next n p before p.next word (omega (arith, l))) (λ q h. named_words n words q h (omega (arith, l)))
+
+show_in : (state : Option Text) (words : List Text) (ranges : List Range) (command : Command) → show_with state words ranges ≡ Some command
+    → longest (names_of command) ≤ max (longest words) (length (unwrap_or state []))
+show_in None words ranges command e =
+    let l = mapped_within start_names names_of (longest words) (λ s. Show (record { start = s; ranges = ranges })) (start_with words) command (λ s. refl) (start_in words) e in
+    omega (arith, l)
+show_in (Some file) [] ranges command e = absurd (cc)
+show_in (Some file) (a ∷ b ∷ more) ranges command e = absurd (cc)
+show_in (Some file) (board ∷ []) ranges command e =
+    let same : ◌≡◌ {A = Command} (ShowSaved (record { board = board; state = file; ranges = ranges })) command = cc in
+    subst (λ (x : Command). longest (names_of x) ≤ max (longest (board ∷ [])) (length file)) same (omega arith)
+
+shown_next : (next : NextWord) (p : ShowParts) (command : Command) → show_next next p ≡ Some command → longest (names_of command) ≤ named p
+shown_next nexts.AnyWord p command e = show_in p.state p.positionals p.ranges command e
+shown_next (nexts.ItsValue option) p command e = absurd (cc)
+shown_next nexts.NoOption p command e = show_in p.state p.positionals p.ranges command e
+
+show_within : (words : List Text) (command : Command) → show_behind words ≡ Some command → longest (names_of command) ≤ longest words
+show_within words command e = by_parts_of (with_words words no_parts) (named_words (longest words) words no_parts (omega arith) (omega arith)) e
+  where
+    by_parts_of : (o : Option ShowParts) → NamedIn (longest words) o → option_and_then show_parts o ≡ Some command → longest (names_of command) ≤ longest words
+    by_parts_of None h e = absurd (cc)
+    by_parts_of (Some p) h e = let l = shown_next p.next p command e in omega (arith, l, h)
+
 -- ---- commands
 
 -- the command of one word or of another
@@ -142,9 +258,8 @@ either false this other command n first second e = second e
 names_command : (name : Text) (words : List Text) (command : Command) → command_behind name words ≡ Some command → longest (names_of command) ≤ longest words
 names_command name words command =
     let n = longest words in
-    either (bytes_eq name (codes "run")) (option_map Run (run_behind words)) _ command n
-    (mapped_within (λ (r : RunWords). start_names (start_of r)) names_of n Run (run_behind words) command (λ r. refl)
-    (behind_within (λ (r : RunWords). start_names (start_of r)) (codes "view") run_parts (λ p. run_in (view_of p.values) p.positionals) words))
+    either (bytes_eq name (codes "run")) (run_behind words) _ command n
+    (behind_within names_of (codes "view") run_parts (λ p. run_in (work_of p.values) p.positionals) words command)
     (either (bytes_eq name (codes "pair")) (option_map Pair (pair_behind words)) _ command n
     (mapped_within pair_names names_of n Pair (pair_behind words) command (λ p. refl) (behind_within pair_names [] pair_parts (λ p. pair_in p.values p.positionals) words))
     (either (bytes_eq name (codes "asm")) (option_map Asm (asm_behind words)) _ command n
@@ -155,8 +270,7 @@ names_command name words command =
     (mapped_within start_names names_of n Gates (start_behind words) command (λ s. refl) (behind_within start_names [] start_parts (λ p. bare_in p.values p.positionals) words))
     (either (bytes_eq name (codes "snap")) (option_map Snap (start_behind words)) _ command n
     (mapped_within start_names names_of n Snap (start_behind words) command (λ s. refl) (behind_within start_names [] start_parts (λ p. bare_in p.values p.positionals) words))
-    (either (bytes_eq name (codes "show")) (option_map Show (start_behind words)) _ command n
-    (mapped_within start_names names_of n Show (start_behind words) command (λ s. refl) (behind_within start_names [] start_parts (λ p. bare_in p.values p.positionals) words))
+    (either (bytes_eq name (codes "show")) (show_behind words) _ command n (show_within words command)
     (either (bytes_eq name (codes "resume")) (option_map Resume (resume_behind words)) None command n
     (mapped_within resume_names names_of n Resume (resume_behind words) command (λ w. refl)
     (behind_within resume_names (codes "view") resume_parts (λ p. resume_in (view_of p.values) p.positionals) words))

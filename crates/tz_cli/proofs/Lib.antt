@@ -5,6 +5,7 @@ pub mod WordWalks
 pub mod WordValues
 pub mod WordAnswers
 pub mod Numbers
+pub mod Cuts
 pub mod Choices
 pub mod NoOption
 pub mod FaultLines

@@ -8,11 +8,12 @@ use Rattle.tz_snap.specs.StateFile.{SavedState}
 use Rattle.tz_cli.specs.StartWords.{StartWords}
 use Rattle.tz_cli.specs.Pair.{PairWords}
 use Rattle.tz_cli.specs.Dis.{DisWords}
+use Rattle.tz_cli.specs.ShowWords.{SavedWords}
 use Rattle.tz_cli.specs.Resume.{ResumeWords}
 use Rattle.tz_cli.specs.declared.stops.LoadError.{LoadError}
 use Rattle.tz_cli.specs.Told.{is_none_script, image_told, state_told, script_told}
 use Rattle.tz_cli.specs.Reads.{AsImage, AsState, AsScript}
-use Rattle.tz_cli.specs.Starts.{Start, PairStart, SavedStart, no_image, board_files, image_files, state_files, script_files, secure_files, nonsecure_files, start_files, kept_files, saved_files, first_files, second_files, third_files, pair_start_files, listed_files}
+use Rattle.tz_cli.specs.Starts.{Start, PairStart, SavedStart, no_image, board_files, image_files, state_files, script_files, secure_files, nonsecure_files, start_files, kept_files, saved_files, shown_files, first_files, second_files, third_files, pair_start_files, listed_files}
 use Rattle.tz_cli.specs.Faults.{Standing, IsRead}
 use Rattle.tz_cli.proofs.Stages.{first_failed, next_failed, both_read}
 
@@ -112,6 +113,19 @@ module _ (a b c : Standing) (w : ResumeWords) where
 
   pub saved_with : (x : SavedStart) (n : ℕ) (y : List Timed) → n ≡ x.board.interrupts → IsRead a b (λ held. kept_files held w) (Ok x) → IsRead b c (λ held. script_files held n w.script) (Ok y) → IsRead a c (λ held. saved_files held w) (Ok (record x { script = y }))
   saved_with x n y many h k = both_read a b (λ held. kept_files held w) (not (is_none_script w.script)) (record { name = w.script; form = AsScript }) (λ held x. script_told held x.board.interrupts w.script) (λ x y. record x { script = y }) c x h y (script_for b c n x.board.interrupts w.script (Ok y) many k)
+
+-- ---- the page of a state's file
+
+module _ (a b : Standing) (w : SavedWords) where
+  pub shown_before : (e : LoadError) → IsRead a b (λ held. board_files held w.board) (Err e) → IsRead a b (λ held. shown_files held w) (Err e)
+  shown_before e h = first_failed a b (λ held. board_files held w.board) true (record { name = w.state; form = AsState }) (λ held x. state_told held x w.state) (λ x y. y) e h
+
+module _ (a b c : Standing) (w : SavedWords) where
+  pub shown_fault : (x : BoardValue) (e : LoadError) → IsRead a b (λ held. board_files held w.board) (Ok x) → IsRead b c (λ held. state_files held x w.state) (Err e) → IsRead a c (λ held. shown_files held w) (Err e)
+  shown_fault x e h k = next_failed a b (λ held. board_files held w.board) true (record { name = w.state; form = AsState }) (λ held x. state_told held x w.state) (λ x y. y) c x h e k
+
+  pub shown_with : (x : BoardValue) (y : SavedState) → IsRead a b (λ held. board_files held w.board) (Ok x) → IsRead b c (λ held. state_files held x w.state) (Ok y) → IsRead a c (λ held. shown_files held w) (Ok y)
+  shown_with x y h k = both_read a b (λ held. board_files held w.board) true (record { name = w.state; form = AsState }) (λ held x. state_told held x w.state) (λ x y. y) c x h y k
 
 -- ---- a disassembly
 

@@ -7,15 +7,16 @@ use Rattle.tz_model.specs.Board.{BoardValue}
 use Rattle.tz_model.specs.Outside.{Held, Absent}
 use Rattle.tz_cli.specs.StartWords.{StartWords, start_names}
 use Rattle.tz_cli.specs.Run.{start_of}
+use Rattle.tz_cli.specs.ShowWords.{SavedWords, saved_names}
 use Rattle.tz_cli.specs.Resume.{ResumeWords, resume_names}
 use Rattle.tz_cli.specs.Pair.{PairWords, pair_names}
 use Rattle.tz_cli.specs.Asm.{AsmWords, asm_names}
 use Rattle.tz_cli.specs.Dis.{DisWords, dis_names}
-use Rattle.tz_cli.specs.Commands.{Command, Run, Pair, Asm, Dis, Gates, Snap, Show, Resume, longest, names_of}
+use Rattle.tz_cli.specs.Commands.{Command, Run, RunFull, Pair, Asm, Dis, Gates, Snap, Show, ShowSaved, Resume, longest, names_of}
 use Rattle.tz_cli.specs.Told.{Stop, TooManySteps, Unread, Told, Unknown, Stops, Gives, told_then, is_demo, is_none_script, board_told, board_file, image_told, state_told, script_told, script_file, source_told, step_limit}
 use Rattle.tz_cli.specs.Reads.{Reading, Settled, goes_on, read_where, one_file, and_file, settling, within_limit, IsOneOf}
 use Rattle.tz_cli.specs.declared.words.asm.Form.{Form as AsmForm}
-use Rattle.tz_cli.specs.Starts.{board_files, source_files, start_files, saved_files, pair_start_files, listed_files}
+use Rattle.tz_cli.specs.Starts.{board_files, source_files, start_files, saved_files, shown_files, pair_start_files, listed_files}
 use Rattle.tz_cli.specs.Tasks.{told, reads_of, files_of}
 use Rattle.tz_cli.proofs.Settling.{by_part, read_where_is}
 
@@ -165,6 +166,11 @@ module _ (held : List ℕ → Held) where
       let n = longest (dis_names d) in
       sure_and held n _ true _ _ _ (sure_board n d.board (omega arith)) (omega arith) (λ is gone b. never_image held b d.side d.image gone)
 
+  sure_shown : (w : SavedWords) → IsSure held (longest (saved_names w)) (shown_files held w)
+  sure_shown w =
+      let n = longest (saved_names w) in
+      sure_and held n _ true _ _ _ (sure_board n w.board (omega arith)) (omega arith) (λ is gone b. never_state held b w.state gone)
+
   sure_begun : (w : StartWords) → IsSure held (longest (start_names w)) (within_limit w.steps (start_files held w))
   sure_begun w = sure_limited held (longest (start_names w)) (nat_lt step_limit w.steps) _ (sure_start w)
 
@@ -172,6 +178,7 @@ module _ (held : List ℕ → Held) where
   sure_command (Run r) =
       let n = longest (start_names (start_of r)) in
       sure_settling held n _ _ (sure_settling held n _ _ (sure_begun (start_of r)))
+  sure_command (RunFull s) = sure_settling held (longest (start_names s)) _ _ (sure_begun s)
   sure_command (Pair p) =
       let n = longest (pair_names p) in
       sure_settling held n _ _ (sure_settling held n _ _ (sure_limited held n (nat_lt step_limit p.steps) _ (sure_pair p)))
@@ -179,7 +186,8 @@ module _ (held : List ℕ → Held) where
   sure_command (Dis d) = sure_settling held (longest (dis_names d)) _ _ (sure_listed d)
   sure_command (Gates s) = sure_settling held (longest (start_names s)) _ _ (sure_begun s)
   sure_command (Snap s) = sure_settling held (longest (start_names s)) _ _ (sure_begun s)
-  sure_command (Show s) = sure_settling held (longest (start_names s)) _ _ (sure_begun s)
+  sure_command (Show s) = sure_settling held (longest (start_names s.start)) _ _ (sure_begun s.start)
+  sure_command (ShowSaved w) = sure_settling held (longest (saved_names w)) _ _ (sure_shown w)
   sure_command (Resume w) =
       let n = longest (resume_names w) in
       sure_settling held n _ _ (sure_limited held n (nat_lt step_limit w.steps) _ (sure_saved w))

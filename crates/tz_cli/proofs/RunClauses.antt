@@ -1,5 +1,5 @@
 -- What the answers of commands that run a machine say of its states.
-use Rattle.std.proofs.Common.{◌≡◌, ℕ, zero, suc, ◌+◌, Bool, true, false, cond, List, [], ◌++◌, append_assoc, map, Option, Some, refl, sym, ap, ◌∙◌, subst, arith}
+use Rattle.std.proofs.Common.{◌≡◌, ℕ, zero, suc, ◌+◌, Bool, true, false, cond, List, ◌++◌, append_assoc, map, Option, Some, refl, sym, ap, ◌∙◌, subst, arith}
 use Rattle.std.specs.Prelude.{nat_lt}
 use Rattle.std.proofs.lemmas.List.{append_cancel_left}
 use Rattle.tz_model.specs.declared.report.View.{View}
@@ -11,20 +11,22 @@ use Rattle.tz_sem.specs.Run.{Events, state_after}
 use Rattle.tz_text.specs.Line.{line}
 use Rattle.tz_twin.specs.Trace.{text_from}
 use Rattle.tz_run.specs.Events.{events_of}
+use Rattle.tz_full.specs.Full.{full_from}
 use Rattle.tz_gates.specs.Gates.{gates_of}
 use Rattle.tz_gates.specs.Entries.{entries_at}
 use Rattle.tz_gates.specs.GatesText.{gates_text}
 use Rattle.tz_gates.specs.Stays.{KeepsGatesFor}
 use Rattle.tz_gates.proofs.Exact.{no_others}
 use Rattle.tz_gates.proofs.Starting.{boot_board, boot_even}
-use Rattle.tz_snap.specs.StateFile.{file_of}
+use Rattle.tz_snap.specs.StateFile.{SavedState, file_of}
 use Rattle.tz_show.specs.Page.{page}
 use Rattle.tz_cli.specs.StartWords.{StartWords}
+use Rattle.tz_cli.specs.ShowWords.{ShowWords, SavedWords}
 use Rattle.tz_cli.specs.Resume.{ResumeWords}
-use Rattle.tz_cli.specs.Commands.{Command, Gates, Snap, Show, Resume}
+use Rattle.tz_cli.specs.Commands.{Command, RunFull, Gates, Snap, Show, ShowSaved, Resume}
 use Rattle.tz_cli.specs.Told.{TooFar, Told, Stops, Gives, told_then, step_limit}
 use Rattle.tz_cli.specs.Starts.{Start, SavedStart, state_of}
-use Rattle.tz_cli.specs.Tasks.{Task, told, begin_told, counted_gates, gates_task, snap_task, page_task, end_of, resume_told, resume_next, resumed_text}
+use Rattle.tz_cli.specs.Tasks.{Task, told, begin_told, counted_gates, full_task, gates_task, snap_task, page_task, saved_task, end_of, shown_told, resume_told, resume_next, resumed_text}
 use Rattle.tz_cli.specs.Answer.{Call, Answer, told_of}
 use Rattle.tz_cli.proofs.Clauses.{no_stop, task_written}
 use Rattle.tz_cli.proofs.Regions.{begun_regions}
@@ -33,6 +35,13 @@ use Rattle.tz_cli.proofs.Regions.{begun_regions}
 told_by : {A : Type 0} (held : List ℕ → Held) (o : Option Command) (command : Command) (t : Told A) (next : A → Told Task) (x : A)
     → o ≡ Some command → told held (Some command) ≡ told_then t next → t ≡ Gives x → told held o ≡ next x
 told_by held o command t next x e same gives = ap (told held) e ∙ (same ∙ ap (λ u. told_then u next) gives)
+
+-- ---- view `full`
+
+pub full_written : (c : Call) (result : ℕ) → Answer c result → result ≡ 0 → (s : StartWords) → c.command ≡ Some (RunFull s) → (start : Start) → begin_told c.shelf.held s ≡ Gives start
+    → Gains c.out.old c.out.new (full_from (events_of start.script) 0 (state_of start) s.steps)
+full_written c result a is s e start gives =
+    (task_written c result a (omega arith) (full_task s start) (told_by c.shelf.held c.command (RunFull s) (begin_told c.shelf.held s) (λ x. Gives (full_task s x)) start e refl gives)).1
 
 -- ---- gates
 
@@ -59,10 +68,15 @@ pub state_written : (c : Call) (result : ℕ) → Answer c result → result ≡
 state_written c result a is s e start gives =
     (task_written c result a (omega arith) (snap_task s start) (told_by c.shelf.held c.command (Snap s) (begin_told c.shelf.held s) (λ x. Gives (snap_task s x)) start e refl gives)).1
 
-pub page_written : (c : Call) (result : ℕ) → Answer c result → result ≡ 0 → (s : StartWords) → c.command ≡ Some (Show s) → (start : Start) → begin_told c.shelf.held s ≡ Gives start
-    → Gains c.out.old c.out.new (page (end_of start s.steps) s.steps [])
+pub page_written : (c : Call) (result : ℕ) → Answer c result → result ≡ 0 → (s : ShowWords) → c.command ≡ Some (Show s) → (start : Start) → begin_told c.shelf.held s.start ≡ Gives start
+    → Gains c.out.old c.out.new (page (end_of start s.start.steps) s.start.steps s.ranges)
 page_written c result a is s e start gives =
-    (task_written c result a (omega arith) (page_task s start) (told_by c.shelf.held c.command (Show s) (begin_told c.shelf.held s) (λ x. Gives (page_task s x)) start e refl gives)).1
+    (task_written c result a (omega arith) (page_task s start) (told_by c.shelf.held c.command (Show s) (begin_told c.shelf.held s.start) (λ x. Gives (page_task s x)) start e refl gives)).1
+
+pub saved_written : (c : Call) (result : ℕ) → Answer c result → result ≡ 0 → (w : SavedWords) → c.command ≡ Some (ShowSaved w) → (saved : SavedState) → shown_told c.shelf.held w ≡ Gives saved
+    → Gains c.out.old c.out.new (page saved.state saved.step w.ranges)
+saved_written c result a is w e saved gives =
+    (task_written c result a (omega arith) (saved_task w saved) (told_by c.shelf.held c.command (ShowSaved w) (shown_told c.shelf.held w) (λ x. Gives (saved_task w x)) saved e refl gives)).1
 
 pub lines_written : (c : Call) (result : ℕ) → Answer c result → result ≡ 0 → (w : ResumeWords) → c.command ≡ Some (Resume w) → (start : SavedStart) → resume_told c.shelf.held w ≡ Gives start
     → Gains c.out.old c.out.new (resumed_text w start)

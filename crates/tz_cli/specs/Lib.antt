@@ -4,6 +4,8 @@ pub mod Found
 pub mod Counts
 pub mod Choices
 pub mod StartWords
+pub mod Ranges
+pub mod ShowWords
 pub mod Run
 pub mod Resume
 pub mod Pair

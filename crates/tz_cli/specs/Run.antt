@@ -1,12 +1,12 @@
--- What the words behind `run` mean.
-use Rattle.std.specs.Prelude.{ℕ, List, Option, Some, None, codes, option_map, option_and_then}
+-- What a run in a view is told, and what the option `--view` means.
+use Rattle.std.specs.Prelude.{ℕ, List, Option, codes}
 use Rattle.tz_model.specs.declared.report.View.{View}
 use Rattle.tz_model.specs.declared.report.View.TheVariants.{Ns, All}
-use Rattle.tz_cli.specs.Parts.{Text, Parts, AnyWord, parts_of}
+use Rattle.tz_cli.specs.Parts.{Text}
 use Rattle.tz_cli.specs.Choices.{named_of, chosen_of}
-use Rattle.tz_cli.specs.StartWords.{StartWords, start_with}
+use Rattle.tz_cli.specs.StartWords.{StartWords}
 
--- what `run` is told: names of files, how many steps, and what the trace shows
+-- what `run` is told of a view: names of files, how many steps, and what the trace shows
 pub record RunWords : Type 0 where
   pub board : List ℕ
   pub secure : List ℕ
@@ -29,16 +29,3 @@ view_named name = named_of (codes "ns") Ns (codes "all") All name
 -- the view that the option's values choose: one at most, and `ns` where there is none
 abbrev pub view_of : List Text → Option View
 view_of values = chosen_of (codes "ns") Ns (codes "all") All values
-
--- the words of a run, and a view
-abbrev pub run_with : Option View → List Text → Option RunWords
-run_with (Some view) words = option_map (λ s. run_of s view) (start_with words)
-run_with None words = None
-
--- what these parts tell `run`
-abbrev pub run_parts : Parts → Option RunWords
-run_parts p = run_with (view_of p.values) p.positionals
-
--- the words behind `run`, which has the option `--view`
-abbrev pub run_behind : List Text → Option RunWords
-run_behind words = option_and_then run_parts (parts_of (codes "view") AnyWord words)

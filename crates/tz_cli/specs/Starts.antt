@@ -10,6 +10,7 @@ use Rattle.tz_sem.specs.Boot.{boot}
 use Rattle.tz_board.specs.Scripts.{Timed}
 use Rattle.tz_snap.specs.StateFile.{SavedState}
 use Rattle.tz_cli.specs.StartWords.{StartWords}
+use Rattle.tz_cli.specs.ShowWords.{SavedWords}
 use Rattle.tz_cli.specs.Pair.{PairWords}
 use Rattle.tz_cli.specs.Dis.{DisWords}
 use Rattle.tz_cli.specs.Resume.{ResumeWords}
@@ -122,6 +123,12 @@ abbrev pub saved_files : (List ℕ → Held) → ResumeWords → Settled SavedSt
 saved_files held w =
     and_file (kept_files held w) (not (is_none_script w.script)) (record { name = w.script; form = AsScript }) (λ s. script_told held s.board.interrupts w.script)
     (λ s events. record s { script = events })
+
+-- ---- the page of a state's file
+
+-- the state, for the board that is read before it
+abbrev pub shown_files : (List ℕ → Held) → SavedWords → Settled SavedState
+shown_files held w = and_file (board_files held w.board) true (record { name = w.state; form = AsState }) (λ b. state_told held b w.state) (λ b x. x)
 
 -- ---- a disassembly
 

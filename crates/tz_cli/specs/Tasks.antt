@@ -10,19 +10,21 @@ use Rattle.tz_iso.specs.Runs.{difference}
 use Rattle.tz_run.specs.Events.{events_of}
 use Rattle.tz_text.specs.Text.{dis_text}
 use Rattle.tz_cli.specs.StartWords.{StartWords}
+use Rattle.tz_full.specs.Full.{full_from}
 use Rattle.tz_gates.specs.Gates.{gates_of}
 use Rattle.tz_gates.specs.Entries.{entries_at, other_entries}
 use Rattle.tz_gates.specs.GatesText.{gates_text}
-use Rattle.tz_snap.specs.StateFile.{file_of}
+use Rattle.tz_snap.specs.StateFile.{SavedState, file_of}
 use Rattle.tz_show.specs.Page.{page}
+use Rattle.tz_cli.specs.ShowWords.{ShowWords, SavedWords}
 use Rattle.tz_cli.specs.Resume.{ResumeWords}
 use Rattle.tz_cli.specs.Run.{RunWords, run_of, start_of}
 use Rattle.tz_cli.specs.Pair.{PairWords}
 use Rattle.tz_cli.specs.PairLine.{pair_line, pair_status}
-use Rattle.tz_cli.specs.Commands.{Command, Run, Pair, Asm, Dis, Gates, Snap, Show, Resume}
+use Rattle.tz_cli.specs.Commands.{Command, Run, RunFull, Pair, Asm, Dis, Gates, Snap, Show, ShowSaved, Resume}
 use Rattle.tz_cli.specs.Told.{BadWords, TooFar, Told, Stops, Gives, step_limit}
 use Rattle.tz_cli.specs.Reads.{Reading, Settled, settling, within_limit}
-use Rattle.tz_cli.specs.Starts.{Start, PairStart, SavedStart, start_files, state_of, pair_start_files, first_state, second_state, saved_files, source_files, listed_files}
+use Rattle.tz_cli.specs.Starts.{Start, PairStart, SavedStart, start_files, state_of, pair_start_files, first_state, second_state, saved_files, shown_files, source_files, listed_files}
 use Rattle.tz_cli.specs.declared.words.start.Work.{Work}
 use Rattle.tz_cli.specs.declared.words.start.Work.TheVariants as works
 
@@ -73,6 +75,10 @@ resume_files held w = within_limit w.steps (saved_files held w)
 abbrev pub resume_told : (List ℕ → Held) → ResumeWords → Told SavedStart
 resume_told held w = (resume_files held w).told
 
+-- the state in a file
+abbrev pub shown_told : (List ℕ → Held) → SavedWords → Told SavedState
+shown_told held w = (shown_files held w).told
+
 -- the state after the steps of a run
 abbrev pub end_of : Start → ℕ → State
 end_of start steps = state_after (events_of start.script) 0 (state_of start) steps
@@ -87,6 +93,10 @@ pub record Task : Type 0 where
 -- a run writes its trace
 abbrev pub run_task : Job → Task
 run_task job = record { text = trace_of job; status = 0 }
+
+-- a run in view `full` writes under each line what is told of its step
+abbrev pub full_task : StartWords → Start → Task
+full_task words start = record { text = full_from (events_of start.script) 0 (state_of start) words.steps; status = 0 }
 
 -- a pair writes whether its runs agree, and where they first disagree
 abbrev pub pair_task : PairJob → Task
@@ -111,9 +121,13 @@ gates_task words start = record { text = counted_gates (events_of start.script) 
 abbrev pub snap_task : StartWords → Start → Task
 snap_task words start = record { text = file_of (end_of start words.steps) words.steps; status = 0 }
 
--- the page of that state, without memory
-abbrev pub page_task : StartWords → Start → Task
-page_task words start = record { text = page (end_of start words.steps) words.steps []; status = 0 }
+-- the page of that state
+abbrev pub page_task : ShowWords → Start → Task
+page_task words start = record { text = page (end_of start words.start.steps) words.start.steps words.ranges; status = 0 }
+
+-- the page of the state in a file
+abbrev pub saved_task : SavedWords → SavedState → Task
+saved_task words saved = record { text = page saved.state saved.step words.ranges; status = 0 }
 
 -- the lines of the steps behind those that a state file tells, with them within the limit of steps
 abbrev pub resumed_text : ResumeWords → SavedStart → List ℕ
@@ -125,9 +139,10 @@ resume_next w start = if nat_lt step_limit (start.step + w.steps) then Stops (To
 -- what is done with what begins a run
 abbrev pub work_task : Work → StartWords → Start → Task
 work_task (works.Trace view) words start = run_task (record { words = run_of words view; start = start })
+work_task works.Full words start = full_task words start
 work_task works.Gates words start = gates_task words start
 work_task works.Save words start = snap_task words start
-work_task works.Page words start = page_task words start
+work_task (works.Page ranges) words start = page_task (record { start = words; ranges = ranges.items }) start
 
 -- ---- commands
 
@@ -135,12 +150,14 @@ work_task works.Page words start = page_task words start
 abbrev pub files_of : (List ℕ → Held) → Option Command → Settled Task
 files_of held None = record { told = Stops BadWords; reads = [] }
 files_of held (Some (Run r)) = settling (λ job. Gives (run_task job)) (job_files held r)
+files_of held (Some (RunFull s)) = settling (λ start. Gives (full_task s start)) (begin_files held s)
 files_of held (Some (Pair p)) = settling (λ job. Gives (pair_task job)) (pair_job_files held p)
 files_of held (Some (Asm a)) = settling (λ file. Gives (asm_task file)) (source_files held a.form a.source)
 files_of held (Some (Dis d)) = settling (λ image. Gives (dis_task image)) (listed_files held d)
 files_of held (Some (Gates s)) = settling (λ start. Gives (gates_task s start)) (begin_files held s)
 files_of held (Some (Snap s)) = settling (λ start. Gives (snap_task s start)) (begin_files held s)
-files_of held (Some (Show s)) = settling (λ start. Gives (page_task s start)) (begin_files held s)
+files_of held (Some (Show s)) = settling (λ start. Gives (page_task s start)) (begin_files held s.start)
+files_of held (Some (ShowSaved w)) = settling (λ saved. Gives (saved_task w saved)) (shown_files held w)
 files_of held (Some (Resume w)) = settling (resume_next w) (resume_files held w)
 
 -- what is settled of a command, or of words that are refused
@@ -155,10 +172,12 @@ reads_of held command = (files_of held command).reads
 abbrev pub IsDone : Option Command → ℕ → Type 0
 IsDone None status = ⊥
 IsDone (Some (Run r)) status = status ≡ 0
+IsDone (Some (RunFull s)) status = status ≡ 0
 IsDone (Some (Pair p)) status = (status ≡ 0) ⊎ (status ≡ 1)
 IsDone (Some (Asm a)) status = status ≡ 0
 IsDone (Some (Dis d)) status = status ≡ 0
 IsDone (Some (Gates s)) status = status ≡ 0
 IsDone (Some (Snap s)) status = status ≡ 0
 IsDone (Some (Show s)) status = status ≡ 0
+IsDone (Some (ShowSaved w)) status = status ≡ 0
 IsDone (Some (Resume w)) status = status ≡ 0

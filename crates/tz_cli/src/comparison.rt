@@ -107,8 +107,9 @@ fn first_difference<L: Ledger>(
     ensures { result ≡ difference (events_of script.now) 0 pair.old.first pair.old.second steps }
 {
     let mut looks = Steps::<L>::start(blank);
+    let mut place = 0;
     for step in 0..steps {
-        let due = script.due(step, &mut looks);
+        let due = script.due_next(&mut place, step, &mut looks);
         match pair.step(due) {
             PairStep::Kept => {}
             PairStep::Differ { step, what } => return Some((step, what)),

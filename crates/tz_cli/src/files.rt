@@ -4,16 +4,19 @@ ghost use Rattle.std.specs.Prelude.{◌≡◌, ◌≤◌, ◌<◌, ◌^◌, true
 ghost use Rattle.tz_asm.specs.Errors.{IsRefusal};
 ghost use Rattle.tz_asm.specs.declared.error.AsmError.TheVariants.{Memory};
 ghost use Rattle.tz_cli.specs.StartWords.{start_in};
+ghost use Rattle.tz_cli.specs.ShowWords.{saved_in};
 ghost use Rattle.tz_cli.specs.Resume.{resume_in};
 ghost use Rattle.tz_cli.specs.Pair.{pair_in};
 ghost use Rattle.tz_cli.specs.Dis.{dis_in};
 ghost use Rattle.tz_cli.specs.Told.{assembly_in, file_with};
 ghost use Rattle.tz_cli.specs.Reads.{Form, one_file};
-ghost use Rattle.tz_cli.specs.Starts.{board_files, image_files, state_files, script_files, source_files, start_files, saved_files, pair_start_files, listed_files};
+ghost use Rattle.tz_cli.specs.Starts.{board_files, image_files, state_files, script_files, source_files, start_files, saved_files, shown_files, pair_start_files, listed_files};
 ghost use Rattle.tz_cli.specs.Faults.{IsRead, standing, read_as, start_value, pair_value, saved_value};
 
 use crate::stops::LoadError;
-use crate::words::{AsmWords, DisWords, Form as AsmForm, PairWords, ResumeWords, StartWords};
+use crate::words::{
+    AsmWords, DisWords, Form as AsmForm, PairWords, ResumeWords, SavedWords, StartWords,
+};
 use std::alloc::{AllocError, Global};
 use tz_asm::{AsmError, assemble, list};
 use tz_board::{Script, demo_board, read_board, read_script};
@@ -260,6 +263,24 @@ pub fn load_saved<'a, H: Shelf>(
             step,
             script,
         }),
+        Err(fault) => Err(fault),
+    }
+}
+
+/// The state of a page, for the board that is read first.
+pub fn load_shown<'a, H: Shelf>(
+    alloc: Global,
+    shelf: &mut H,
+    words: &SavedWords<'a>,
+) -> Result<Saved, LoadError<'a>>
+    ensures { IsRead (standing H.held H.sound H.faults shelf.old) (standing H.held H.sound H.faults shelf.new) (λ held. shown_files held (saved_in words.now)) (read_as (λ x. record { state = x.machine; step = x.step }) result) }
+{
+    let board = match load_board(alloc, shelf, words.board) {
+        Ok(board) => board,
+        Err(fault) => return Err(fault),
+    };
+    match load_state(alloc, shelf, words.state, &board) {
+        Ok(saved) => Ok(saved),
         Err(fault) => Err(fault),
     }
 }

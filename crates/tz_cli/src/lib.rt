@@ -16,6 +16,7 @@ mod dis;
 mod files;
 mod lines;
 mod output;
+mod page;
 mod pair;
 mod process;
 mod program;
@@ -31,5 +32,6 @@ pub use process::run_process;
 pub use program::top;
 pub use shelf::{FileShelf, read_to_limit};
 pub use words::{
-    AsmWords, Command, DisWords, Form, PairWords, ResumeWords, StartWords, Work, command_words,
+    AsmWords, Command, DisWords, Form, PairWords, ResumeWords, SavedWords, StartWords, Work,
+    command_words,
 };

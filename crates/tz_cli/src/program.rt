@@ -7,11 +7,12 @@
 ghost use Rattle.std.specs.Prelude.{◌≡◌, ◌≢◌, ◌⊎◌, ◌<◌, ◌≤◌, ◌+◌, ◌++◌, ℕ, List, [], length, map, Ok, Some, None, IsTrue, IfSome, codes};
 ghost use Rattle.tz_state.specs.State.{State};
 ghost use Rattle.tz_sem.specs.Run.{state_after};
+ghost use Rattle.tz_full.specs.Full.{full_from};
 ghost use Rattle.tz_gates.specs.Gates.{gates_of};
 ghost use Rattle.tz_gates.specs.Entries.{entries_at};
 ghost use Rattle.tz_gates.specs.GatesText.{gates_text};
 ghost use Rattle.tz_gates.specs.Stays.{KeepsGatesFor};
-ghost use Rattle.tz_snap.specs.StateFile.{file_of};
+ghost use Rattle.tz_snap.specs.StateFile.{SavedState, file_of};
 ghost use Rattle.tz_show.specs.Page.{page};
 ghost use Rattle.std.specs.String.{string_bytes};
 ghost use Rattle.tz_table.specs.declared.units.Side.TheVariants.{Secure};
@@ -27,18 +28,20 @@ ghost use Rattle.tz_cli.specs.Run.{RunWords};
 ghost use Rattle.tz_iso.specs.declared.answer.What.{What};
 ghost use Rattle.tz_cli.specs.Pair.{PairWords};
 ghost use Rattle.tz_cli.specs.PairLine.{FirstApart, agree_line, differ_line};
-ghost use Rattle.tz_cli.specs.Commands.{Run, Pair, Gates, Snap, Show, Resume, command_of};
+ghost use Rattle.tz_cli.specs.Commands.{Run, RunFull, Pair, Gates, Snap, Show, ShowSaved, Resume, command_of};
 ghost use Rattle.tz_cli.specs.StartWords.{StartWords};
+ghost use Rattle.tz_cli.specs.ShowWords.{ShowWords, SavedWords};
 ghost use Rattle.tz_cli.specs.Resume.{ResumeWords};
 ghost use Rattle.tz_cli.specs.Told.{Stop, Stops, Gives};
 ghost use Rattle.tz_cli.specs.Starts.{Start, SavedStart, state_of, first_state, second_state};
-ghost use Rattle.tz_cli.specs.Tasks.{Job, Task, IsDone, told, reads_of, begin_told, job_told, trace_of, end_of, counted_gates, resume_told, resumed_text, PairJob, pair_told};
+ghost use Rattle.tz_cli.specs.Tasks.{Job, Task, IsDone, told, reads_of, begin_told, job_told, trace_of, end_of, counted_gates, shown_told, resume_told, resumed_text, PairJob, pair_told};
 ghost use Rattle.tz_cli.specs.Lines.{stop_line, status_of};
 ghost use Rattle.tz_cli.specs.Answer.{Answer, shelved, sunk, CutsLine, Excused, GainsFront, IsRefusedBy, IsStatus, IsText, NamesUnread, line_room};
 
 use crate::asm::asm_files;
 use crate::dis::dis_files;
 use crate::lines::refuse;
+use crate::page::page_files;
 use crate::pair::pair_files;
 use crate::resume::resume_answer;
 use crate::run::work_files;
@@ -95,6 +98,10 @@ pub fn top<H: Shelf, O: Sink, E: Sink>(
     ensures trace { result ≡ 0 → (r : RunWords) → command_of (map string_bytes words.now) ≡ Some (Run r) → (job : Job) → job_told (H.held shelf.old) r ≡ Gives job →
         Gains (O.written out.old) (O.written out.new) (trace_of job) }
 
+    // In view `full` there stands under each line what is told of its step.
+    ensures full { result ≡ 0 → (s : StartWords) → command_of (map string_bytes words.now) ≡ Some (RunFull s) → (start : Start) → begin_told (H.held shelf.old) s ≡ Gives start →
+        Gains (O.written out.old) (O.written out.new) (full_from (events_of start.script) 0 (state_of start) s.steps) }
+
     // Isolation: what Non-secure code is shown is also the trace of every other file that is a Secure
     // image of the board, where both runs cross out of Secure state alike.
     ensures isolation { result ≡ 0 → (r : RunWords) → command_of (map string_bytes words.now) ≡ Some (Run r) → (job : Job) → job_told (H.held shelf.old) r ≡ Gives job → job.words.view ≡ Ns →
@@ -119,13 +126,17 @@ pub fn top<H: Shelf, O: Sink, E: Sink>(
         KeepsGatesFor (state_of start) (events_of start.script) (state_of start) s.steps →
         Gains (O.written out.old) (O.written out.new) (gates_text (gates_of (state_of start)) (map (entries_at (events_of start.script) 0 (state_of start) s.steps) (gates_of (state_of start))) 0) }
 
-    // At status 0 of `snap` the file of the state after all steps is written, and at status 0 of `show` the page of
-    // that state. At status 0 of `resume` the lines are written that follow the state of a file: those behind the first ones of every run with that script which comes
-    // to this state in so many steps.
+    // At status 0 of `snap` the file of the state after all steps is written. At status 0 of `show` it is the page of
+    // that state, or of the state of a file, with each range of memory that is asked for.
     ensures snap { result ≡ 0 → (s : StartWords) → command_of (map string_bytes words.now) ≡ Some (Snap s) → (start : Start) → begin_told (H.held shelf.old) s ≡ Gives start →
         Gains (O.written out.old) (O.written out.new) (file_of (end_of start s.steps) s.steps) }
-    ensures shown { result ≡ 0 → (s : StartWords) → command_of (map string_bytes words.now) ≡ Some (Show s) → (start : Start) → begin_told (H.held shelf.old) s ≡ Gives start →
-        Gains (O.written out.old) (O.written out.new) (page (end_of start s.steps) s.steps []) }
+    ensures shown { result ≡ 0 → (s : ShowWords) → command_of (map string_bytes words.now) ≡ Some (Show s) → (start : Start) → begin_told (H.held shelf.old) s.start ≡ Gives start →
+        Gains (O.written out.old) (O.written out.new) (page (end_of start s.start.steps) s.start.steps s.ranges) }
+    ensures shown_saved { result ≡ 0 → (w : SavedWords) → command_of (map string_bytes words.now) ≡ Some (ShowSaved w) → (saved : SavedState) → shown_told (H.held shelf.old) w ≡ Gives saved →
+        Gains (O.written out.old) (O.written out.new) (page saved.state saved.step w.ranges) }
+
+    // At status 0 of `resume` the lines are written that follow the state of a file: those behind the first ones of every
+    // run with that script which comes to this state in so many steps.
     ensures resumed { result ≡ 0 → (w : ResumeWords) → command_of (map string_bytes words.now) ≡ Some (Resume w) → (start : SavedStart) → resume_told (H.held shelf.old) w ≡ Gives start →
         Gains (O.written out.old) (O.written out.new) (resumed_text w start) }
     ensures continued { result ≡ 0 → (w : ResumeWords) → command_of (map string_bytes words.now) ≡ Some (Resume w) → (start : SavedStart) → resume_told (H.held shelf.old) w ≡ Gives start →
@@ -162,6 +173,7 @@ fn answer<H: Shelf, O: Sink, E: Sink>(
         Command::Pair(words) => pair_files(alloc, &words, shelf, out, err),
         Command::Asm(words) => asm_files(alloc, &words, shelf, out, err),
         Command::Dis(words) => dis_files(alloc, &words, shelf, out, err),
+        Command::ShowSaved(words) => page_files(alloc, &words, shelf, out, err),
         Command::Resume(words) => resume_answer(alloc, &words, shelf, out, err),
     }
 }

@@ -5,7 +5,7 @@ ghost use Rattle.tz_model.specs.Outside.{Gains};
 ghost use Rattle.tz_cli.specs.StartWords.{start_in};
 ghost use Rattle.tz_cli.specs.Run.{run_of};
 ghost use Rattle.tz_cli.specs.Commands.{command_with};
-ghost use Rattle.tz_cli.specs.Tasks.{trace_of, gates_task, snap_task, page_task, work_task};
+ghost use Rattle.tz_cli.specs.Tasks.{trace_of, full_task, gates_task, snap_task, page_task, work_task};
 ghost use Rattle.tz_cli.specs.Answer.{CommandAnswer, shelved, sunk, IsTold};
 ghost use Rattle.tz_cli.specs.Faults.{start_value};
 
@@ -14,10 +14,11 @@ use crate::lines::{put_status, refuse, refuse_fault};
 use crate::words::{StartWords, Work};
 use std::alloc::{AllocError, Global};
 use tz_core::Machine;
+use tz_full::run_full;
 use tz_gates::{count, list, put_gates};
 use tz_model::{Shelf, Sink, View};
 use tz_run::{make_steps, run};
-use tz_show::show;
+use tz_show::{Range, show};
 use tz_snap::save;
 
 /// The most steps of a run.
@@ -40,6 +41,24 @@ fn run_started<O: Sink>(
         Err(error) => return Err(error),
     };
     Ok(put_status(run(&mut machine, &files.script, words.steps, view, out)))
+}
+
+/// Runs a machine of the files and writes its trace with what is told of each step: 0, or 4 where it can't be written.
+/// Its error is want of memory, before anything is written.
+fn full_started<O: Sink>(
+    alloc: Global,
+    files: &Files,
+    words: &StartWords<'_>,
+    out: &mut O,
+) -> Result<u8, AllocError>
+    ensures ran { IfOk result (λ status. IsTold status (full_task (start_in words.now) (start_value files.now)).text 0 (O.written out.old) (O.written out.new) (O.space out.old) (O.faults out.old) (O.faults out.new)) }
+    ensures quiet { IfErr result (λ _. Gains (O.written out.old) (O.written out.new) []) }
+{
+    let mut machine = match Machine::new(alloc, &files.board, &files.secure, &files.nonsecure) {
+        Ok(machine) => machine,
+        Err(error) => return Err(error),
+    };
+    Ok(put_status(run_full(&mut machine, &files.script, words.steps, out)))
 }
 
 /// Runs a machine of the files and writes its gates, with how many steps enter at each and how many elsewhere:
@@ -86,9 +105,10 @@ fn page_started<O: Sink>(
     alloc: Global,
     files: &Files,
     words: &StartWords<'_>,
+    ranges: &[Range],
     out: &mut O,
 ) -> Result<u8, AllocError>
-    ensures ran { IfOk result (λ status. IsTold status (page_task (start_in words.now) (start_value files.now)).text 0 (O.written out.old) (O.written out.new) (O.space out.old) (O.faults out.old) (O.faults out.new)) }
+    ensures ran { IfOk result (λ status. IsTold status (page_task (record { start = start_in words.now; ranges = ranges.now }) (start_value files.now)).text 0 (O.written out.old) (O.written out.new) (O.space out.old) (O.faults out.old) (O.faults out.new)) }
     ensures quiet { IfErr result (λ _. Gains (O.written out.old) (O.written out.new) []) }
 {
     let mut reached = match Machine::new(alloc, &files.board, &files.secure, &files.nonsecure) {
@@ -96,7 +116,7 @@ fn page_started<O: Sink>(
         Err(error) => return Err(error),
     };
     make_steps(&mut reached, &files.script, words.steps);
-    Ok(put_status(show(&reached, words.steps, &[], out)))
+    Ok(put_status(show(&reached, words.steps, ranges, out)))
 }
 
 /// Does the work with a machine of the files: 0, or 4 where its text can't be written. Its error is want of
@@ -113,11 +133,12 @@ fn work_started<O: Sink>(
         IfOk result (λ status. IsTold status task.text task.status (O.written out.old) (O.written out.new) (O.space out.old) (O.faults out.old) (O.faults out.new)) }
     ensures quiet { IfErr result (λ _. Gains (O.written out.old) (O.written out.new) []) }
 {
-    match *work {
-        Work::Trace(view) => run_started(alloc, files, words, view, out),
+    match work {
+        Work::Trace(view) => run_started(alloc, files, words, *view, out),
+        Work::Full => full_started(alloc, files, words, out),
         Work::Gates => gates_started(alloc, files, words, out),
         Work::Save => snap_started(alloc, files, words, out),
-        Work::Page => page_started(alloc, files, words, out),
+        Work::Page(ranges) => page_started(alloc, files, words, ranges, out),
     }
 }
 

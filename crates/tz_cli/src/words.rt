@@ -12,8 +12,10 @@ mod counts;
 mod dis;
 mod leaf;
 mod pair;
+mod ranges;
 mod resume;
 mod run;
+mod show;
 mod start;
 mod views;
 
@@ -22,16 +24,18 @@ use crate::words::dis::dis_command;
 use crate::words::pair::pair_command;
 use crate::words::resume::resume_command;
 use crate::words::run::run_command;
+use crate::words::show::show_command;
 use crate::words::start::start_command;
 pub use asm::{AsmWords, Form};
 pub use dis::DisWords;
 pub use pair::PairWords;
 pub use resume::ResumeWords;
+pub use show::SavedWords;
 pub use start::{StartWords, Work};
 use std::alloc::{AllocError, Global};
 
 /// A command with what its words say.
-#[derive(Clone, Copy)]
+#[derive(Drop)]
 pub enum Command<'a> {
     /// A run of two images on a board, and what is done with it.
     Start(StartWords<'a>, Work),
@@ -41,6 +45,8 @@ pub enum Command<'a> {
     Asm(AsmWords<'a>),
     /// An image as the text of its instructions.
     Dis(DisWords<'a>),
+    /// The page of a state's file.
+    ShowSaved(SavedWords<'a>),
     /// A run that goes on from a state's file.
     Resume(ResumeWords<'a>),
 }
@@ -61,7 +67,7 @@ pub fn command_words<'a>(
             "dis" => dis_command(alloc, rest),
             "gates" => start_command(alloc, Work::Gates, rest),
             "snap" => start_command(alloc, Work::Save, rest),
-            "show" => start_command(alloc, Work::Page, rest),
+            "show" => show_command(alloc, rest),
             "resume" => resume_command(alloc, rest),
             _ => Ok(None),
         },

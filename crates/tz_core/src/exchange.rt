@@ -1,11 +1,12 @@
 //! Branches between the sides and back: BX, BXNS, BLXNS, FNC_RETURN and EXC_RETURN.
 
-ghost use Rattle.std.specs.Prelude.{◌≡◌, ◌+◌, Some};
+ghost use Rattle.std.specs.Prelude.{◌≡◌, ◌+◌, Some, None};
 ghost use Rattle.tz_model.specs.Words.{wrap};
 ghost use Rattle.tz_sem.specs.Exchange.{core_back, touching};
 ghost use Rattle.tz_sem.specs.Step.{is_call};
 
 use crate::changes::Stores;
+use crate::noting::note_value;
 use crate::port::port_over;
 use crate::running::{Machine, next_of};
 use crate::taking::frames_over;
@@ -17,12 +18,13 @@ use tz_sem::{Cause, Course, Ending};
 
 /// An instruction ran, and did this to the side that runs.
 pub(crate) fn ran_by(cause: Cause, course: Course, code: &Code) -> Ending
-    ensures { result ≡ record { touched = course.touched; cause = cause; ran = Some code.now } }
+    ensures { result ≡ record { touched = course.touched; cause = cause; ran = Some code.now; handling = None } }
 {
     Ending {
         touched: course.touched,
         cause,
         ran: Some(*code),
+        handling: None,
     }
 }
 
@@ -84,19 +86,20 @@ impl Machine {
         ran_by(Cause::Went, course, code)
     }
 
-    /// FNC_RETURN; where it faults the core is what it was before the instruction.
+    /// FNC_RETURN by a value; where it faults the core is what it was before the instruction.
     #[tactic(auto, unfolding(tz_sem::specs::Exchange::comes_back))]
-    fn come_back(&mut self, before: &Core, course: Course, code: &Code) -> Ending
-        ensures { comes_back before.now self.old course code.now ≡ record { state = self.new; ending = result } }
+    fn come_back(&mut self, before: &Core, course: Course, code: &Code, value: u32) -> Ending
+        ensures { comes_back before.now self.old course code.now value ≡ record { state = self.new; ending = result } }
     {
         let mut frames = frames_over(&mut self.bus, &self.core, course.negative);
-        match function_return(&mut self.core, &mut frames) {
+        let ending = match function_return(&mut self.core, &mut frames) {
             Ok(()) => ran_by(Cause::CameBack, touching(course), code),
             Err(fault) => {
                 take_back(&mut self.core, before);
                 self.fault(touching(course), fault)
             }
-        }
+        };
+        note_value(ending, value)
     }
 
     /// Exchanges to a target: BX, BXNS and loads of PC.
@@ -113,7 +116,7 @@ impl Machine {
         ensures { exchanged before.now self.old (past insn.now self.old) course code.now target ns ≡ record { state = self.new; ending = result } }
     {
         if is_fnc_return(target) {
-            return self.come_back(before, course, code);
+            return self.come_back(before, course, code, target);
         }
         self.pass(insn);
         if self.core.handler() && is_exc_return(target) {

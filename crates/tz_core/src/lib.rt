@@ -15,6 +15,7 @@ mod fields;
 mod from_words;
 mod it_rules;
 mod laws;
+mod noting;
 mod port;
 mod put;
 mod running;

@@ -10,6 +10,7 @@ use crate::changes::Stores;
 use crate::ending::{Passage, changes_handler};
 use crate::exchange::{is_call, ran_by};
 use crate::it_rules::{ignores_condition, is_misplaced, is_passed_over};
+use crate::noting::pends_next;
 use std::marker::Model;
 use tz_access::Bus;
 use tz_decode::{Decoded, decode};
@@ -19,7 +20,7 @@ use tz_model::{Board, Code, Fault, Insn, Outcome, Report, ScriptEvent, Side, Sle
 use tz_nvic::Exceptions;
 use tz_prio::is_negative;
 use tz_regs::Core;
-use tz_sem::{Cause, Course, Ending};
+use tz_sem::{Account, Cause, Course, Ending};
 
 /// The machine: the core, the exceptions, and memory with the units that guard it.
 #[derive(Drop)]
@@ -72,6 +73,7 @@ impl Machine {
     ghost use Rattle.tz_sem.specs.Exec.{executed};
     ghost use Rattle.tz_model.specs.Codes.{meaning_of};
     ghost use Rattle.tz_sem.specs.Step.{past, goes_next, skips, goes_on, concludes, executes, faulting, placed, decoded, runs_gateway, touches_secure, unready, course_in, instructs, idles, by_sleep, takes_exception, started, ended, step};
+    ghost use Rattle.tz_sem.specs.Account.{account};
     ghost use Rattle.tz_twin.specs.Integrity.{LeavesSecure, EntersSecure};
     ghost use Rattle.tz_twin.specs.Ways.{TellsWay};
     ghost use Rattle.tz_twin.specs.Writing.{is_exceptional};
@@ -204,7 +206,8 @@ impl Machine {
         self.go_next(course, code)
     }
 
-    /// Runs an instruction whose place and condition let it run.
+    /// Runs an instruction whose place and condition let it run. It is always inlined, as `make_step` is.
+    #[inline(always)]
     fn run_here(&mut self, insn: &Insn, code: &Code, course: Course, stores: &mut Stores) -> Ending
         requires { array_vec_len stores.old ≡ 0 }
         ensures { executes self.old.core course code.now insn.now (executed self.old insn.now) ≡ record { state = self.new; stores = stores.new.items; ending = result } }
@@ -324,6 +327,7 @@ impl Machine {
             touched: self.core.run.side == Side::Secure,
             cause: Cause::Went,
             ran: None,
+            handling: None,
         }
     }
 
@@ -375,14 +379,16 @@ impl Machine {
         self.preempt(course, back)
     }
 
-    /// Makes one step after what it begins with, but for its report: notes the stores, and tells how it ended.
+    /// Makes one step after what it begins with, but for its report: notes the stores, and tells how it ended. Each of
+    /// its two callers has a copy of its own, since what a call hands back and forth would cost each step some 50 instructions.
+    #[inline(always)]
     #[tactic(auto, unfolding(tz_sem::specs::Step::ended))]
     fn make_step(&mut self, stores: &mut Stores) -> Ending
         requires { array_vec_len stores.old ≡ 0 }
         ensures { ended self.old ≡ record { state = self.new; stores = stores.new.items; ending = result } }
     {
         if self.core.run.locked {
-            return self.lock(true);
+            return self.lock(true, None);
         }
         if takes_first_uncounted(&self.core, &mut self.exceptions) {
             return self.take();
@@ -390,9 +396,10 @@ impl Machine {
         self.go_by_sleep(stores)
     }
 
-    /// Makes one step with its report.
-    fn report_step(&mut self, due: &[ScriptEvent], report: &mut Report)
-        ensures { step self.old due.now ≡ record { state = self.new; report = report.new } }
+    /// Makes one step with its report, and tells how it ended.
+    fn report_step(&mut self, due: &[ScriptEvent], report: &mut Report) -> Ending
+        ensures step { step self.old due.now ≡ record { state = self.new; report = report.new } }
+        ensures ending { (ended (started self.old due.now)).ending ≡ result }
     {
         let before = self.core.before();
         report.changes.clear();
@@ -400,6 +407,7 @@ impl Machine {
         self.start(due);
         let ending = self.make_step(&mut report.stores);
         self.tell(&before, &ending, report);
+        ending
     }
 
     /// Makes one step at which these events are due, and tells of it the way out of Secure state, and whether it was
@@ -428,6 +436,25 @@ impl Machine {
         ensures tells_way { TellsWay (record { state = self.new; report = report.new }) }
     {
         self.report_step(due, report);
+    }
+
+    /// Makes one step at which these events are due, and tells in `report` what it did, and beside that what neither
+    /// the report nor the state after the step tells: the core before it, which timers pended, and how exceptions came
+    /// into it.
+    pub fn step_told(&mut self, due: &[ScriptEvent], report: &mut Report) -> Account
+        ensures step { step self.old due.now ≡ record { state = self.new; report = report.new } }
+        ensures account { result ≡ account self.old due.now }
+    {
+        let core = self.core;
+        let ticked_s = pends_next(&self.exceptions.timer(Side::Secure));
+        let ticked_ns = pends_next(&self.exceptions.timer(Side::NonSecure));
+        let ending = self.report_step(due, report);
+        Account {
+            core,
+            ticked_s,
+            ticked_ns,
+            ending,
+        }
     }
 
     /// Makes one step at which these events are due, and tells what it did. An event of an interrupt that the

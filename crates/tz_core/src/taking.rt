@@ -4,14 +4,14 @@ ghost use Rattle.std.specs.Prelude.{◌≡◌};
 ghost use Rattle.tz_table.specs.declared.units.Side.TheVariants.{Secure};
 ghost use Rattle.tz_state.specs.State.{is_privileged_in};
 ghost use Rattle.tz_sem.specs.Taking.{goes_on_at, passed_by};
-ghost use Rattle.tz_sem.specs.Exchange.{ran_by};
 
+use crate::noting::{by_entry, by_value, note_fault};
 use crate::running::Machine;
 use tz_access::{Bus, BusFrames};
 use tz_excret::{Entered, Left, enter, leave, raise_fault};
 use tz_model::{Code, Fault, Side};
 use tz_regs::Core;
-use tz_sem::{Cause, Course, Ending};
+use tz_sem::{Cause, Course, Ending, Handling};
 
 /// Where code goes on that faulted: at the instruction, and behind SVC, which has two bytes.
 fn goes_on_at(fault: Fault, pc: u32) -> u32
@@ -58,29 +58,31 @@ impl Machine {
     ghost use Rattle.std.specs.Prelude.{Some, None, true};
     ghost use Rattle.tz_sem.specs.declared.ending.Cause.TheVariants.{Resumed};
     ghost use Rattle.tz_sem.specs.Exec.{released};
-    ghost use Rattle.tz_sem.specs.Taking.{locks, taken, preempted, faults, returns};
+    ghost use Rattle.tz_sem.specs.Taking.{by_value, locks, taken, preempted, faults, returns};
 
     /// Locks the machine, by a fault or because it was locked.
-    pub(crate) fn lock(&mut self, touched: bool) -> Ending
-        ensures { locks self.old touched ≡ record { state = self.new; ending = result } }
+    pub(crate) fn lock(&mut self, touched: bool, handling: Option<Handling>) -> Ending
+        ensures { locks self.old touched handling ≡ record { state = self.new; ending = result } }
     {
         self.core.run.locked = true;
         Ending {
             touched,
             cause: Cause::Went,
             ran: None,
+            handling,
         }
     }
 
     /// Ends a step in which an exception was taken, which clears the monitor.
-    fn end_taken(&mut self, touched: bool) -> Ending
-        ensures { taken self.old touched ≡ record { state = self.new; ending = result } }
+    fn end_taken(&mut self, touched: bool, handling: Handling) -> Ending
+        ensures { taken self.old touched (Some handling) ≡ record { state = self.new; ending = result } }
     {
         self.bus.monitor_clear();
         Ending {
             touched,
             cause: Cause::Taken,
             ran: None,
+            handling: Some(handling),
         }
     }
 
@@ -98,8 +100,12 @@ impl Machine {
             back,
             profile,
         ) {
-            Entered::Taken { touched, .. } => self.end_taken(course.touched | touched),
-            Entered::Lockup { touched } => self.lock(course.touched | touched),
+            Entered::Taken { entry, .. } => {
+                self.end_taken(course.touched | entry.touched, by_entry(entry))
+            }
+            Entered::Lockup { entry } => {
+                self.lock(course.touched | entry.touched, Some(by_entry(entry)))
+            }
         }
     }
 
@@ -110,23 +116,27 @@ impl Machine {
         ensures { faults self.old course fault ≡ record { state = self.new; ending = result } }
     {
         let back = goes_on_at(fault, self.core.registers.pc);
-        if raise_fault(&mut self.core, &mut self.exceptions, fault) {
-            return self.lock(course.touched);
-        }
-        pass_by(&mut self.core, fault);
-        self.preempt(course, back)
+        let ending = if raise_fault(&mut self.core, &mut self.exceptions, fault) {
+            self.lock(course.touched, None)
+        } else {
+            pass_by(&mut self.core, fault);
+            self.preempt(course, back)
+        };
+        note_fault(ending, fault)
     }
 
-    /// Ends a step in which an exception returned to the code that it had interrupted, which clears the monitor.
-    fn end_resumed(&mut self, touched: bool, code: &Code) -> Ending
+    /// Ends a step in which an exception returned, by a value, to the code that it had interrupted, which clears the
+    /// monitor.
+    fn end_resumed(&mut self, touched: bool, code: &Code, value: u32) -> Ending
         ensures state { self.new ≡ released self.old }
-        ensures ending { result ≡ record { touched = touched; cause = Resumed; ran = Some code.now } }
+        ensures ending { result ≡ record { touched = touched; cause = Resumed; ran = Some code.now; handling = Some (by_value value None None) } }
     {
         self.bus.monitor_clear();
         Ending {
             touched,
             cause: Cause::Resumed,
             ran: Some(*code),
+            handling: Some(by_value(value, None, None)),
         }
     }
 
@@ -144,9 +154,15 @@ impl Machine {
             value,
             profile,
         ) {
-            Left::Resumed { touched } => self.end_resumed(course.touched | touched, code),
-            Left::Chained { touched, .. } => self.end_taken(course.touched | touched),
-            Left::Lockup { touched } => self.lock(course.touched | touched),
+            Left::Resumed { touched } => self.end_resumed(course.touched | touched, code, value),
+            Left::Chained { refused, entry, .. } => self.end_taken(
+                course.touched | entry.touched,
+                by_value(value, refused, Some(entry)),
+            ),
+            Left::Lockup { refused, entry } => self.lock(
+                course.touched | entry.touched,
+                Some(by_value(value, refused, Some(entry))),
+            ),
         }
     }
 }

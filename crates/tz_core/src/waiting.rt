@@ -28,7 +28,9 @@ impl Machine {
     ghost use Rattle.tz_state.specs.State.{with_run};
     ghost use Rattle.tz_sem.specs.Step.{started, awake, without_event, is_woken};
 
-    /// What a step begins with, of a locked machine too: the events that are due pend, and the timers count.
+    /// What a step begins with, of a locked machine too: the events that are due pend, and the timers count. It is always
+    /// inlined, as `make_step` is.
+    #[inline(always)]
     pub(crate) fn start(&mut self, due: &[ScriptEvent])
         ensures { self.new ≡ started self.old due.now }
     {

@@ -19,6 +19,7 @@ use Rattle.tz_state.specs.Escalation.{hard_side, escalated}
 use Rattle.tz_nvic.proofs.Least.{least_found}
 use Rattle.tz_frames.specs.FrameAccess.{FrameAnswering, Vector}
 use Rattle.tz_frames.specs.declared.frame.StackFault.{StackFault}
+use Rattle.tz_frames.specs.declared.entering.FrameFault.{FrameFault}
 use Rattle.tz_frames.specs.declared.entering.Choice.{Choice}
 use Rattle.tz_frames.specs.declared.entering.Choice.TheVariants as choices
 use Rattle.tz_frames.specs.Status.{slot, with_status, frame_status, frame_exception, raised_as}
@@ -160,28 +161,28 @@ raised_hardened AsIs given c e h = hardened_pended e given h
 raised_hardened (Hard side) given c e h = hardened_pended e (slot 3 side) h
 raised_hardened Lockup given c e h = h
 
-stacked_by_again : {H : Type 0} (answering : FrameAnswering H) (profile : Profile) (w : Work H) (given : Slot) (faulted : Bool) (fault : Option StackFault) → Placed w.exceptions → Skips w
-    → Again (λ v. Placed v.exceptions × Skips v) (stacked_by answering profile w given faulted fault)
-stacked_by_again answering profile w given false (Some fault) h s again =
+stacked_by_again : {H : Type 0} (answering : FrameAnswering H) (profile : Profile) (w : Work H) (given : Slot) (first : Option FrameFault) (fault : Option StackFault) → Placed w.exceptions → Skips w
+    → Again (λ v. Placed v.exceptions × Skips v) (stacked_by answering profile w given first fault)
+stacked_by_again answering profile w given None (Some fault) h s again =
     let of = frame_exception w.exceptions Secure fault in
     let c = with_status w.core (frame_status true Secure fault w.core.status) in
     (raised_placed (escalated w.exceptions c.masks of) of c w.exceptions h, s)
-stacked_by_again answering profile w given true (Some fault) h s again = let k = vectored_again answering profile w given h again in (k.placed, k.skip ∙ s)
-stacked_by_again answering profile w given faulted None h s again = let k = vectored_again answering profile w given h again in (k.placed, k.skip ∙ s)
+stacked_by_again answering profile w given (Some first) (Some fault) h s again = let k = vectored_again answering profile w given h again in (k.placed, k.skip ∙ s)
+stacked_by_again answering profile w given first None h s again = let k = vectored_again answering profile w given h again in (k.placed, k.skip ∙ s)
 
 -- the choice is the last but for a frame that faults
 abbrev Ending : {H : Type 0} → Work H → Type 0
 Ending w = Placed w.exceptions × Hardened w.exceptions × Skips w
 
-stacked_by_last : {H : Type 0} (answering : FrameAnswering H) (profile : Profile) (w : Work H) (given : Slot) (faulted : Bool) (fault : Option StackFault) → Placed w.exceptions → Hardened w.exceptions → Skips w
-    → is_last_resort given ≡ true → Again Ending (stacked_by answering profile w given faulted fault)
-stacked_by_last answering profile w given false (Some fault) h d s is again =
+stacked_by_last : {H : Type 0} (answering : FrameAnswering H) (profile : Profile) (w : Work H) (given : Slot) (first : Option FrameFault) (fault : Option StackFault) → Placed w.exceptions → Hardened w.exceptions → Skips w
+    → is_last_resort given ≡ true → Again Ending (stacked_by answering profile w given first fault)
+stacked_by_last answering profile w given None (Some fault) h d s is again =
     let of = frame_exception w.exceptions Secure fault in
     let c = with_status w.core (frame_status true Secure fault w.core.status) in
     let t = escalated w.exceptions c.masks of in
     (raised_placed t of c w.exceptions h, raised_hardened t of c w.exceptions d, s)
-stacked_by_last answering profile w given true (Some fault) h d s is again = absurd (vectored_ends answering profile w given is again)
-stacked_by_last answering profile w given faulted None h d s is again = absurd (vectored_ends answering profile w given is again)
+stacked_by_last answering profile w given (Some first) (Some fault) h d s is again = absurd (vectored_ends answering profile w given is again)
+stacked_by_last answering profile w given first None h d s is again = absurd (vectored_ends answering profile w given is again)
 
 -- ---- an exception
 
@@ -210,7 +211,7 @@ unfolding taking
 taking_first answering profile w given h =
     let p = pushed_by answering w in
     again_cond Second (falls w.entry given && not w.entry.skip) _ _
-    (λ e again. let k = stacked_by_again answering profile (Stacked w p) given w.entry.faulted p.fault h refl again in (k.0, inr k.1))
+    (λ e again. let k = stacked_by_again answering profile (Stacked w p) given w.entry.frame p.fault h refl again in (k.0, inr k.1))
     (λ e again. let k = vectored_again answering profile (unstacked w given) given h again in (k.placed, inl k.hardened))
 
 taking_framed : {H : Type 0} (answering : FrameAnswering H) (profile : Profile) (w : Work H) (given : Slot) → Placed w.exceptions → Skips w → Again Ending (taking answering profile w given)
@@ -225,7 +226,7 @@ unfolding taking
 taking_hard answering profile w given h d is =
     let p = pushed_by answering w in
     again_cond Ending (falls w.entry given && not w.entry.skip) _ _
-    (λ e again. stacked_by_last answering profile (Stacked w p) given w.entry.faulted p.fault h d refl is again)
+    (λ e again. stacked_by_last answering profile (Stacked w p) given w.entry.frame p.fault h d refl is again)
     (λ e again. absurd (vectored_ends answering profile (unstacked w given) given is again))
 
 abbrev Never : {H : Type 0} → Work H → Type 0

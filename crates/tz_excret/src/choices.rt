@@ -4,7 +4,7 @@
 ghost use Rattle.std.specs.Prelude.{◌≡◌, ◌≤◌, ◌+◌, true, false};
 ghost use Rattle.tz_state.specs.Slots.{exists};
 ghost use Rattle.tz_frames.specs.declared.entering.Entered.TheVariants as entered;
-ghost use Rattle.tz_frames.specs.Enter.{falls, callee_process, callee_privileged, raised_choice, stacked, taking, choosing, tries, with_lock};
+ghost use Rattle.tz_frames.specs.Enter.{falls, callee_process, callee_privileged, raised_choice, stacked, taking, choosing, tries, with_lock, without_frame};
 ghost use Rattle.tz_frames.specs.Stack.{pushed_additional};
 ghost use Rattle.tz_excret.specs.Lent.{work_of, SameLoans};
 ghost use Rattle.tz_excret.specs.Room.{need};
@@ -14,7 +14,7 @@ use crate::raise::raise_frame_fault;
 use crate::sides::is_secure;
 use crate::vector::take_vector;
 use crate::work::Work;
-use tz_frames::{Choice, Entered, Entering, Frames};
+use tz_frames::{Choice, Entered, Entering, FrameFault, Frames, StackFault};
 use tz_model::{Side, Slot};
 use tz_regs::Core;
 use tz_stack::push_additional;
@@ -25,12 +25,17 @@ pub(crate) const CHOICES: u8 = 4;
 /// The core locks.
 pub(crate) fn lock(core: &mut Core, entry: &Entering) -> Entered
     ensures core { core.new ≡ with_lock core.old }
-    ensures result { result ≡ entered.Lockup entry.now.touched }
+    ensures result { result ≡ entered.Lockup entry.now }
 {
     core.run.locked = true;
-    Entered::Lockup {
-        touched: entry.touched,
-    }
+    Entered::Lockup { entry: *entry }
+}
+
+/// Notes the frame that has faulted, the additional one or the basic one.
+pub(crate) fn fail_frame(entry: &mut Entering, additional: bool, fault: StackFault)
+    ensures { entry.new ≡ without_frame entry.old additional fault }
+{
+    entry.frame = Some(FrameFault { additional, fault });
 }
 
 /// Whether an exception calls for the additional frame.
@@ -77,8 +82,8 @@ fn take_stacked<P: Frames>(work: &mut Work<'_, P>, entry: &mut Entering, slot: S
     entry.skip = true;
     entry.fell = true;
     if let Err(fault) = push_additional(work.core, work.port, process, privileged) {
-        if !entry.faulted {
-            entry.faulted = true;
+        if entry.frame.is_none() {
+            fail_frame(entry, true, fault);
             let locks = raise_frame_fault(work.core, work.exceptions, true, Side::Secure, fault);
             return raised_choice(locks);
         }
@@ -138,7 +143,7 @@ pub(crate) fn make_choices<P: Frames>(
     match choose(work, entry) {
         Choice::Taken(slot) => Entered::Taken {
             slot,
-            touched: entry.touched,
+            entry: *entry,
         },
         Choice::Lockup => lock(work.core, entry),
         Choice::Again => make_choices(work, entry, left - 1),

@@ -4,7 +4,7 @@ ghost use Rattle.std.specs.Prelude.{◌≡◌, ◌≤◌, ◌+◌};
 ghost use Rattle.tz_frames.specs.Enter.{interrupted, enters};
 ghost use Rattle.tz_excret.specs.Room.{need};
 
-use crate::choices::{CHOICES, lock, make_choices};
+use crate::choices::{CHOICES, fail_frame, lock, make_choices};
 use crate::raise::raise_frame_fault;
 use crate::sides::is_secure;
 use crate::work::Work;
@@ -24,7 +24,9 @@ fn interrupted(core: &Core) -> Entering
         dcrs: true,
         skip: false,
         fell: false,
-        faulted: false,
+        frame: None,
+        vector: None,
+        last: None,
         touched: false,
     }
 }
@@ -35,7 +37,8 @@ fn interrupted(core: &Core) -> Entering
 /// or a vector that fails pends its fault first, so that another exception may be taken than the one that came
 /// first before. It stores at most 18 words.
 ///
-/// `Taken` tells the exception, and whether a vector of a Secure exception was read. `Lockup` where a fault of the
+/// `Taken` tells the exception. Either tells the entry: the first frame that has faulted, vectors that couldn't be
+/// read, and whether one of a Secure exception was. `Lockup` where a fault of the
 /// entry can't be taken, even as HardFault, where the vector of NMI or HardFault fails, or where no exception pends:
 /// then the core is locked.
 #[tactic(auto, unfolding(tz_frames::specs::Enter::enters))]
@@ -54,7 +57,7 @@ pub fn enter<P: Frames>(
     let side = core.run.side;
     let mut entry = interrupted(core);
     if let Err(fault) = push_basic(core, port, back) {
-        entry.faulted = true;
+        fail_frame(&mut entry, false, fault);
         if raise_frame_fault(core, exceptions, true, side, fault) {
             return lock(core, &entry);
         }

@@ -14,7 +14,7 @@ use crate::raise::{raise_fault_of, raise_frame_fault};
 use crate::release::{free, unhandle};
 use crate::sides::side_of_bit;
 use crate::work::Work;
-use tz_frames::{Entered, Entering, Frames, Left, Returning, Unstacked};
+use tz_frames::{Entered, Entering, Frames, Left, Refusal, Returning, Unstacked};
 use tz_model::{Fault, Profile, Side};
 use tz_nvic::Exceptions;
 use tz_regs::Core;
@@ -30,52 +30,67 @@ fn chaining(returning: &Returning, touched: bool) -> Entering
         dcrs: returning.dcrs && (returning.es || !returning.secure),
         skip: !returning.es || !returning.dcrs,
         fell: false,
-        faulted: false,
+        frame: None,
+        vector: None,
+        last: None,
         touched,
     }
 }
 
-/// How a return ends whose entry ends so.
-fn left_of(entered: Entered) -> Left
-    ensures { result ≡ left_of entered }
+/// How a return ends whose entry ends so, and which was refused or wasn't.
+fn left_of(refused: Option<Refusal>, entered: Entered) -> Left
+    ensures { result ≡ left_of refused entered }
 {
     match entered {
-        Entered::Taken { slot, touched } => Left::Chained { slot, touched },
-        Entered::Lockup { touched } => Left::Lockup { touched },
+        Entered::Taken { slot, entry } => Left::Chained {
+            slot,
+            refused,
+            entry,
+        },
+        Entered::Lockup { entry } => Left::Lockup { refused, entry },
     }
 }
 
 /// Takes the exception that comes first in place of the one that returns.
 #[tactic(auto, unfolding(tz_frames::specs::Leave::chained))]
-fn chain<P: Frames>(work: &mut Work<'_, P>, returning: &Returning, touched: bool) -> Left
+fn chain<P: Frames>(
+    work: &mut Work<'_, P>,
+    returning: &Returning,
+    refused: Option<Refusal>,
+    touched: bool,
+) -> Left
     requires { 10 ≤ P.room work.old.port.now }
-    ensures does { chained P.answer work.old.profile returning.now touched work.old.core.now work.old.exceptions.now (P.held work.old.port.now) ≡ left_by P.held work.new result }
+    ensures does { chained P.answer work.old.profile returning.now refused touched work.old.core.now work.old.exceptions.now (P.held work.old.port.now) ≡ left_by P.held work.new result }
     ensures loans { SameLoans work.old work.new }
     ensures room { P.room work.old.port.now ≤ P.room work.new.port.now + 10 }
     ensures lent { P.lent work.new.port.now ≡ P.lent work.old.port.now }
 {
     let mut entry = chaining(returning, touched);
-    left_of(make_choices(work, &mut entry, CHOICES))
+    left_of(refused, make_choices(work, &mut entry, CHOICES))
 }
 
 /// Does so after a fault has pended, unless the core has to lock.
 fn chain_raised<P: Frames>(
     work: &mut Work<'_, P>,
     returning: &Returning,
+    refusal: Refusal,
     touched: bool,
     locks: bool,
 ) -> Left
     requires { 10 ≤ P.room work.old.port.now }
-    ensures does { chained_raised P.answer work.old.profile returning.now touched (P.held work.old.port.now) (record { core = work.old.core.now; exceptions = work.old.exceptions.now; locks = locks }) ≡ left_by P.held work.new result }
+    ensures does { chained_raised P.answer work.old.profile returning.now refusal touched (P.held work.old.port.now) (record { core = work.old.core.now; exceptions = work.old.exceptions.now; locks = locks }) ≡ left_by P.held work.new result }
     ensures loans { SameLoans work.old work.new }
     ensures room { P.room work.old.port.now ≤ P.room work.new.port.now + 10 }
     ensures lent { P.lent work.new.port.now ≡ P.lent work.old.port.now }
 {
     if locks {
         work.core.run.locked = true;
-        return Left::Lockup { touched };
+        return Left::Lockup {
+            refused: Some(refusal),
+            entry: chaining(returning, touched),
+        };
     }
-    chain(work, returning, touched)
+    chain(work, returning, Some(refusal), touched)
 }
 
 /// The code that was interrupted goes on by its frames, or a fault of theirs is entered.
@@ -92,17 +107,20 @@ fn resume_by<P: Frames>(
 {
     let touched = returning.secure;
     let side = side_of_bit(returning.secure);
-    let locks = match frames {
-        Err(fault) => raise_frame_fault(work.core, work.exceptions, false, side, *fault),
+    match frames {
+        Err(fault) => {
+            let locks = raise_frame_fault(work.core, work.exceptions, false, side, *fault);
+            chain_raised(work, returning, Refusal::Frame(*fault), touched, locks)
+        }
         Ok(unstacked) => {
             if modes_agree(returning, &unstacked.basic) {
                 resume(work.core, returning, unstacked);
                 return Left::Resumed { touched };
             }
-            raise_fault_of(work.core, work.exceptions, side, Fault::InvPc(side))
+            let locks = raise_fault_of(work.core, work.exceptions, side, Fault::InvPc(side));
+            chain_raised(work, returning, Refusal::Mode(side), touched, locks)
         }
-    };
-    chain_raised(work, returning, touched, locks)
+    }
 }
 
 /// Another exception that can be taken comes first, or the code that was interrupted goes on.
@@ -115,7 +133,7 @@ fn go_back<P: Frames>(work: &mut Work<'_, P>, returning: &Returning) -> Left
     ensures lent { P.lent work.new.port.now ≡ P.lent work.old.port.now }
 {
     if takes_first_uncounted(work.core, work.exceptions) {
-        return chain(work, returning, false);
+        return chain(work, returning, None, false);
     }
     let frames = unstack(work.core, work.port, returning);
     resume_by(work, returning, &frames)
@@ -137,7 +155,7 @@ fn leave_noting<P: Frames>(
     match noted {
         Some(fault) => {
             let locks = raise_fault_of(work.core, work.exceptions, side, fault);
-            chain_raised(work, returning, false, locks)
+            chain_raised(work, returning, Refusal::Value(fault), false, locks)
         }
         None => go_back(work, returning),
     }
@@ -151,8 +169,8 @@ fn leave_noting<P: Frames>(
 ///
 /// `Resumed` where the code that was interrupted goes on. `Chained` where another exception that can be taken, or a
 /// fault of this return, is taken in its place. `Lockup` where a fault can't be taken, even as HardFault, or where
-/// the vector of NMI or HardFault fails: then the core is locked. Each tells whether a frame of a Secure stack or a
-/// vector of a Secure exception was read.
+/// the vector of NMI or HardFault fails: then the core is locked. Both tell the entry, and why the return was refused,
+/// where it was. Each tells whether a frame of a Secure stack or a vector of a Secure exception was read.
 #[tactic(auto, unfolding(tz_frames::specs::Leave::leaves))]
 pub fn leave<P: Frames>(
     core: &mut Core,

@@ -10,7 +10,7 @@ ghost use Rattle.tz_state.specs.Priority.{hard_priority};
 ghost use Rattle.tz_state.specs.Execution.{execution};
 ghost use Rattle.tz_frames.specs.Status.{slot as slot_of, with_hfsr, with_status};
 ghost use Rattle.tz_frames.specs.Registers.{taken_registers, scratch_cleared, all_cleared};
-ghost use Rattle.tz_frames.specs.Enter.{exc_return, dcrs_of, handling, is_last_resort, vector_choice, can_harden, vectored};
+ghost use Rattle.tz_frames.specs.Enter.{exc_return, dcrs_of, handling, is_last_resort, vector_choice, can_harden, without_vector, vectored};
 ghost use Rattle.tz_excret.specs.Lent.{work_of, SameLoans};
 
 use crate::sides::{is_secure, set_spsel};
@@ -153,6 +153,17 @@ fn can_harden(core: &Core, exceptions: &Exceptions, slot: Slot) -> bool
     !is_last_resort(slot) && can_take_hard(core, exceptions, hard_side(exceptions, slot.side))
 }
 
+/// Notes the exception whose vector can't be read.
+fn note_vector(entry: &mut Entering, slot: Slot)
+    ensures { entry.new ≡ without_vector entry.old slot }
+{
+    if is_last_resort(slot) {
+        entry.last = Some(slot);
+    } else {
+        entry.vector = Some(slot);
+    }
+}
+
 /// A vector can't be read: HFSR.VECTTBL is set, and HardFault pends.
 fn fail_vector(core: &mut Core, exceptions: &mut Exceptions, slot: Slot) -> Choice
     ensures core { core.new ≡ with_status core.old (with_hfsr vecttbl core.old.status) }
@@ -190,6 +201,9 @@ pub(crate) fn take_vector<P: Frames>(
             work.exceptions.activate(slot);
             Choice::Taken(slot)
         }
-        Err(_) => fail_vector(work.core, work.exceptions, slot),
+        Err(_) => {
+            note_vector(entry, slot);
+            fail_vector(work.core, work.exceptions, slot)
+        }
     }
 }

@@ -22,6 +22,7 @@ use Rattle.tz_state.specs.Escalation.{hard_side}
 use Rattle.tz_frames.specs.ReturnBits.{exc_return_ones, exc_return_spsel, exc_return_mode, exc_return_ftype, exc_return_dcrs, exc_return_s}
 use Rattle.tz_frames.specs.FrameAccess.{FrameAnswering, Vector}
 use Rattle.tz_frames.specs.declared.frame.StackFault.{StackFault}
+use Rattle.tz_frames.specs.declared.entering.FrameFault.{FrameFault}
 use Rattle.tz_frames.specs.declared.entering.Entering.{Entering}
 use Rattle.tz_frames.specs.declared.entering.Choice.{Choice}
 use Rattle.tz_frames.specs.declared.entering.Choice.TheVariants as choices
@@ -86,6 +87,14 @@ vector_choice taken = if taken then choices.Again else choices.Lockup
 abbrev pub can_harden : Core → ExceptionsValue → Slot → Bool
 can_harden c e given = not (is_last_resort given) && nat_lt (hard_priority e (hard_side e given.side)) (execution e c.masks)
 
+-- an entry that can't read the vector of an exception
+abbrev pub without_vector : Entering → Slot → Entering
+without_vector x given =
+    record x {
+      vector = if is_last_resort given then x.vector else Some given;
+      last = if is_last_resort given then Some given else x.last;
+    }
+
 -- HFSR.VECTTBL alone is set, and HardFault pends
 unfoldable pub vector_failed : {H : Type 0} → Work H → Slot → Chosen H
 vector_failed w given =
@@ -93,6 +102,7 @@ vector_failed w given =
       work = record w {
         core = with_status w.core (with_hfsr vecttbl w.core.status);
         exceptions = pended w.exceptions (slot hard_fault (hard_side w.exceptions given.side));
+        entry = without_vector w.entry given;
       };
       choice = vector_choice (can_harden w.core w.exceptions given);
     }
@@ -129,26 +139,30 @@ callee_privileged c x = not x.thread || not c.stacks_s.npriv
 abbrev pub raised_choice : Bool → Choice
 raised_choice locks = if locks then choices.Lockup else choices.Again
 
+-- an entry whose frame has faulted, the additional one or the basic one
+abbrev pub without_frame : Entering → Bool → StackFault → Entering
+without_frame x additional fault = record x { frame = Some (record { additional = additional; fault = fault }) }
+
 -- a fault of a frame pends, and the choice is made again
 abbrev pub after_raise : {H : Type 0} → H → Entering → Raised → Chosen H
 after_raise h x r =
     record {
-      work = record { core = r.core; exceptions = r.exceptions; held = h; entry = record x { faulted = true } };
+      work = record { core = r.core; exceptions = r.exceptions; held = h; entry = x };
       choice = raised_choice r.locks;
     }
 
 -- only the first frame that faults counts
-abbrev pub stacked_by : {H : Type 0} → FrameAnswering H → Profile → Work H → Slot → Bool → Option StackFault → Chosen H
-stacked_by answering profile w given false (Some fault) = after_raise w.held w.entry (frame_faulted true Secure fault w.core w.exceptions)
-stacked_by answering profile w given true (Some fault) = vectored answering profile w given
-stacked_by answering profile w given faulted None = vectored answering profile w given
+abbrev pub stacked_by : {H : Type 0} → FrameAnswering H → Profile → Work H → Slot → Option FrameFault → Option StackFault → Chosen H
+stacked_by answering profile w given None (Some fault) = after_raise w.held (without_frame w.entry true fault) (frame_faulted true Secure fault w.core w.exceptions)
+stacked_by answering profile w given (Some first) (Some fault) = vectored answering profile w given
+stacked_by answering profile w given first None = vectored answering profile w given
 
 abbrev pub fallen : Entering → Entering
 fallen x = record x { skip = true; fell = true }
 
 abbrev pub stacked : {H : Type 0} → FrameAnswering H → Profile → Work H → Slot → Pushed H → Chosen H
 stacked answering profile w given p =
-    stacked_by answering profile (record w { core = p.core; held = p.held; entry = fallen w.entry }) given w.entry.faulted p.fault
+    stacked_by answering profile (record w { core = p.core; held = p.held; entry = fallen w.entry }) given w.entry.frame p.fault
 
 -- ---- one choice
 
@@ -179,11 +193,11 @@ abbrev pub with_lock : Core → Core
 with_lock c = record c { run = record c.run { locked = true } }
 
 abbrev pub locked_up : {H : Type 0} → Work H → Done H
-locked_up w = record { core = with_lock w.core; exceptions = w.exceptions; held = w.held; result = entered.Lockup w.entry.touched }
+locked_up w = record { core = with_lock w.core; exceptions = w.exceptions; held = w.held; result = entered.Lockup w.entry }
 
 abbrev pub goes_on : {H : Type 0} → (Work H → Done H) → Work H → Choice → Done H
 goes_on again w (choices.Taken given) =
-    record { core = w.core; exceptions = w.exceptions; held = w.held; result = entered.Taken given w.entry.touched }
+    record { core = w.core; exceptions = w.exceptions; held = w.held; result = entered.Taken given w.entry }
 goes_on again w choices.Lockup = locked_up w
 goes_on again w choices.Again = again w
 
@@ -206,19 +220,21 @@ interrupted c =
       dcrs = true;
       skip = false;
       fell = false;
-      faulted = false;
+      frame = None;
+      vector = None;
+      last = None;
       touched = false;
     }
 
 -- a fault of the basic frame pends before the first choice
 abbrev pub begins_raised : {H : Type 0} → FrameAnswering H → Profile → H → Entering → Raised → Done H
 begins_raised answering profile h x r =
-    if r.locks then locked_up (record { core = r.core; exceptions = r.exceptions; held = h; entry = record x { faulted = true } })
-    else chooses answering profile (record { core = r.core; exceptions = r.exceptions; held = h; entry = record x { faulted = true } })
+    if r.locks then locked_up (record { core = r.core; exceptions = r.exceptions; held = h; entry = x })
+    else chooses answering profile (record { core = r.core; exceptions = r.exceptions; held = h; entry = x })
 
 abbrev pub begins : {H : Type 0} → FrameAnswering H → Profile → Side → ExceptionsValue → Entering → Core → H → Option StackFault → Done H
 begins answering profile side e x c h None = chooses answering profile (record { core = c; exceptions = e; held = h; entry = x })
-begins answering profile side e x c h (Some fault) = begins_raised answering profile h x (frame_faulted true side fault c e)
+begins answering profile side e x c h (Some fault) = begins_raised answering profile h (without_frame x false fault) (frame_faulted true side fault c e)
 
 abbrev pub after_basic : {H : Type 0} → FrameAnswering H → Profile → Side → ExceptionsValue → Entering → Pushed H → Done H
 after_basic answering profile side e x p = begins answering profile side e x p.core p.held p.fault

@@ -28,6 +28,8 @@ use Rattle.tz_frames.specs.declared.entering.Entered.{Entered}
 use Rattle.tz_frames.specs.declared.entering.Entered.TheVariants as entered
 use Rattle.tz_frames.specs.declared.leaving.Returning.{Returning}
 use Rattle.tz_frames.specs.declared.leaving.Unstacked.{Unstacked}
+use Rattle.tz_frames.specs.declared.leaving.Refusal.{Refusal}
+use Rattle.tz_frames.specs.declared.leaving.Refusal.TheVariants.{Value, Frame, Mode}
 use Rattle.tz_frames.specs.declared.leaving.Left.{Left}
 use Rattle.tz_frames.specs.declared.leaving.Left.TheVariants as lefts
 use Rattle.tz_frames.specs.Status.{Raised, slot, faulted, frame_faulted}
@@ -137,7 +139,9 @@ chaining r touched =
       dcrs = r.dcrs && (r.es || not r.secure);
       skip = not r.es || not r.dcrs;
       fell = false;
-      faulted = false;
+      frame = None;
+      vector = None;
+      last = None;
       touched = touched;
     }
 
@@ -148,22 +152,23 @@ pub record Leaving (H : Type 0) : Type 0 where
   pub held : H
   pub result : Left
 
-abbrev pub left_of : Entered → Left
-left_of (entered.Taken given touched) = lefts.Chained given touched
-left_of (entered.Lockup touched) = lefts.Lockup touched
+-- of a return that is refused, where it is
+abbrev pub left_of : Option Refusal → Entered → Left
+left_of refused (entered.Taken given x) = lefts.Chained given refused x
+left_of refused (entered.Lockup x) = lefts.Lockup refused x
 
-abbrev pub leaving_by : {H : Type 0} → Done H → Leaving H
-leaving_by d = record { core = d.core; exceptions = d.exceptions; held = d.held; result = left_of d.result }
+abbrev pub leaving_by : {H : Type 0} → Option Refusal → Done H → Leaving H
+leaving_by refused d = record { core = d.core; exceptions = d.exceptions; held = d.held; result = left_of refused d.result }
 
-unfoldable pub chained : {H : Type 0} → FrameAnswering H → Profile → Returning → Bool → Core → ExceptionsValue → H → Leaving H
-chained answering profile r touched c e h =
-    leaving_by (chooses answering profile (record { core = c; exceptions = e; held = h; entry = chaining r touched }))
+unfoldable pub chained : {H : Type 0} → FrameAnswering H → Profile → Returning → Option Refusal → Bool → Core → ExceptionsValue → H → Leaving H
+chained answering profile r refused touched c e h =
+    leaving_by refused (chooses answering profile (record { core = c; exceptions = e; held = h; entry = chaining r touched }))
 
--- a fault pends and is entered
-abbrev pub chained_raised : {H : Type 0} → FrameAnswering H → Profile → Returning → Bool → H → Raised → Leaving H
-chained_raised answering profile r touched h raised =
-    if raised.locks then record { core = with_lock raised.core; exceptions = raised.exceptions; held = h; result = lefts.Lockup touched }
-    else chained answering profile r touched raised.core raised.exceptions h
+-- a return is refused: a fault pends and is entered
+abbrev pub chained_raised : {H : Type 0} → FrameAnswering H → Profile → Returning → Refusal → Bool → H → Raised → Leaving H
+chained_raised answering profile r refusal touched h raised =
+    if raised.locks then record { core = with_lock raised.core; exceptions = raised.exceptions; held = h; result = lefts.Lockup (Some refusal) (chaining r touched) }
+    else chained answering profile r (Some refusal) touched raised.core raised.exceptions h
 
 -- ---- the frames
 
@@ -217,20 +222,20 @@ abbrev pub modes_agree : Returning → Basic → Bool
 modes_agree r b = if r.thread then number_in b.retpsr == 0 else not (number_in b.retpsr == 0)
 
 abbrev pub resumes : {H : Type 0} → FrameAnswering H → Profile → Returning → Core → ExceptionsValue → H → Result Unstacked StackFault → Leaving H
-resumes answering profile r c e h (Err fault) = chained_raised answering profile r r.secure h (frame_faulted false (side_of_bit r.secure) fault c e)
+resumes answering profile r c e h (Err fault) = chained_raised answering profile r (Frame fault) r.secure h (frame_faulted false (side_of_bit r.secure) fault c e)
 resumes answering profile r c e h (Ok u) =
     if modes_agree r u.basic then record { core = resumed r u c; exceptions = e; held = h; result = lefts.Resumed r.secure }
-    else chained_raised answering profile r r.secure h (faulted (side_of_bit r.secure) (InvPc (side_of_bit r.secure)) c e)
+    else chained_raised answering profile r (Mode (side_of_bit r.secure)) r.secure h (faulted (side_of_bit r.secure) (InvPc (side_of_bit r.secure)) c e)
 
 -- ---- all of it
 
 -- another exception that can be taken comes first
 unfoldable pub goes_back : {H : Type 0} → FrameAnswering H → Profile → Returning → Core → ExceptionsValue → H → Leaving H
 goes_back answering profile r c e h =
-    if takes_first e c.masks then chained answering profile r false c e h else resumes answering profile r c e h (unstacked answering c r h)
+    if takes_first e c.masks then chained answering profile r None false c e h else resumes answering profile r c e h (unstacked answering c r h)
 
 abbrev pub leaves_noting : {H : Type 0} → FrameAnswering H → Profile → Side → Option Fault → Returning → Core → ExceptionsValue → H → Leaving H
-leaves_noting answering profile side (Some fault) r c e h = chained_raised answering profile r false h (faulted side fault c e)
+leaves_noting answering profile side (Some fault) r c e h = chained_raised answering profile r (Value fault) false h (faulted side fault c e)
 leaves_noting answering profile side None r c e h = goes_back answering profile r c e h
 
 abbrev pub leaves_as : {H : Type 0} → FrameAnswering H → Profile → ℕ → Returning → Core → ExceptionsValue → H → Leaving H

@@ -1,6 +1,15 @@
 //! An entry under way, and how it ends.
 
+use crate::frame::StackFault;
 use tz_model::Slot;
+
+/// A frame that can't be written, and why.
+#[derive(Clone, Copy)]
+pub struct FrameFault {
+    /// Of the additional frame.
+    pub additional: bool,
+    pub fault: StackFault,
+}
 
 /// What an entry knows besides the machine: of the code that it interrupts, by the bits that LR gets of it, and of
 /// its own course.
@@ -16,8 +25,13 @@ pub struct Entering {
     pub skip: bool,
     /// A choice called for the additional frame, written or not.
     pub fell: bool,
-    /// A frame of this entry has faulted.
-    pub faulted: bool,
+    /// The first frame of this entry that has faulted.
+    pub frame: Option<FrameFault>,
+    /// An exception other than NMI and HardFault whose vector couldn't be read, so that HardFault pends
+    /// (HFSR.VECTTBL).
+    pub vector: Option<Slot>,
+    /// NMI or HardFault, whose vector couldn't be read, so that the core locks.
+    pub last: Option<Slot>,
     /// A vector of a Secure exception, or a frame of a Secure stack, was read.
     pub touched: bool,
 }
@@ -33,11 +47,11 @@ pub enum Choice {
     Lockup,
 }
 
-/// How an entry ends.
+/// How an entry ends, with all that it knows then.
 #[derive(Clone, Copy)]
 pub enum Entered {
-    /// The exception that is taken, and whether a vector of a Secure exception was read.
-    Taken { slot: Slot, touched: bool },
+    /// The exception that is taken.
+    Taken { slot: Slot, entry: Entering },
     /// The core locks.
-    Lockup { touched: bool },
+    Lockup { entry: Entering },
 }

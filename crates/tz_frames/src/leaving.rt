@@ -1,7 +1,8 @@
 //! A return under way, and how it ends.
 
-use crate::frame::{Basic, Callee};
-use tz_model::Slot;
+use crate::entering::Entering;
+use crate::frame::{Basic, Callee, StackFault};
+use tz_model::{Fault, Side, Slot};
 
 /// The bits of an EXC_RETURN value, of which ES counts as 0 where Non-secure code returns.
 #[derive(Clone, Copy)]
@@ -25,13 +26,33 @@ pub struct Unstacked {
     pub basic: Basic,
 }
 
+/// Why a return is refused.
+#[derive(Clone, Copy)]
+pub enum Refusal {
+    /// The EXC_RETURN value, with its fault (INVPC or INVER).
+    Value(Fault),
+    /// A frame that can't be read, or isn't signed.
+    Frame(StackFault),
+    /// The mode of the value isn't that of the frame: INVPC of a side.
+    Mode(Side),
+}
+
 /// How a return ends.
 #[derive(Clone, Copy)]
 pub enum Left {
     /// The code that was interrupted goes on; whether a frame of a Secure stack was read.
-    Resumed { touched: bool },
-    /// Another exception is taken in its place; whether such a frame was read, or a vector of a Secure exception.
-    Chained { slot: Slot, touched: bool },
-    /// The core locks.
-    Lockup { touched: bool },
+    Resumed {
+        touched: bool,
+    },
+    /// Another exception is taken in its place, by this entry; why the return was refused, where it was.
+    Chained {
+        slot: Slot,
+        refused: Option<Refusal>,
+        entry: Entering,
+    },
+    /// The core locks, by this entry, or before it began.
+    Lockup {
+        refused: Option<Refusal>,
+        entry: Entering,
+    },
 }

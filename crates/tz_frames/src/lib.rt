@@ -22,14 +22,14 @@ mod frames;
 mod leaving;
 pub mod return_bits;
 
-pub use entering::{Choice, Entered, Entering};
+pub use entering::{Choice, Entered, Entering, FrameFault};
 pub use fault::{FaultAddress, FaultEffect, FaultException};
 pub use frame::{
     ADDITIONAL_FRAME_SIZE, BASIC_FRAME_SIZE, BOTH_FRAMES_SIZE, Basic, CALL_FRAME_SIZE, Callee,
     StackFault,
 };
 pub use frames::Frames;
-pub use leaving::{Left, Returning, Unstacked};
+pub use leaving::{Left, Refusal, Returning, Unstacked};
 
 /// A Non-secure exception that interrupts Secure code finds zeros in R0 to R12, whatever stood there.
 pub fn hides_registers()

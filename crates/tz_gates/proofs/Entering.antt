@@ -31,13 +31,14 @@ use Rattle.tz_frames.specs.Status.{faulted}
 use Rattle.tz_frames.specs.Enter.{enters}
 use Rattle.tz_frames.specs.Leave.{leaves, is_exc_return}
 use Rattle.tz_frames.specs.Gate.{calls_ns, is_fnc_return, function_returned}
+use Rattle.tz_sem.specs.declared.ending.Handling.{Handling}
 use Rattle.tz_sem.specs.declared.ending.Cause.TheVariants as causes
 use Rattle.tz_sem.specs.declared.ending.Course.{Course}
 use Rattle.tz_sem.specs.declared.ending.Ending.{Ending}
 use Rattle.tz_sem.specs.Ended.{Passed, Ended, with_stores}
 use Rattle.tz_sem.specs.Exec.{executed}
 use Rattle.tz_sem.specs.ItRules.{is_misplaced, is_passed_over, ignores_condition}
-use Rattle.tz_sem.specs.Taking.{state_of, locks, framed_in, taken_by, preempted, goes_on_at, passed_by, faults, left_by, returns}
+use Rattle.tz_sem.specs.Taking.{state_of, locks, framed_in, taken_by, preempted, goes_on_at, passed_by, faults, left_by, returns, with_value, with_handling}
 use Rattle.tz_sem.specs.Exchange.{core_back, back_with, touching, comes_back, moves_to, exchanged, called_with, calls}
 use Rattle.tz_sem.specs.Step.{past, is_call, exchanges, concludes, executes, placed, decoded, fetched, fetches, fetch_in, course_in, instructs, idles, by_sleep, is_woken, awake, without_event, ended, faulting, skips}
 use Rattle.tz_gates.specs.Entries.{is_sg, is_sg_second}
@@ -61,8 +62,8 @@ silent_goes e none = record { goes = λ code is sg. absurd (cc) }
 -- ---- exceptions
 
 silent_taken : (s : State) (course : Course) (result : Entered) → IsSilent (taken_by s course result).ending
-silent_taken s course (entered.Taken given touched) = refl
-silent_taken s course (entered.Lockup touched) = refl
+silent_taken s course (entered.Taken given entry) = refl
+silent_taken s course (entered.Lockup entry) = refl
 
 silent_preempted : (s : State) (course : Course) (back : ℕ) → IsSilent (preempted s course back).ending
 unfolding preempted
@@ -79,7 +80,7 @@ unfolding faults
 silent_faults s course fault =
     let r = faulted s.core.run.side fault s.core s.exceptions in
     let entry = preempted (state_of (passed_by fault r.core) r.exceptions s.bus) course (goes_on_at fault s.core.registers.pc) in
-    silent_cond r.locks (locks (state_of r.core r.exceptions s.bus) course.touched) entry refl
+    silent_cond r.locks (locks (state_of r.core r.exceptions s.bus) course.touched None) entry refl
     (silent_preempted (state_of (passed_by fault r.core) r.exceptions s.bus) course (goes_on_at fault s.core.registers.pc))
 
 -- ---- what an instruction tells
@@ -92,24 +93,31 @@ tells_ended : (code : Code) (t : Bool) (p q : Ended) → TellsCode code p.ending
 tells_ended code true p q h k = h
 tells_ended code false p q h k = k
 
-tells_left : (s : State) (course : Course) (code : Code) (result : Left) → TellsCode code (left_by s course code result).ending
-tells_left s course code (left.Resumed touched) = Tells refl
-tells_left s course code (left.Chained given touched) = Silent refl
-tells_left s course code (left.Lockup touched) = Silent refl
+-- whatever is noted of how exceptions came into the step
+tells_handling : (code : Code) (change : Handling → Handling) (p : Passed) → TellsCode code p.ending → TellsCode code (with_handling change p).ending
+tells_handling code change p (Silent none) = Silent none
+tells_handling code change p (Tells some) = Tells some
+
+tells_left : (s : State) (course : Course) (code : Code) (value : ℕ) (result : Left) → TellsCode code (left_by s course code value result).ending
+tells_left s course code value (left.Resumed touched) = Tells refl
+tells_left s course code value (left.Chained given refused entry) = Silent refl
+tells_left s course code value (left.Lockup refused entry) = Silent refl
 
 tells_returns : (s : State) (course : Course) (code : Code) (value : ℕ) → TellsCode code (returns s course code value).ending
 unfolding returns
 tells_returns s course code value =
     let l = leaves framed s.bus.board.profile s.core s.exceptions (framed_in course.negative s) value in
-    tells_left (state_of l.core l.exceptions l.held.bus) course code l.result
+    tells_left (state_of l.core l.exceptions l.held.bus) course code value l.result
 
 tells_back : (before : Core) (s : State) (course : Course) (code : Code) (r : Result Core Fault) → TellsCode code (back_with before s course code r).ending
 tells_back before s course code (Ok c) = Tells refl
 tells_back before s course code (Err fault) = Silent (silent_faults (with_core s (core_back before s.core)) course fault)
 
-tells_comes_back : (before : Core) (s : State) (course : Course) (code : Code) → TellsCode code (comes_back before s course code).ending
+tells_comes_back : (before : Core) (s : State) (course : Course) (code : Code) (value : ℕ) → TellsCode code (comes_back before s course code value).ending
 unfolding comes_back
-tells_comes_back before s course code = tells_back before s (touching course) code (function_returned framed s.core (framed_in course.negative s))
+tells_comes_back before s course code value =
+    let r = function_returned framed s.core (framed_in course.negative s) in
+    tells_handling code (with_value value) (back_with before s (touching course) code r) (tells_back before s (touching course) code r)
 
 tells_moves : (s : State) (course : Course) (code : Code) (target : ℕ) (ns : Bool) → TellsCode code (moves_to s course code target ns).ending
 tells_moves s course code target true = Tells refl
@@ -118,7 +126,7 @@ tells_moves s course code target false = Tells refl
 tells_exchanged : (before : Core) (s past : State) (course : Course) (code : Code) (target : ℕ) (ns : Bool) → TellsCode code (exchanged before s past course code target ns).ending
 unfolding exchanged
 tells_exchanged before s past course code target ns =
-    tells_cond code (is_fnc_return target) (comes_back before s course code) _ (tells_comes_back before s course code)
+    tells_cond code (is_fnc_return target) (comes_back before s course code target) _ (tells_comes_back before s course code target)
     (tells_cond code (is_handler s.core.registers.ipsr && is_exc_return target) (returns past course code target) (moves_to past course code target ns)
     (tells_returns past course code target) (tells_moves past course code target ns))
 
@@ -212,5 +220,5 @@ goes_by_sleep Wfe s = goes_cond (s.core.event || is_woken s) (instructs (without
 pub goes_ended : (s : State) → GoesOn (ended s).ending
 unfolding ended
 goes_ended s =
-    goes_cond s.core.run.locked (with_stores [] (locks s true)) _ (went _ refl)
+    goes_cond s.core.run.locked (with_stores [] (locks s true None)) _ (went _ refl)
     (goes_cond (takes_first s.exceptions s.core.masks) (with_stores [] (preempted _ _ _)) (by_sleep s.core.run.sleep s) (silent_goes _ (silent_preempted _ _ _)) (goes_by_sleep s.core.run.sleep s))

@@ -69,9 +69,9 @@ first_even : (c c' : Core) (r q : Result ℕ Fault) → after_first c r q ≡ Ok
 first_even c c' (Ok back) q e = second_even c c' back q e
 first_even c c' (Err fault) q e = absurd (cc)
 
-even_comes_back : (before : Core) (s : State) (course : Course) (code : Code) → Even before.registers.pc → EvenState (comes_back before s course code).state
+even_comes_back : (before : Core) (s : State) (course : Course) (code : Code) (value : ℕ) → Even before.registers.pc → EvenState (comes_back before s course code value).state
 unfolding comes_back
-even_comes_back before s course code h =
+even_comes_back before s course code value h =
     even_back_with before s (touching course) code (function_returned framed s.core (framed_in course.negative s)) h (λ c e. first_even s.core c _ _ e)
 
 even_moves : (s : State) (course : Course) (code : Code) (target : ℕ) (ns : Bool) → EvenState (moves_to s course code target ns).state
@@ -81,7 +81,7 @@ even_moves s course code target false = even_down target
 even_exchanged : (before : Core) (s past : State) (course : Course) (code : Code) (target : ℕ) (ns : Bool) → Even before.registers.pc → EvenState past → EvenState (exchanged before s past course code target ns).state
 unfolding exchanged
 even_exchanged before s past course code target ns h k =
-    even_cond (is_fnc_return target) (comes_back before s course code) _ (even_comes_back before s course code h)
+    even_cond (is_fnc_return target) (comes_back before s course code target) _ (even_comes_back before s course code target h)
     (even_cond (is_handler s.core.registers.ipsr && is_exc_return target) (returns past course code target) (moves_to past course code target ns) (even_returns past course code target k)
     (even_moves past course code target ns))
 
@@ -153,7 +153,7 @@ even_by_sleep Wfe s h = even_end (s.core.event || is_woken s) (instructs (withou
 even_ended : (s : State) → EvenState s → EvenEnd (ended s)
 unfolding ended
 even_ended s h =
-    even_end s.core.run.locked (with_stores [] (locks s true)) _ h
+    even_end s.core.run.locked (with_stores [] (locks s true None)) _ h
     (even_end (takes_first s.exceptions s.core.masks) (with_stores [] (preempted (awake s) _ _)) (by_sleep s.core.run.sleep s) (even_preempted (awake s) _ _ h) (even_by_sleep s.core.run.sleep s h))
 
 even_step : (s : State) (events : List ScriptEvent) → EvenState s → EvenState (step s events).state

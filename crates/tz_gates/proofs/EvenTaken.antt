@@ -30,11 +30,14 @@ use Rattle.tz_frames.specs.declared.leaving.Returning.{Returning}
 use Rattle.tz_frames.specs.declared.leaving.Unstacked.{Unstacked}
 use Rattle.tz_frames.specs.declared.leaving.Left.{Left}
 use Rattle.tz_frames.specs.declared.leaving.Left.TheVariants as left
+use Rattle.tz_frames.specs.declared.entering.FrameFault.{FrameFault}
+use Rattle.tz_frames.specs.declared.leaving.Refusal.{Refusal}
+use Rattle.tz_frames.specs.declared.leaving.Refusal.TheVariants as refusals
 use Rattle.tz_frames.specs.FrameAccess.{Vector}
 use Rattle.tz_frames.specs.Machine.{Framed, framed}
 use Rattle.tz_frames.specs.Status.{Raised, exception_of, frame_exception, status_after, frame_status, with_status, raised_as, faulted, frame_faulted}
 use Rattle.tz_frames.specs.Stack.{Pushed, splim_of, with_sp, pushed, pushed_basic, pushed_additional}
-use Rattle.tz_frames.specs.Enter.{Work, Chosen, Done, vector_failed, vectored_by, vector_touched, vectored, falls, callee_process, callee_privileged, stacked_by, fallen, taking, choosing_from, choosing, goes_on, locked_up, tries, chooses, interrupted, begins, enters}
+use Rattle.tz_frames.specs.Enter.{Work, Chosen, Done, vector_failed, vectored_by, vector_touched, vectored, falls, callee_process, callee_privileged, stacked_by, fallen, taking, choosing_from, choosing, goes_on, locked_up, tries, chooses, without_frame, interrupted, begins, enters}
 use Rattle.tz_frames.specs.Leave.{returning_by, side_of_bit, exc_return_fault, slot_returning, freed, unhandled, Leaving, chained, chained_raised, modes_agree, resumes, unstacked, goes_back, leaves_noting, leaves}
 use Rattle.tz_sem.specs.declared.ending.Course.{Course}
 use Rattle.tz_sem.specs.Ended.{Passed}
@@ -100,11 +103,11 @@ unfolding vectored
 even_vectored profile w given h =
     even_vectored_by profile (record w { entry = vector_touched w.entry given.side }) given (framed w.held (Vector given.number given.side)).1 h
 
-even_stacked : (profile : Profile) (w : Work Framed) (given : Slot) (was : Bool) (fault : Option StackFault) → EvenWork w → EvenWork (stacked_by framed profile w given was fault).work
-even_stacked profile w given false (Some fault) h = same_even _ w.core.registers (frame_faulted_same true Secure fault w.core w.exceptions) h
-even_stacked profile w given true (Some fault) h = even_vectored profile w given h
-even_stacked profile w given false None h = even_vectored profile w given h
-even_stacked profile w given true None h = even_vectored profile w given h
+even_stacked : (profile : Profile) (w : Work Framed) (given : Slot) (first : Option FrameFault) (fault : Option StackFault) → EvenWork w → EvenWork (stacked_by framed profile w given first fault).work
+even_stacked profile w given None (Some fault) h = same_even _ w.core.registers (frame_faulted_same true Secure fault w.core w.exceptions) h
+even_stacked profile w given (Some first) (Some fault) h = even_vectored profile w given h
+even_stacked profile w given None None h = even_vectored profile w given h
+even_stacked profile w given (Some first) None h = even_vectored profile w given h
 
 even_chosen : (t : Bool) (x y : Chosen Framed) → EvenWork x.work → EvenWork y.work → EvenWork (cond t x y).work
 even_chosen true x y p q = p
@@ -116,7 +119,7 @@ even_taking profile w given h =
     let p = pushed_additional framed w.core w.held (callee_process w.core w.entry) (callee_privileged w.core w.entry) in
     let e = additional_same w.core w.held (callee_process w.core w.entry) (callee_privileged w.core w.entry) in
     even_chosen (falls w.entry given && not w.entry.skip) _ _
-    (even_stacked profile (record w { core = p.core; held = p.held; entry = fallen w.entry }) given w.entry.faulted p.fault (same_even p.core.registers w.core.registers e h))
+    (even_stacked profile (record w { core = p.core; held = p.held; entry = fallen w.entry }) given w.entry.frame p.fault (same_even p.core.registers w.core.registers e h))
     (even_vectored profile (record w { entry = record w.entry { fell = w.entry.fell || falls w.entry given } }) given h)
 
 even_choosing_from : (profile : Profile) (w : Work Framed) (o : Option Slot) → EvenWork w → EvenWork (choosing_from framed profile w o).work
@@ -146,7 +149,7 @@ even_begins profile side e x c f None h = even_tries profile 4 (record { core = 
 even_begins profile side e x c f (Some fault) h =
     let r = frame_faulted true side fault c e in
     let k = same_even r.core.registers c.registers (frame_faulted_same true side fault c e) h in
-    let w : Work Framed = record { core = r.core; exceptions = r.exceptions; held = f; entry = record x { faulted = true } } in
+    let w : Work Framed = record { core = r.core; exceptions = r.exceptions; held = f; entry = without_frame x false fault } in
     even_done r.locks (locked_up w) (chooses framed profile w) k (even_tries profile 4 w k)
 
 even_enters : (profile : Profile) (c : Core) (e : ExceptionsValue) (f : Framed) (back : ℕ) → Even c.registers.pc → Even (enters framed profile c e f back).core.registers.pc
@@ -161,8 +164,8 @@ abbrev pub EvenState : State → Type 0
 EvenState s = Even s.core.registers.pc
 
 even_taken_by : (s : State) (course : Course) (result : Entered) → EvenState s → EvenState (taken_by s course result).state
-even_taken_by s course (entered.Taken given touched) h = h
-even_taken_by s course (entered.Lockup touched) h = h
+even_taken_by s course (entered.Taken given entry) h = h
+even_taken_by s course (entered.Lockup entry) h = h
 
 pub even_preempted : (s : State) (course : Course) (back : ℕ) → EvenState s → EvenState (preempted s course back).state
 unfolding preempted
@@ -184,7 +187,7 @@ even_faults s course fault h =
     let r = faulted s.core.run.side fault s.core s.exceptions in
     let k = same_even r.core.registers s.core.registers (faulted_same s.core.run.side fault s.core s.exceptions) h in
     let to = state_of (passed_by fault r.core) r.exceptions s.bus in
-    even_cond r.locks (locks (state_of r.core r.exceptions s.bus) course.touched) (preempted to course (goes_on_at fault s.core.registers.pc)) k
+    even_cond r.locks (locks (state_of r.core r.exceptions s.bus) course.touched None) (preempted to course (goes_on_at fault s.core.registers.pc)) k
     (even_preempted to course (goes_on_at fault s.core.registers.pc) (even_passed fault r.core k))
 
 -- ---- return
@@ -196,31 +199,31 @@ even_leaving : (t : Bool) (x y : Leaving Framed) → EvenLeaving x → EvenLeavi
 even_leaving true x y p q = p
 even_leaving false x y p q = q
 
-even_chained : (profile : Profile) (r : Returning) (touched : Bool) (c : Core) (e : ExceptionsValue) (f : Framed) → Even c.registers.pc → EvenLeaving (chained framed profile r touched c e f)
+even_chained : (profile : Profile) (r : Returning) (refused : Option Refusal) (touched : Bool) (c : Core) (e : ExceptionsValue) (f : Framed) → Even c.registers.pc → EvenLeaving (chained framed profile r refused touched c e f)
 unfolding chained
-even_chained profile r touched c e f h = even_tries profile 4 _ h
+even_chained profile r refused touched c e f h = even_tries profile 4 _ h
 
-even_chained_raised : (profile : Profile) (r : Returning) (touched : Bool) (f : Framed) (raised : Raised) → Even raised.core.registers.pc → EvenLeaving (chained_raised framed profile r touched f raised)
-even_chained_raised profile r touched f raised h =
-    even_leaving raised.locks _ (chained framed profile r touched raised.core raised.exceptions f) h (even_chained profile r touched raised.core raised.exceptions f h)
+even_chained_raised : (profile : Profile) (r : Returning) (refusal : Refusal) (touched : Bool) (f : Framed) (raised : Raised) → Even raised.core.registers.pc → EvenLeaving (chained_raised framed profile r refusal touched f raised)
+even_chained_raised profile r refusal touched f raised h =
+    even_leaving raised.locks _ (chained framed profile r (Some refusal) touched raised.core raised.exceptions f) h (even_chained profile r (Some refusal) touched raised.core raised.exceptions f h)
 
 even_resumes : (profile : Profile) (r : Returning) (c : Core) (e : ExceptionsValue) (f : Framed) (u : Result Unstacked StackFault) → Even c.registers.pc → EvenLeaving (resumes framed profile r c e f u)
 even_resumes profile r c e f (Err fault) h =
-    even_chained_raised profile r r.secure f (frame_faulted false (side_of_bit r.secure) fault c e) (same_even _ c.registers (frame_faulted_same false (side_of_bit r.secure) fault c e) h)
+    even_chained_raised profile r (refusals.Frame fault) r.secure f (frame_faulted false (side_of_bit r.secure) fault c e) (same_even _ c.registers (frame_faulted_same false (side_of_bit r.secure) fault c e) h)
 even_resumes profile r c e f (Ok u) h =
-    even_leaving (modes_agree r u.basic) _ (chained_raised framed profile r r.secure f (faulted (side_of_bit r.secure) (InvPc (side_of_bit r.secure)) c e)) (even_down u.basic.back)
-    (even_chained_raised profile r r.secure f (faulted (side_of_bit r.secure) (InvPc (side_of_bit r.secure)) c e)
+    even_leaving (modes_agree r u.basic) _ (chained_raised framed profile r (refusals.Mode (side_of_bit r.secure)) r.secure f (faulted (side_of_bit r.secure) (InvPc (side_of_bit r.secure)) c e)) (even_down u.basic.back)
+    (even_chained_raised profile r (refusals.Mode (side_of_bit r.secure)) r.secure f (faulted (side_of_bit r.secure) (InvPc (side_of_bit r.secure)) c e)
     (same_even _ c.registers (faulted_same (side_of_bit r.secure) (InvPc (side_of_bit r.secure)) c e) h))
 
 even_goes_back : (profile : Profile) (r : Returning) (c : Core) (e : ExceptionsValue) (f : Framed) → Even c.registers.pc → EvenLeaving (goes_back framed profile r c e f)
 unfolding goes_back
 even_goes_back profile r c e f h =
-    even_leaving (takes_first e c.masks) (chained framed profile r false c e f) (resumes framed profile r c e f (unstacked framed c r f)) (even_chained profile r false c e f h)
+    even_leaving (takes_first e c.masks) (chained framed profile r None false c e f) (resumes framed profile r c e f (unstacked framed c r f)) (even_chained profile r None false c e f h)
     (even_resumes profile r c e f (unstacked framed c r f) h)
 
 even_noting : (profile : Profile) (side : Side) (fault : Option Fault) (r : Returning) (c : Core) (e : ExceptionsValue) (f : Framed) → Even c.registers.pc → EvenLeaving (leaves_noting framed profile side fault r c e f)
 even_noting profile side (Some fault) r c e f h =
-    even_chained_raised profile r false f (faulted side fault c e) (same_even _ c.registers (faulted_same side fault c e) h)
+    even_chained_raised profile r (refusals.Value fault) false f (faulted side fault c e) (same_even _ c.registers (faulted_same side fault c e) h)
 even_noting profile side None r c e f h = even_goes_back profile r c e f h
 
 even_leaves : (profile : Profile) (c : Core) (e : ExceptionsValue) (f : Framed) (value : ℕ) → Even c.registers.pc → EvenLeaving (leaves framed profile c e f value)
@@ -230,13 +233,13 @@ even_leaves profile c e f value h =
     even_noting profile c.run.side (exc_return_fault c e value) r (unhandled e r c) (freed e (slot_returning c r)) f
     (same_even (unhandled e r c).registers c.registers (stacks_same (side_of_bit r.es) c (record (stacks_of (side_of_bit r.es) c) { spsel = r.process })) h)
 
-even_left : (s : State) (course : Course) (code : Code) (result : Left) → EvenState s → EvenState (left_by s course code result).state
-even_left s course code (left.Resumed touched) h = h
-even_left s course code (left.Chained given touched) h = h
-even_left s course code (left.Lockup touched) h = h
+even_left : (s : State) (course : Course) (code : Code) (value : ℕ) (result : Left) → EvenState s → EvenState (left_by s course code value result).state
+even_left s course code value (left.Resumed touched) h = h
+even_left s course code value (left.Chained given refused entry) h = h
+even_left s course code value (left.Lockup refused entry) h = h
 
 pub even_returns : (s : State) (course : Course) (code : Code) (value : ℕ) → EvenState s → EvenState (returns s course code value).state
 unfolding returns
 even_returns s course code value h =
     let l = leaves framed s.bus.board.profile s.core s.exceptions (framed_in course.negative s) value in
-    even_left (state_of l.core l.exceptions l.held.bus) course code l.result (even_leaves s.bus.board.profile s.core s.exceptions (framed_in course.negative s) value h)
+    even_left (state_of l.core l.exceptions l.held.bus) course code value l.result (even_leaves s.bus.board.profile s.core s.exceptions (framed_in course.negative s) value h)

@@ -52,21 +52,25 @@ impl Model for Pair {
 }
 
 /// Makes the step of a machine, at which these events are due, marks what it may have written, and tells its way out of
-/// Secure state.
+/// Secure state, where it crossed out: most steps don't, and write none.
 fn step_noted(
     machine: &mut Machine,
     stores: &mut Stores,
     marks: &mut Marks,
     due: &[ScriptEvent],
-) -> Option<Way>
+    way: &mut Option<Way>,
+)
+    requires none { way.old ≡ None }
     ensures steps { machine.new ≡ (step machine.old due.now).state }
-    ensures way { result ≡ (step machine.old due.now).report.way }
+    ensures way { way.new ≡ (step machine.old due.now).report.way }
     ensures notes { Notes (ended (started machine.old due.now)).stores (is_exceptional (step machine.old due.now).state.core (ended (started machine.old due.now)).ending.cause) (stacks_of machine.old.core.run.side (step machine.old due.now).state.core) marks.old marks.new }
 {
     let side = machine.core().run.side;
     let passage = machine.step_way(due, stores);
     marks.note(stores, passage.exceptional, machine.core().stacks(side));
-    passage.way
+    if let Some(found) = passage.way {
+        *way = Some(found);
+    }
 }
 
 /// Forgets what is marked where Non-secure code runs in linked machines: nothing differs then.
@@ -100,8 +104,10 @@ fn step_both(
     ensures marked { Marked marks.new first.new second.new }
 {
     begin_marks(marks, first, second);
-    let way = step_noted(first, stores, marks, due);
-    let other = step_noted(second, stores, marks, due);
+    let mut way = None;
+    let mut other = None;
+    step_noted(first, stores, marks, due, &mut way);
+    step_noted(second, stores, marks, due, &mut other);
     note_timers(marks, first.exceptions(), second.exceptions());
     what_by(marks, &way, &other, first, second)
 }

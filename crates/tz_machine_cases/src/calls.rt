@@ -3,6 +3,7 @@
 use crate::bench::Bench;
 use crate::shown::tell_exception;
 use tz_excret::{Entered, Left, enter, leave, raise_fault};
+use tz_frames::{Entering, Refusal};
 use tz_gate::{branch_ns, call_ns, function_return, secure_gateway};
 use tz_model::{Fault, Profile, Side, Slot};
 use tz_stack::{StackFault, pop_additional, pop_basic, push_additional, push_basic};
@@ -19,6 +20,7 @@ fn tell_fault(case: &mut Case<'_>, fault: &StackFault) {
             case.tell(" invpc ");
             case.tell(side_word(*side))
         }
+        StackFault::Access(Fault::ExcReturn) => case.tell(" inver"),
         StackFault::Access(Fault::Precise(addr)) => case.tell_value("precise", *addr),
         StackFault::Access(_) => case.tell(" other fault"),
         StackFault::Signature => case.tell(" signature"),
@@ -99,6 +101,44 @@ fn tell_end(case: &mut Case<'_>, name: &str, slot: Option<Slot>, touched: bool) 
     }
 }
 
+/// Tells what went wrong in an entry: its first frame that has faulted, an exception whose vector couldn't be read, and
+/// such a last one.
+fn tell_entry(case: &mut Case<'_>, entry: &Entering) {
+    if let Some(frame) = &entry.frame {
+        case.tell(if frame.additional {
+            " additional frame"
+        } else {
+            " basic frame"
+        });
+        tell_fault(case, &frame.fault);
+    }
+    if let Some(slot) = entry.vector {
+        tell_exception(case, "unread", slot.number, slot.side);
+    }
+    if let Some(slot) = entry.last {
+        tell_exception(case, "last", slot.number, slot.side);
+    }
+}
+
+/// Tells why a return was refused.
+fn tell_refusal(case: &mut Case<'_>, refusal: &Refusal) {
+    case.tell(" refused");
+    match refusal {
+        Refusal::Value(fault) => {
+            case.tell(" value");
+            tell_fault(case, &StackFault::Access(*fault));
+        }
+        Refusal::Frame(fault) => {
+            case.tell(" frame");
+            tell_fault(case, fault);
+        }
+        Refusal::Mode(side) => {
+            case.tell(" mode ");
+            case.tell(side_word(*side));
+        }
+    }
+}
+
 /// Enters what pends over code at PC, by a version of the architecture.
 pub fn entered(case: &mut Case<'_>, bench: &mut Bench, version: &str) {
     if bench.frames.port.entries.len() > 14 {
@@ -106,17 +146,18 @@ pub fn entered(case: &mut Case<'_>, bench: &mut Bench, version: &str) {
     }
     let profile = profile_in(case, version);
     let back = bench.core.registers.pc;
-    let (name, slot, touched) = match enter(
+    let (name, slot, entry) = match enter(
         &mut bench.core,
         &mut bench.exceptions,
         &mut bench.frames,
         back,
         profile,
     ) {
-        Entered::Taken { slot, touched } => ("taken", Some(slot), touched),
-        Entered::Lockup { touched } => ("locks", None, touched),
+        Entered::Taken { slot, entry } => ("taken", Some(slot), entry),
+        Entered::Lockup { entry } => ("locks", None, entry),
     };
-    tell_end(case, name, slot, touched);
+    tell_end(case, name, slot, entry.touched);
+    tell_entry(case, &entry);
 }
 
 /// Returns by a value, or by LR.
@@ -128,18 +169,27 @@ pub fn left(case: &mut Case<'_>, bench: &mut Bench, value: &str) {
         "lr" => bench.core.registers.lr,
         _ => case.number_in(value),
     };
-    let (name, slot, touched) = match leave(
+    let left = leave(
         &mut bench.core,
         &mut bench.exceptions,
         &mut bench.frames,
         value,
         Profile::V80,
-    ) {
-        Left::Resumed { touched } => ("resumed", None, touched),
-        Left::Chained { slot, touched } => ("chained", Some(slot), touched),
-        Left::Lockup { touched } => ("locks", None, touched),
+    );
+    let (name, slot, refused, entry) = match left {
+        Left::Resumed { touched } => return tell_end(case, "resumed", None, touched),
+        Left::Chained {
+            slot,
+            refused,
+            entry,
+        } => ("chained", Some(slot), refused, entry),
+        Left::Lockup { refused, entry } => ("locks", None, refused, entry),
     };
-    tell_end(case, name, slot, touched);
+    tell_end(case, name, slot, entry.touched);
+    if let Some(refusal) = &refused {
+        tell_refusal(case, refusal);
+    }
+    tell_entry(case, &entry);
 }
 
 /// Faults by their names. Their address is 0x30, and their MPU that of the Secure side.

@@ -1,7 +1,8 @@
 //! What each side chooses: PRIGROUP, PRIS, BFHFNMINS and the timers. Tests are the users of `set_timer`.
 
-ghost use Rattle.std.specs.Prelude.{◌≡◌, ◌≤◌};
-ghost use Rattle.tz_state.specs.Slots.{prigroup_of, timer_of};
+ghost use Rattle.std.specs.Prelude.{◌≡◌, ◌≤◌, length};
+ghost use Rattle.tz_state.specs.First.{FitGroups};
+ghost use Rattle.tz_state.specs.Slots.{places, prigroup_of, timer_of};
 ghost use Rattle.tz_state.specs.SlotChanges.{is_fault_side_held, with_prigroup, with_fault_side, with_timer, timer_bits};
 
 use crate::exceptions::Exceptions;
@@ -11,6 +12,14 @@ use tz_state::Timer;
 use tz_state::systick_bits::SYST_CSR_BITS;
 
 impl Exceptions {
+    /// Each place has its slot, and PRIGROUP of both sides has three bits.
+    pub fn know_slots(&self)
+        ensures slots { length self.now.slots ≡ places }
+        ensures groups { FitGroups self.now }
+    {
+        let _slots = &self.slots;
+    }
+
     /// AIRCR.PRIGROUP of a side, at most 7.
     pub fn grouping(&self, side: Side) -> u8
         ensures is { result ≡ prigroup_of self.now side }

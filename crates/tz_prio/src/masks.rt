@@ -8,8 +8,8 @@ use tz_nvic::Exceptions;
 use tz_regs::{Masks, SideMasks};
 use tz_state::exception::{IDLE_PRIORITY, ZERO_PRIORITY};
 
-/// The priority of BASEPRI of a side.
-fn basepri(exceptions: &Exceptions, side: Side, byte: u8) -> u32
+/// The priority that BASEPRI of a side counts as: 260, that of no mask, where it is 0.
+pub fn basepri_priority(exceptions: &Exceptions, side: Side, byte: u8) -> u32
     ensures is { result ≡ basepri_priority exceptions.now side byte }
     ensures few { result ≤ 260 }
 {
@@ -20,8 +20,8 @@ fn basepri(exceptions: &Exceptions, side: Side, byte: u8) -> u32
     }
 }
 
-/// The priority of PRIMASK of a side.
-fn primask(exceptions: &Exceptions, side: Side, set: bool) -> u32
+/// The priority that PRIMASK of a side counts as: 260 where it is clear.
+pub fn primask_priority(exceptions: &Exceptions, side: Side, set: bool) -> u32
     ensures is { result ≡ primask_priority exceptions.now side set }
     ensures few { result ≤ 260 }
 {
@@ -49,8 +49,8 @@ fn faultmask_set(exceptions: &Exceptions, side: Side) -> u32
     }
 }
 
-/// The priority of FAULTMASK of a side.
-fn faultmask(exceptions: &Exceptions, side: Side, set: bool) -> u32
+/// The priority that FAULTMASK of a side counts as (DDI0553, `ExecutionPriority`): 260 where it is clear.
+pub fn faultmask_priority(exceptions: &Exceptions, side: Side, set: bool) -> u32
     ensures is { result ≡ faultmask_priority exceptions.now side set }
     ensures few { result ≤ 260 }
 {
@@ -66,9 +66,9 @@ pub(crate) fn side_priority(exceptions: &Exceptions, side: Side, masks: &SideMas
     ensures is { result ≡ side_priority exceptions.now side masks.now }
     ensures few { result ≤ 260 }
 {
-    let base = basepri(exceptions, side, masks.basepri);
-    let prime = primask(exceptions, side, masks.primask);
-    base.min(prime.min(faultmask(exceptions, side, masks.faultmask)))
+    let base = basepri_priority(exceptions, side, masks.basepri);
+    let prime = primask_priority(exceptions, side, masks.primask);
+    base.min(prime.min(faultmask_priority(exceptions, side, masks.faultmask)))
 }
 
 /// The masks with both PRIMASKs 0.

@@ -6,6 +6,8 @@
 
 ghost use Rattle.std.specs.Prelude.{◌≡◌, ◌+◌, ◌^◌, ◌<◌, ◌≤◌, OnOk};
 ghost use Rattle.tz_model.specs.Outside.{HasCause, Put};
+ghost use Rattle.tz_resume.specs.Run.{AllResume};
+ghost use Rattle.tz_resume.specs.Steps.{IsTyped};
 ghost use Rattle.tz_sem.specs.Run.{state_after};
 ghost use Rattle.tz_text.specs.Line.{line};
 ghost use Rattle.tz_twin.specs.Trace.{text_from};
@@ -17,10 +19,12 @@ use tz_board::Script;
 use tz_core::Machine;
 use tz_model::{Report, Sink, SinkError, View};
 use tz_ready::Steps;
+use tz_resume::know_state;
 use tz_text::{Line, push_line};
 
 /// Runs `steps` steps and writes a line for each, numbered from 0. At each step its events of the script
-/// are due.
+/// are due. Of two of them, of which one preempts Secure code and the other takes its frames back as they were
+/// written, the code goes on after the second exactly as it was before the first.
 ///
 /// A line that can't be written is the one error. The run ends there: the lines before it went out, and
 /// the machine stands after the step whose line failed.
@@ -34,6 +38,7 @@ pub fn run<O: Sink>(
     ensures put { Put (O.written out.old) (O.written out.new) (O.space out.old) (O.space out.new) (text_from view (events_of script.now) 0 machine.old steps) result }
     ensures cause { HasCause (O.faults out.old) (O.faults out.new) (result ≡ Err SinkError.Failed) }
     ensures state { OnOk result (machine.new ≡ state_after (events_of script.now) 0 machine.old steps) }
+    ensures resumption { OnOk result (AllResume (events_of script.now) 0 machine.old steps) }
 {
     run_counted::<Brand, O>(Blank::new(1), machine, script, 0, steps, view, out)
 }
@@ -54,6 +59,7 @@ pub fn run_from<O: Sink>(
     ensures put { Put (O.written out.old) (O.written out.new) (O.space out.old) (O.space out.new) (text_from view (events_of script.now) first machine.old steps) result }
     ensures cause { HasCause (O.faults out.old) (O.faults out.new) (result ≡ Err SinkError.Failed) }
     ensures state { OnOk result (machine.new ≡ state_after (events_of script.now) first machine.old steps) }
+    ensures resumption { OnOk result (AllResume (events_of script.now) first machine.old steps) }
 {
     run_counted::<Brand, O>(Blank::new(1), machine, script, first, steps, view, out)
 }
@@ -81,6 +87,13 @@ fn put_line<O: Sink>(
     out.put(text.as_str().as_bytes())
 }
 
+/// The machine's state has what types say of it.
+fn know_typed(machine: &Machine)
+    ensures { IsTyped machine.now }
+{
+    know_state(machine.core(), machine.exceptions(), machine.bus());
+}
+
 /// The run, over a ledger of the looks into the script. One report and one line serve all steps.
 fn run_counted<L: Ledger, O: Sink>(
     blank: Blank,
@@ -98,12 +111,14 @@ fn run_counted<L: Ledger, O: Sink>(
     ensures put { Put (O.written out.old) (O.written out.new) (O.space out.old) (O.space out.new) (text_from view (events_of script.now) first machine.old steps) result }
     ensures cause { HasCause (O.faults out.old) (O.faults out.new) (result ≡ Err SinkError.Failed) }
     ensures state { OnOk result (machine.new ≡ state_after (events_of script.now) first machine.old steps) }
+    ensures resumption { OnOk result (AllResume (events_of script.now) first machine.old steps) }
 {
     let mut looks = Steps::<L>::start(blank);
     let mut report = Report::new();
     let mut text = Line::new();
     for step in first..first + steps {
         let due = script.due(step, &mut looks);
+        know_typed(machine);
         machine.step_into(due, &mut report);
         if let Err(error) = put_line(&mut text, &report, step, view, out) {
             return Err(error);

@@ -131,11 +131,15 @@ impl Sau {
         idau_word(&self.regions[..self.region_count], addr)
     }
 
-    #[tactic(auto, unfolding(tz_state::specs::Attribution::mapped_side))]
+    /// The more secure of the SAU's word and the board's. The SAU isn't asked where the board says Secure.
+    #[tactic(auto, using(crate::proofs::Secured::secure_stays), unfolding(tz_state::specs::Attribution::mapped_side))]
     fn mapped_side(&self, addr: u32) -> RegionSide
         ensures { result ≡ mapped_side self.now addr }
     {
-        more_secure(self.sau_word(addr).side, self.idau_word(addr).side)
+        match self.idau_word(addr).side {
+            RegionSide::Secure => RegionSide::Secure,
+            side => more_secure(self.sau_word(addr).side, side),
+        }
     }
 
     /// The attribution of an address as data, for code of a side.

@@ -1,5 +1,5 @@
 -- Branches between the sides and back (DDI0553, `BXWritePC`, `BLXNS`).
-use Rattle.std.specs.Prelude.{ℕ, ◌%◌, ◌==◌, Bool, true, ◌&&◌, if◌then◌else◌, Some, Result, Ok, Err}
+use Rattle.std.specs.Prelude.{ℕ, ◌%◌, ◌==◌, Bool, true, ◌&&◌, if◌then◌else◌, Some, None, Result, Ok, Err}
 use Rattle.tz_table.specs.declared.units.Code.{Code}
 use Rattle.tz_model.specs.declared.report.Fault.{Fault}
 use Rattle.tz_model.specs.Words.{even_of}
@@ -14,11 +14,11 @@ use Rattle.tz_sem.specs.declared.ending.Cause.{Cause}
 use Rattle.tz_sem.specs.declared.ending.Cause.TheVariants.{Went, Returned, Called as Calls, CameBack}
 use Rattle.tz_sem.specs.declared.ending.Course.{Course}
 use Rattle.tz_sem.specs.Ended.{Passed, Ended, with_stores}
-use Rattle.tz_sem.specs.Taking.{framed_in, faults, returns}
+use Rattle.tz_sem.specs.Taking.{with_value, with_handling, framed_in, faults, returns}
 
 -- an instruction ran
 abbrev pub ran_by : Cause → State → Course → Code → Passed
-ran_by cause s course code = record { state = s; ending = record { touched = course.touched; cause = cause; ran = Some code } }
+ran_by cause s course code = record { state = s; ending = record { touched = course.touched; cause = cause; ran = Some code; handling = None } }
 
 abbrev pub ran : State → Course → Code → Passed
 ran s course code = ran_by Went s course code
@@ -55,17 +55,17 @@ back_with before s course code (Err fault) = faults (with_core s (core_back befo
 abbrev pub touching : Course → Course
 touching course = record course { touched = true }
 
--- it touches Secure state
-unfoldable pub comes_back : Core → State → Course → Code → Passed
-comes_back before s course code =
-    back_with before s (touching course) code (function_returned framed s.core (framed_in course.negative s))
+-- by a value; it touches Secure state
+unfoldable pub comes_back : Core → State → Course → Code → ℕ → Passed
+comes_back before s course code value =
+    with_handling (with_value value) (back_with before s (touching course) code (function_returned framed s.core (framed_in course.negative s)))
 
 -- ---- all exchanges
 
 -- from the state after an instruction's own writes, which is `past` once the IT state has moved on too
 unfoldable pub exchanged : Core → State → State → Course → Code → ℕ → Bool → Passed
 exchanged before s past course code target ns =
-    if is_fnc_return target then comes_back before s course code
+    if is_fnc_return target then comes_back before s course code target
     else if is_handler s.core.registers.ipsr && is_exc_return target then returns past course code target
     else moves_to past course code target ns
 

@@ -10,5 +10,6 @@ pub mod Ended
 pub mod Taking
 pub mod Exchange
 pub mod Step
+pub mod Account
 pub mod Run
 pub mod Boot

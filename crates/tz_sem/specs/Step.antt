@@ -180,7 +180,7 @@ idles s =
     record {
       state = s;
       stores = [];
-      ending = record { touched = is_secure s.core.run.side; cause = Went; ran = None };
+      ending = record { touched = is_secure s.core.run.side; cause = Went; ran = None; handling = None };
     }
 
 -- the event flag is cleared
@@ -202,7 +202,7 @@ by_sleep Wfe s = if s.core.event || is_woken s then instructs (without_event (aw
 -- comes before an instruction
 unfoldable pub ended : State → Ended
 ended s =
-    if s.core.run.locked then with_stores [] (locks s true)
+    if s.core.run.locked then with_stores [] (locks s true None)
     else if takes_first s.exceptions s.core.masks then takes_exception s
     else by_sleep s.core.run.sleep s
 

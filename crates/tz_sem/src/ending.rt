@@ -1,6 +1,7 @@
 //! How a step ended, apart from the state that it left.
 
-use tz_model::Code;
+use tz_frames::{Entering, Refusal};
+use tz_model::{Code, Fault};
 
 /// What the last thing was that a step did to the side that runs.
 #[derive(Clone, Copy, PartialEq, Eq)]
@@ -28,6 +29,19 @@ pub struct Course {
     pub negative: bool,
 }
 
+/// How exceptions came into a step.
+#[derive(Clone, Copy)]
+pub struct Handling {
+    /// The fault of the instruction or of its fetch; SVCall is one.
+    pub fault: Option<Fault>,
+    /// The EXC_RETURN or FNC_RETURN value by which code returned, or tried to.
+    pub value: Option<u32>,
+    /// Why the exception's return was refused.
+    pub refused: Option<Refusal>,
+    /// The entry of an exception, as it ended: one was taken, or the core locked.
+    pub entry: Option<Entering>,
+}
+
 /// How a step ended.
 #[derive(Clone, Copy)]
 pub struct Ending {
@@ -36,4 +50,6 @@ pub struct Ending {
     pub cause: Cause,
     /// The code of the instruction that ran, where one did.
     pub ran: Option<Code>,
+    /// How exceptions came into it, where they had a part in it.
+    pub handling: Option<Handling>,
 }

@@ -15,12 +15,14 @@ ghost use Rattle.tz_state.specs.Due.{begun};
 ghost use Rattle.tz_sem.specs.Exec.{executed};
 ghost use Rattle.tz_sem.specs.Step.{step};
 
+mod account;
 mod computed;
 mod ending;
 mod family;
 
+pub use account::Account;
 pub use computed::Computed;
-pub use ending::{Cause, Course, Ending};
+pub use ending::{Cause, Course, Ending, Handling};
 pub use family::Family;
 
 /// No instruction of Non-secure code changes a Secure stack pointer.

@@ -4,7 +4,7 @@
 ghost use Rattle.std.specs.Prelude.{◌≡◌, ◌≤◌, ◌<◌, ◌+◌, ◌*◌, ◌++◌, length, map, slice_get};
 ghost use Rattle.arrayvec.specs.ArrayString.{array_string_len};
 ghost use Rattle.tz_state.specs.Difference.{is_same_flag};
-ghost use Rattle.tz_frames.specs.Leave.{has_callee, returning_by};
+ghost use Rattle.tz_frames.specs.Leave.{has_callee, returning_by, side_of_bit};
 ghost use Rattle.tz_syntax.specs.Names.{or_nothing};
 ghost use Rattle.tz_show.specs.Frames.{shown_word, word_text, stack_word_text, stack_text, frame_label, has_frame, frame_uses_process, frame_pointer, frame_first, frame_count, frame_word_text, frame_by, frame_text};
 ghost use Rattle.tz_show.specs.Rows.{texts_below};
@@ -137,7 +137,7 @@ fn has_frame(core: &Core) -> bool
 }
 
 /// The bits of an EXC_RETURN value, of which ES counts as 0 where Non-secure code returns.
-fn returning_by(side: Side, value: u32) -> Returning
+pub fn returning_by(side: Side, value: u32) -> Returning
     ensures { result ≡ returning_by side value }
 {
     Returning {
@@ -156,25 +156,41 @@ fn is_same_flag(flag: bool, other: bool) -> bool
     if flag { other } else { !other }
 }
 
-/// The stack pointer from which a return takes the frame.
-fn frame_pointer(core: &Core, returning: &Returning) -> u32
-    ensures { result ≡ frame_pointer core.now returning.now }
+/// The side whose stack has the frame.
+fn side_of_bit(secure: bool) -> Side
+    ensures { result ≡ side_of_bit secure }
 {
-    let side = if returning.secure {
+    if secure {
         Side::Secure
     } else {
         Side::NonSecure
-    };
-    let process = if is_same_flag(returning.es, returning.secure) {
-        returning.process
-    } else {
-        core.stacks(side).spsel
-    };
-    core.sp(side, returning.thread && process)
+    }
+}
+
+/// Whether PSP is the stack pointer from which a return takes the frame, by the core that returns.
+pub fn frame_uses_process(core: &Core, returning: &Returning) -> bool
+    ensures { result ≡ frame_uses_process core.now returning.now }
+{
+    returning.thread
+        && if is_same_flag(returning.es, returning.secure) {
+            returning.process
+        } else {
+            core.stacks(side_of_bit(returning.secure)).spsel
+        }
+}
+
+/// The stack pointer from which a return takes the frame, by the core that returns.
+pub fn frame_pointer(core: &Core, returning: &Returning) -> u32
+    ensures { result ≡ frame_pointer core.now returning.now }
+{
+    core.sp(
+        side_of_bit(returning.secure),
+        frame_uses_process(core, returning),
+    )
 }
 
 /// Whether the additional frame was written.
-fn has_callee(returning: &Returning) -> bool
+pub fn has_callee(returning: &Returning) -> bool
     ensures { result ≡ has_callee returning.now }
 {
     returning.secure && (!returning.es || !returning.dcrs)

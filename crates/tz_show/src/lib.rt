@@ -28,6 +28,7 @@ use crate::memory::put_ranges;
 use crate::registers::{push_head, push_registers, push_stacks};
 use crate::rows::Text;
 use crate::units::{push_mpus, push_sau, push_timers};
+pub use frames::{frame_pointer, frame_uses_process, has_callee, returning_by};
 pub use memory::Range;
 use tz_access::Bus;
 use tz_core::Machine;

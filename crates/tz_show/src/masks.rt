@@ -2,62 +2,14 @@
 
 ghost use Rattle.std.specs.Prelude.{◌≡◌, ◌≤◌, ◌+◌, ◌++◌, length};
 ghost use Rattle.arrayvec.specs.ArrayString.{array_string_len};
-ghost use Rattle.tz_state.specs.Execution.{manual_priority, basepri_priority, primask_priority, faultmask_set, faultmask_priority};
 ghost use Rattle.tz_show.specs.Masks.{mask_row, primask_row, basepri_row, faultmask_row, side_masks_text, masks_text};
 
 use crate::rows::{Text, push_cell, push_signed};
 use tz_model::Side;
 use tz_nvic::Exceptions;
+use tz_prio::{basepri_priority, faultmask_priority, primask_priority};
 use tz_regs::{Masks, SideMasks};
-use tz_state::exception::{IDLE_PRIORITY, ZERO_PRIORITY};
-
-/// The priority that BASEPRI of a side counts as, four above the manual's.
-fn basepri_priority(exceptions: &Exceptions, side: Side, byte: u8) -> u32
-    ensures is { result ≡ basepri_priority exceptions.now side byte }
-    ensures few { result ≤ 260 }
-{
-    if byte == 0 {
-        IDLE_PRIORITY
-    } else {
-        ZERO_PRIORITY + exceptions.restricted_priority(side, exceptions.group_of(side, byte))
-    }
-}
-
-/// That of PRIMASK.
-fn primask_priority(exceptions: &Exceptions, side: Side, set: bool) -> u32
-    ensures is { result ≡ primask_priority exceptions.now side set }
-    ensures few { result ≤ 260 }
-{
-    if set {
-        ZERO_PRIORITY + exceptions.restricted_priority(side, 0)
-    } else {
-        IDLE_PRIORITY
-    }
-}
-
-/// That of FAULTMASK where it is set.
-fn faultmask_set(exceptions: &Exceptions, side: Side) -> u32
-    ensures is { result ≡ faultmask_set exceptions.now side }
-    ensures few { result ≤ 260 }
-{
-    if side == Side::Secure || exceptions.fault_side() {
-        exceptions.hard_priority(side)
-    } else {
-        ZERO_PRIORITY + exceptions.restricted_priority(side, 0)
-    }
-}
-
-/// That of FAULTMASK.
-fn faultmask_priority(exceptions: &Exceptions, side: Side, set: bool) -> u32
-    ensures is { result ≡ faultmask_priority exceptions.now side set }
-    ensures few { result ≤ 260 }
-{
-    if set {
-        faultmask_set(exceptions, side)
-    } else {
-        IDLE_PRIORITY
-    }
-}
+use tz_state::exception::ZERO_PRIORITY;
 
 /// A mask, and what it counts as where it is set.
 #[tactic(auto, unfolding(crate::specs::Masks::mask_row))]

@@ -21,12 +21,12 @@ use Rattle.tz_snap.proofs.HeadWords.{length_head}
 
 -- ---- the words of a state are as many as its board says
 
-mpu_regions : (k n : ℕ) → length (mpu_region_fields k n) ≡ 2 * n
+pub mpu_regions : (k n : ℕ) → length (mpu_region_fields k n) ≡ 2 * n
 unfolding mpu_region_fields
 mpu_regions k zero = refl
 mpu_regions k (suc n) = let more = mpu_regions (k + 1) n in omega arith
 
-sau_regions : (k n : ℕ) → length (sau_region_fields k n) ≡ 2 * n
+pub sau_regions : (k n : ℕ) → length (sau_region_fields k n) ≡ 2 * n
 unfolding sau_region_fields
 sau_regions k zero = refl
 sau_regions k (suc n) = let more = sau_regions (k + 1) n in omega arith
@@ -45,7 +45,7 @@ shared_count n =
     let behind = length-append (sau_region_fields 0 n) shared_last in
     omega arith
 
-fields_count : (b : BoardValue) → length (fields b) ≡ field_count b
+pub fields_count : (b : BoardValue) → length (fields b) ≡ field_count b
 unfolding fields
 fields_count b =
     let secure = map (Banked Secure) (banked_fields b.mpu_secure) in
@@ -63,19 +63,19 @@ fields_count b =
     let g = shared_count b.sau_regions in
     omega arith
 
-slots_count : (n : ℕ) → length (slot_places n) ≡ 15 + n
+pub slots_count : (n : ℕ) → length (slot_places n) ≡ 15 + n
 unfolding slot_places
 slots_count n =
     let all = length-append system_places (range_with_len first_interrupt_place n) in
     let external = length-range_with_len first_interrupt_place n in
     omega arith
 
-from_count : (m : Memory) (a n : ℕ) → length (words_from m a n) ≡ n
+pub from_count : (m : Memory) (a n : ℕ) → length (words_from m a n) ≡ n
 unfolding words_from
 from_count m a zero = refl
 from_count m a (suc n) = let more = from_count m (a + 4) n in omega arith
 
-memory_words_count : (m : Memory) (rs : List Region) → length (memory_words m rs) ≡ memory_count rs
+pub memory_words_count : (m : Memory) (rs : List Region) → length (memory_words m rs) ≡ memory_count rs
 unfolding memory_words
 memory_words_count m [] = refl
 memory_words_count m (r ∷ rs) =

@@ -9,9 +9,9 @@ use Rattle.tz_core.specs.StateWords.{word_count}
 use Rattle.tz_core.specs.ReadWords.{read_words, words_of, AreWords, IsWordsRefusal}
 use Rattle.tz_core.specs.declared.from_words.WordsError.{WordsError}
 use Rattle.tz_core.specs.declared.from_words.WordsError.TheVariants as WordsErrors
-use Rattle.tz_snap.specs.FileWords.{bytes_of_words}
+use Rattle.tz_snap.specs.FileWords.{AreBytes, bytes_of_words}
 use Rattle.tz_snap.specs.StateFile.{SavedState, Refusal, Board, Length, Value, board_words, head_words, begins_with, step_in, head_count, file_length, behind_head, values_of, saved_by, saved_of, most_steps, magic}
-use Rattle.tz_snap.proofs.Words.{AreBytes, both_words, words_of_bytes, bytes_of_words_of, length_bytes, drop_words, length_words}
+use Rattle.tz_snap.proofs.Words.{both_words, words_of_bytes, bytes_of_words_of, length_bytes, drop_words, length_words}
 use Rattle.tz_snap.proofs.Bounds.{among_words}
 use Rattle.tz_snap.proofs.Lists.{front_of_both, front_split}
 use Rattle.tz_snap.proofs.Fits.{head_fits}

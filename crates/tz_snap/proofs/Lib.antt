@@ -8,3 +8,13 @@ pub mod Bounds
 pub mod StateFits
 pub mod Counts
 pub mod BothLaws
+pub mod FieldsRead
+pub mod UnitBounds
+pub mod UnitFields
+pub mod Groups
+pub mod AllFields
+pub mod FieldLaws
+pub mod SlotsRead
+pub mod MemoryRead
+pub mod WordLaws
+pub mod Starting

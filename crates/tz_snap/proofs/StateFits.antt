@@ -69,7 +69,7 @@ slot_words s (i ∷ places) h =
 
 -- ---- memory
 
-word_fits : (m : Memory) → ((a : ℕ) → byte_at m a < 256) → (a : ℕ) → word_at m a < 2 ^ 32
+pub word_fits : (m : Memory) → ((a : ℕ) → byte_at m a < 256) → (a : ℕ) → word_at m a < 2 ^ 32
 unfolding word_at
 word_fits m h a = let b0 = h a in let b1 = h ((a + 1) % 2 ^ 32) in let b2 = h ((a + 2) % 2 ^ 32) in let b3 = h ((a + 3) % 2 ^ 32) in omega arith
 

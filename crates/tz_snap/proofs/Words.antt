@@ -4,11 +4,7 @@ use Rattle.std.specs.Prelude.{slice_get, slice_index}
 use Rattle.std.specs.Int.{w32, from_le_bytes}
 use Rattle.std.proofs.lemmas.Nat.{from_le_bytes-to_le_bytes_4, le_bytes_4}
 use Rattle.tz_core.specs.ReadWords.{words_of, AreWords}
-use Rattle.tz_snap.specs.FileWords.{bytes_of_words}
-
--- each number fits a byte
-abbrev pub AreBytes : List ℕ → Type 0
-AreBytes bytes = (k : ℕ) → slice_index bytes k < 256
+use Rattle.tz_snap.specs.FileWords.{AreBytes, bytes_of_words}
 
 pub no_words : AreWords []
 no_words k w e = cc
@@ -20,6 +16,12 @@ one_more_word w ws l h (suc k) v e = h k v e
 pub both_words : (xs ys : List ℕ) → AreWords xs → AreWords ys → AreWords (xs ++ ys)
 both_words [] ys h i = i
 both_words (x ∷ xs) ys h i = one_more_word x (xs ++ ys) (h 0 x refl) (both_words xs ys (λ k v e. h (suc k) v e) i)
+
+-- words without their first ones
+pub fewer_words : (n : ℕ) (ws : List ℕ) → AreWords ws → AreWords (drop n ws)
+fewer_words zero ws h = h
+fewer_words (suc n) [] h = h
+fewer_words (suc n) (w ∷ ws) h = fewer_words n ws (λ k x e. h (suc k) x e)
 
 -- words are read as they were written
 pub words_of_bytes : (ws : List ℕ) → AreWords ws → words_of (bytes_of_words ws) ≡ ws

@@ -8,9 +8,11 @@
 
 mod error;
 mod head;
+mod laws;
 mod reading;
 mod writing;
 
 pub use error::SnapError;
+pub use laws::{file_reads_back, only_files_are_read, start_is_a_state, words_read_back};
 pub use reading::{Saved, load};
 pub use writing::save;

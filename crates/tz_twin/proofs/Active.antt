@@ -26,9 +26,12 @@ use Rattle.tz_frames.specs.declared.leaving.Returning.{Returning}
 use Rattle.tz_frames.specs.declared.leaving.Unstacked.{Unstacked}
 use Rattle.tz_frames.specs.declared.leaving.Left.{Left}
 use Rattle.tz_frames.specs.declared.leaving.Left.TheVariants as lefts
+use Rattle.tz_frames.specs.declared.entering.FrameFault.{FrameFault}
+use Rattle.tz_frames.specs.declared.leaving.Refusal.{Refusal}
+use Rattle.tz_frames.specs.declared.leaving.Refusal.TheVariants as refusals
 use Rattle.tz_frames.specs.Status.{Raised, faulted, frame_faulted}
 use Rattle.tz_frames.specs.Stack.{Pushed, pushed_basic, pushed_additional}
-use Rattle.tz_frames.specs.Enter.{Work, Chosen, Done, can_harden, vector_choice, vectored_by, vectored, vector_failed, vector_touched, falls, fallen, callee_process, callee_privileged, raised_choice, after_raise, stacked_by, stacked, taking, choosing_from, choosing, locked_up, goes_on, tries, interrupted, begins_raised, begins, enters}
+use Rattle.tz_frames.specs.Enter.{Work, Chosen, Done, can_harden, vector_choice, vectored_by, vectored, vector_failed, vector_touched, falls, fallen, callee_process, callee_privileged, raised_choice, after_raise, stacked_by, stacked, taking, choosing_from, choosing, locked_up, goes_on, tries, interrupted, begins_raised, begins, enters, without_frame}
 use Rattle.tz_frames.specs.Leave.{returning_by, side_of_bit, exc_return_fault, slot_returning, freed, unhandled, chaining, Leaving, left_of, chained, chained_raised, unstacked, modes_agree, resumes, goes_back, leaves_noting, leaves}
 use Rattle.tz_nvic.proofs.Least.{least_found}
 use Rattle.tz_nvic.proofs.Places.{index_back}
@@ -113,15 +116,15 @@ raise_picks f x r = go r.locks where
   go true = tt
   go false = tt
 
-stacked_by_picks : (profile : Profile) (w : Work Framed) (given : Slot) (faulted : Bool) (fault : Option StackFault) → Waits w.exceptions given
-    → Picks (stacked_by framed profile w given faulted fault)
-stacked_by_picks profile w given false (Some fault) h = raise_picks w.held w.entry (frame_faulted true Secure fault w.core w.exceptions)
-stacked_by_picks profile w given true (Some fault) h = vectored_picks profile w given h
-stacked_by_picks profile w given faulted None h = vectored_picks profile w given h
+stacked_by_picks : (profile : Profile) (w : Work Framed) (given : Slot) (first : Option FrameFault) (fault : Option StackFault) → Waits w.exceptions given
+    → Picks (stacked_by framed profile w given first fault)
+stacked_by_picks profile w given None (Some fault) h = raise_picks w.held (without_frame w.entry true fault) (frame_faulted true Secure fault w.core w.exceptions)
+stacked_by_picks profile w given (Some first) (Some fault) h = vectored_picks profile w given h
+stacked_by_picks profile w given first None h = vectored_picks profile w given h
 
 stacked_picks : (profile : Profile) (w : Work Framed) (given : Slot) (p : Pushed Framed) → Waits w.exceptions given → Picks (stacked framed profile w given p)
 stacked_picks profile w given p h =
-    stacked_by_picks profile (record w { core = p.core; held = p.held; entry = fallen w.entry }) given w.entry.faulted p.fault h
+    stacked_by_picks profile (record w { core = p.core; held = p.held; entry = fallen w.entry }) given w.entry.frame p.fault h
 
 picks_cond : (t : Bool) (x y : Chosen Framed) → Picks x → Picks y → Picks (cond t x y)
 picks_cond true x y p q = p
@@ -148,8 +151,8 @@ choosing_picks profile w = choosing_from_picks profile w (chosen w.exceptions) r
 
 -- what an entry ends in
 abbrev pub EnteredHandles : Core → ExceptionsValue → Entered → Type 0
-EnteredHandles c e (entered.Taken given touched) = Handles given c e
-EnteredHandles c e (entered.Lockup touched) = Unit {0}
+EnteredHandles c e (entered.Taken given entry) = Handles given c e
+EnteredHandles c e (entered.Lockup entry) = Unit {0}
 
 abbrev Ends : Done Framed → Type 0
 Ends d = EnteredHandles d.core d.exceptions d.result
@@ -174,13 +177,13 @@ ends_cond false x y p q = q
 
 begins_raised_ends : (profile : Profile) (f : Framed) (x : Entering) (r : Raised) → Ends (begins_raised framed profile f x r)
 begins_raised_ends profile f x r =
-    let w : Work Framed = record { core = r.core; exceptions = r.exceptions; held = f; entry = record x { faulted = true } } in
+    let w : Work Framed = record { core = r.core; exceptions = r.exceptions; held = f; entry = x } in
     ends_cond r.locks (locked_up w) (tries framed profile 4 w) tt (tries_ends profile 4 w)
 
 begins_ends : (profile : Profile) (side : Side) (e : ExceptionsValue) (x : Entering) (c : Core) (f : Framed) (fault : Option StackFault)
     → Ends (begins framed profile side e x c f fault)
 begins_ends profile side e x c f None = tries_ends profile 4 (record { core = c; exceptions = e; held = f; entry = x })
-begins_ends profile side e x c f (Some fault) = begins_raised_ends profile f x (frame_faulted true side fault c e)
+begins_ends profile side e x c f (Some fault) = begins_raised_ends profile f (without_frame x false fault) (frame_faulted true side fault c e)
 
 pub enters_handles : (profile : Profile) (c : Core) (e : ExceptionsValue) (f : Framed) (back : ℕ)
     → let d = enters framed profile c e f back in EnteredHandles d.core d.exceptions d.result
@@ -192,49 +195,49 @@ enters_handles profile c e f back =
 
 -- what a return ends in, where it is a tail-chain
 abbrev pub LeftHandles : Core → ExceptionsValue → Left → Type 0
-LeftHandles c e (lefts.Chained given touched) = Handles given c e
+LeftHandles c e (lefts.Chained given refused entry) = Handles given c e
 LeftHandles c e (lefts.Resumed touched) = Unit {0}
-LeftHandles c e (lefts.Lockup touched) = Unit {0}
+LeftHandles c e (lefts.Lockup refused entry) = Unit {0}
 
 abbrev Leaves : Leaving Framed → Type 0
 Leaves l = LeftHandles l.core l.exceptions l.result
 
-entered_left : (c : Core) (e : ExceptionsValue) (x : Entered) → EnteredHandles c e x → LeftHandles c e (left_of x)
-entered_left c e (entered.Taken given touched) h = h
-entered_left c e (entered.Lockup touched) h = tt
+entered_left : (refused : Option Refusal) (c : Core) (e : ExceptionsValue) (x : Entered) → EnteredHandles c e x → LeftHandles c e (left_of refused x)
+entered_left refused c e (entered.Taken given entry) h = h
+entered_left refused c e (entered.Lockup entry) h = tt
 
 leaves_cond : (t : Bool) (x y : Leaving Framed) → Leaves x → Leaves y → Leaves (cond t x y)
 leaves_cond true x y p q = p
 leaves_cond false x y p q = q
 
-chained_leaves : (profile : Profile) (r : Returning) (touched : Bool) (c : Core) (e : ExceptionsValue) (f : Framed) → Leaves (chained framed profile r touched c e f)
+chained_leaves : (profile : Profile) (r : Returning) (refused : Option Refusal) (touched : Bool) (c : Core) (e : ExceptionsValue) (f : Framed) → Leaves (chained framed profile r refused touched c e f)
 unfolding chained
-chained_leaves profile r touched c e f =
+chained_leaves profile r refused touched c e f =
     let w : Work Framed = record { core = c; exceptions = e; held = f; entry = chaining r touched } in
     let d = tries framed profile 4 w in
-    entered_left d.core d.exceptions d.result (tries_ends profile 4 w)
+    entered_left refused d.core d.exceptions d.result (tries_ends profile 4 w)
 
-raised_leaves : (profile : Profile) (r : Returning) (touched : Bool) (f : Framed) (raised : Raised) → Leaves (chained_raised framed profile r touched f raised)
-raised_leaves profile r touched f raised =
-    leaves_cond raised.locks _ (chained framed profile r touched raised.core raised.exceptions f) tt
-    (chained_leaves profile r touched raised.core raised.exceptions f)
+raised_leaves : (profile : Profile) (r : Returning) (refusal : Refusal) (touched : Bool) (f : Framed) (raised : Raised) → Leaves (chained_raised framed profile r refusal touched f raised)
+raised_leaves profile r refusal touched f raised =
+    leaves_cond raised.locks _ (chained framed profile r (Some refusal) touched raised.core raised.exceptions f) tt
+    (chained_leaves profile r (Some refusal) touched raised.core raised.exceptions f)
 
 resumes_leaves : (profile : Profile) (r : Returning) (c : Core) (e : ExceptionsValue) (f : Framed) (u : Result Unstacked StackFault)
     → Leaves (resumes framed profile r c e f u)
-resumes_leaves profile r c e f (Err fault) = raised_leaves profile r r.secure f (frame_faulted false (side_of_bit r.secure) fault c e)
+resumes_leaves profile r c e f (Err fault) = raised_leaves profile r (refusals.Frame fault) r.secure f (frame_faulted false (side_of_bit r.secure) fault c e)
 resumes_leaves profile r c e f (Ok u) =
     let raised = faulted (side_of_bit r.secure) (InvPc (side_of_bit r.secure)) c e in
-    leaves_cond (modes_agree r u.basic) _ (chained_raised framed profile r r.secure f raised) tt (raised_leaves profile r r.secure f raised)
+    leaves_cond (modes_agree r u.basic) _ (chained_raised framed profile r (refusals.Mode (side_of_bit r.secure)) r.secure f raised) tt (raised_leaves profile r (refusals.Mode (side_of_bit r.secure)) r.secure f raised)
 
 goes_back_leaves : (profile : Profile) (r : Returning) (c : Core) (e : ExceptionsValue) (f : Framed) → Leaves (goes_back framed profile r c e f)
 unfolding goes_back
 goes_back_leaves profile r c e f =
-    leaves_cond (takes_first e c.masks) (chained framed profile r false c e f) (resumes framed profile r c e f (unstacked framed c r f))
-    (chained_leaves profile r false c e f) (resumes_leaves profile r c e f (unstacked framed c r f))
+    leaves_cond (takes_first e c.masks) (chained framed profile r None false c e f) (resumes framed profile r c e f (unstacked framed c r f))
+    (chained_leaves profile r None false c e f) (resumes_leaves profile r c e f (unstacked framed c r f))
 
 noting_leaves : (profile : Profile) (side : Side) (fault : Option Fault) (r : Returning) (c : Core) (e : ExceptionsValue) (f : Framed)
     → Leaves (leaves_noting framed profile side fault r c e f)
-noting_leaves profile side (Some fault) r c e f = raised_leaves profile r false f (faulted side fault c e)
+noting_leaves profile side (Some fault) r c e f = raised_leaves profile r (refusals.Value fault) false f (faulted side fault c e)
 noting_leaves profile side None r c e f = goes_back_leaves profile r c e f
 
 pub leaves_handles : (profile : Profile) (c : Core) (e : ExceptionsValue) (f : Framed) (value : ℕ)

@@ -29,16 +29,19 @@ use Rattle.tz_frames.specs.declared.leaving.Returning.{Returning}
 use Rattle.tz_frames.specs.declared.leaving.Unstacked.{Unstacked}
 use Rattle.tz_frames.specs.declared.leaving.Left.{Left}
 use Rattle.tz_frames.specs.declared.leaving.Left.TheVariants as left
+use Rattle.tz_frames.specs.declared.leaving.Refusal.{Refusal}
+use Rattle.tz_frames.specs.declared.leaving.Refusal.TheVariants as refusals
 use Rattle.tz_frames.specs.Status.{Raised, faulted, frame_faulted}
 use Rattle.tz_frames.specs.Registers.{number_in, resumed_registers}
 use Rattle.tz_frames.specs.Stack.{with_sp, signature, word_answer, word_read, with_lowest_word, reads, callee_of, callee_read, signed, popped_additional, basic_of, basic_read, popped_basic}
 use Rattle.tz_frames.specs.Enter.{enters, tries}
 use Rattle.tz_frames.specs.Leave.{returning_by, side_of_bit, exc_return_fault, slot_returning, freed, unhandled, chaining, Leaving, left_of, chained, chained_raised, returns_privileged, return_sp, with_callee, unstacked, sp_above, resumed, modes_agree, resumes, goes_back, leaves_noting, leaves}
 use Rattle.tz_frames.specs.Gate.{return_base, numbers_agree, came_back, after_second, after_first, function_returned}
+use Rattle.tz_sem.specs.declared.ending.Handling.{Handling}
 use Rattle.tz_sem.specs.declared.ending.Cause.TheVariants as causes
 use Rattle.tz_sem.specs.declared.ending.Course.{Course}
 use Rattle.tz_sem.specs.Ended.{Passed}
-use Rattle.tz_sem.specs.Taking.{state_of, locks, framed_in, taken, taken_by, preempted, goes_on_at, passed_by, faults, left_by, returns}
+use Rattle.tz_sem.specs.Taking.{state_of, locks, framed_in, taken, taken_by, preempted, goes_on_at, passed_by, faults, left_by, returns, by_entry, by_value}
 use Rattle.tz_sem.specs.Exchange.{core_back, back_with, touching, comes_back}
 use Rattle.tz_twin.specs.Integrity.{Handles, NumbersAgree, IsCallFrame, word_above, IsUnstacked, above_frames, TookFrames, Came, ByException, ByReturn, ByUnstacking}
 use Rattle.tz_twin.proofs.ReturnSpares.{bits, leaves_still}
@@ -48,8 +51,8 @@ use Rattle.tz_twin.proofs.Active.{EnteredHandles, LeftHandles, enters_handles, l
 abbrev pub Comes : ℕ → Stacks → Passed → Type 0
 Comes ipsr stacks p = is_nonsecure_side (side_of p.state) ≡ false → p.state.core.run.locked ≡ false → Came ipsr stacks p.state p.ending.cause
 
-comes_locks : (ipsr : ℕ) (stacks : Stacks) (s : State) (touched : Bool) → Comes ipsr stacks (locks s touched)
-comes_locks ipsr stacks s touched = λ secure unlocked. absurd (cc)
+comes_locks : (ipsr : ℕ) (stacks : Stacks) (s : State) (touched : Bool) (handling : Option Handling) → Comes ipsr stacks (locks s touched handling)
+comes_locks ipsr stacks s touched handling = λ secure unlocked. absurd (cc)
 
 -- ---- entry
 
@@ -61,14 +64,14 @@ pub runs_secure : (side : Side) → is_nonsecure_side side ≡ false → side �
 runs_secure Secure e = refl
 runs_secure NonSecure e = cc
 
-comes_taken : (ipsr : ℕ) (stacks : Stacks) (s : State) (touched : Bool) (given : Slot) → Handles given s.core s.exceptions → Comes ipsr stacks (taken s touched)
-comes_taken ipsr stacks s touched given h =
+comes_taken : (ipsr : ℕ) (stacks : Stacks) (s : State) (touched : Bool) (handling : Option Handling) (given : Slot) → Handles given s.core s.exceptions → Comes ipsr stacks (taken s touched handling)
+comes_taken ipsr stacks s touched handling given h =
     λ secure unlocked. ByException refl given (sym h.runs ∙ runs_secure s.core.run.side (unlocked_side s.core.run.locked s.core.run.side unlocked secure))
     (record { number = h.number; runs = h.runs; side = h.side; active = h.active })
 
 comes_taken_by : (ipsr : ℕ) (stacks : Stacks) (s : State) (course : Course) (result : Entered) → EnteredHandles s.core s.exceptions result → Comes ipsr stacks (taken_by s course result)
-comes_taken_by ipsr stacks s course (entered.Taken given touched) h = comes_taken ipsr stacks s (course.touched || touched) given h
-comes_taken_by ipsr stacks s course (entered.Lockup touched) h = comes_locks ipsr stacks s (course.touched || touched)
+comes_taken_by ipsr stacks s course (entered.Taken given entry) h = comes_taken ipsr stacks s (course.touched || entry.touched) (Some (by_entry entry)) given h
+comes_taken_by ipsr stacks s course (entered.Lockup entry) h = comes_locks ipsr stacks s (course.touched || entry.touched) (Some (by_entry entry))
 
 pub comes_preempted : (ipsr : ℕ) (stacks : Stacks) (s : State) (course : Course) (back : ℕ) → Comes ipsr stacks (preempted s course back)
 unfolding preempted
@@ -86,7 +89,7 @@ unfolding faults
 comes_faults ipsr stacks s course fault =
     let r = faulted s.core.run.side fault s.core s.exceptions in
     let entry = preempted (state_of (passed_by fault r.core) r.exceptions s.bus) course (goes_on_at fault s.core.registers.pc) in
-    comes_cond ipsr stacks r.locks _ entry (comes_locks ipsr stacks (state_of r.core r.exceptions s.bus) course.touched)
+    comes_cond ipsr stacks r.locks _ entry (comes_locks ipsr stacks (state_of r.core r.exceptions s.bus) course.touched None)
     (comes_preempted ipsr stacks (state_of (passed_by fault r.core) r.exceptions s.bus) course (goes_on_at fault s.core.registers.pc))
 
 -- ---- a return
@@ -94,8 +97,8 @@ comes_faults ipsr stacks s course fault =
 -- where it resumed Secure code, it took its registers from frames on the Secure stack of the mode
 abbrev SignedWhere : Stacks → Memory → Core → Left → Type 0
 SignedWhere stacks m c (left.Resumed touched) = is_nonsecure_side c.run.side ≡ false → TookFrames stacks c m
-SignedWhere stacks m c (left.Chained given touched) = Unit {0}
-SignedWhere stacks m c (left.Lockup touched) = Unit {0}
+SignedWhere stacks m c (left.Chained given refused entry) = Unit {0}
+SignedWhere stacks m c (left.Lockup refused entry) = Unit {0}
 
 abbrev SignedBy : Stacks → Memory → Leaving Framed → Type 0
 SignedBy stacks m l = SignedWhere stacks m l.core l.result
@@ -104,18 +107,18 @@ signed_cond : (stacks : Stacks) (m : Memory) (t : Bool) (x y : Leaving Framed) �
 signed_cond stacks m true x y h k = h refl
 signed_cond stacks m false x y h k = k
 
-signed_chained : (stacks : Stacks) (m : Memory) (profile : Profile) (r : Returning) (touched : Bool) (c : Core) (e : ExceptionsValue) (f : Framed) → SignedBy stacks m (chained framed profile r touched c e f)
+signed_chained : (stacks : Stacks) (m : Memory) (profile : Profile) (r : Returning) (refused : Option Refusal) (touched : Bool) (c : Core) (e : ExceptionsValue) (f : Framed) → SignedBy stacks m (chained framed profile r refused touched c e f)
 unfolding chained
-signed_chained stacks m profile r touched c e f =
+signed_chained stacks m profile r refused touched c e f =
     let d = tries framed profile 4 (record { core = c; exceptions = e; held = f; entry = chaining r touched }) in go d.core d.result
   where
-    go : (c : Core) (x : Entered) → SignedWhere stacks m c (left_of x)
-    go c (entered.Taken given touched) = tt
-    go c (entered.Lockup touched) = tt
+    go : (c : Core) (x : Entered) → SignedWhere stacks m c (left_of refused x)
+    go c (entered.Taken given entry) = tt
+    go c (entered.Lockup entry) = tt
 
-signed_raised : (stacks : Stacks) (m : Memory) (profile : Profile) (r : Returning) (touched : Bool) (f : Framed) (raised : Raised) → SignedBy stacks m (chained_raised framed profile r touched f raised)
-signed_raised stacks m profile r touched f raised =
-    signed_cond stacks m raised.locks _ (chained framed profile r touched raised.core raised.exceptions f) (λ locks. tt) (signed_chained stacks m profile r touched raised.core raised.exceptions f)
+signed_raised : (stacks : Stacks) (m : Memory) (profile : Profile) (r : Returning) (refusal : Refusal) (touched : Bool) (f : Framed) (raised : Raised) → SignedBy stacks m (chained_raised framed profile r refusal touched f raised)
+signed_raised stacks m profile r refusal touched f raised =
+    signed_cond stacks m raised.locks _ (chained framed profile r (Some refusal) touched raised.core raised.exceptions f) (λ locks. tt) (signed_chained stacks m profile r (Some refusal) touched raised.core raised.exceptions f)
 
 -- ---- words that were read
 
@@ -264,21 +267,21 @@ resumed_signed c f es process thread dcrs false u own e agree is = cc
 
 resumes_signed : (profile : Profile) (r : Returning) (c : Core) (e : ExceptionsValue) (f : Framed) (u : Result Unstacked StackFault) → r.es ≡ false → unstacked framed c r f ≡ u
     → SignedBy c.stacks_s f.bus.memory (resumes framed profile r c e f u)
-resumes_signed profile r c e f (Err fault) own is = signed_raised c.stacks_s f.bus.memory profile r r.secure f (frame_faulted false (side_of_bit r.secure) fault c e)
+resumes_signed profile r c e f (Err fault) own is = signed_raised c.stacks_s f.bus.memory profile r (refusals.Frame fault) r.secure f (frame_faulted false (side_of_bit r.secure) fault c e)
 resumes_signed profile r c e f (Ok u) own is =
     let raised = faulted (side_of_bit r.secure) (InvPc (side_of_bit r.secure)) c e in
-    signed_cond c.stacks_s f.bus.memory (modes_agree r u.basic) _ (chained_raised framed profile r r.secure f raised)
-    (λ agree secure. resumed_signed c f r.es r.process r.thread r.dcrs r.secure u own is agree secure) (signed_raised c.stacks_s f.bus.memory profile r r.secure f raised)
+    signed_cond c.stacks_s f.bus.memory (modes_agree r u.basic) _ (chained_raised framed profile r (refusals.Mode (side_of_bit r.secure)) r.secure f raised)
+    (λ agree secure. resumed_signed c f r.es r.process r.thread r.dcrs r.secure u own is agree secure) (signed_raised c.stacks_s f.bus.memory profile r (refusals.Mode (side_of_bit r.secure)) r.secure f raised)
 
 goes_back_signed : (profile : Profile) (r : Returning) (c : Core) (e : ExceptionsValue) (f : Framed) → r.es ≡ false → SignedBy c.stacks_s f.bus.memory (goes_back framed profile r c e f)
 unfolding goes_back
 goes_back_signed profile r c e f own =
-    signed_cond c.stacks_s f.bus.memory (takes_first e c.masks) (chained framed profile r false c e f) (resumes framed profile r c e f (unstacked framed c r f))
-    (λ takes. signed_chained c.stacks_s f.bus.memory profile r false c e f) (resumes_signed profile r c e f (unstacked framed c r f) own refl)
+    signed_cond c.stacks_s f.bus.memory (takes_first e c.masks) (chained framed profile r None false c e f) (resumes framed profile r c e f (unstacked framed c r f))
+    (λ takes. signed_chained c.stacks_s f.bus.memory profile r None false c e f) (resumes_signed profile r c e f (unstacked framed c r f) own refl)
 
 noting_signed : (profile : Profile) (side : Side) (fault : Option Fault) (r : Returning) (c : Core) (e : ExceptionsValue) (f : Framed) → r.es ≡ false
     → SignedBy c.stacks_s f.bus.memory (leaves_noting framed profile side fault r c e f)
-noting_signed profile side (Some fault) r c e f own = signed_raised c.stacks_s f.bus.memory profile r false f (faulted side fault c e)
+noting_signed profile side (Some fault) r c e f own = signed_raised c.stacks_s f.bus.memory profile r (refusals.Value fault) false f (faulted side fault c e)
 noting_signed profile side None r c e f own = goes_back_signed profile r c e f own
 
 -- a return of Non-secure code leaves the Secure stacks alone until then
@@ -302,18 +305,18 @@ leaves_signed profile c e f value is =
 came_signed : (ipsr : ℕ) (stacks : Stacks) (s : State) (m : Memory) → s.bus.memory ≡ m → TookFrames stacks s.core m → Came ipsr stacks s causes.Resumed
 came_signed ipsr stacks s m same h = ByUnstacking refl (subst (λ (n : Memory). TookFrames stacks s.core n) (sym same) h)
 
-comes_left_by : (ipsr : ℕ) (stacks : Stacks) (s : State) (m : Memory) (course : Course) (code : Code) (result : Left) → s.bus.memory ≡ m → SignedWhere stacks m s.core result → LeftHandles s.core s.exceptions result → Comes ipsr stacks (left_by s course code result)
-comes_left_by ipsr stacks s m course code (left.Resumed touched) same h g =
+comes_left_by : (ipsr : ℕ) (stacks : Stacks) (s : State) (m : Memory) (course : Course) (code : Code) (value : ℕ) (result : Left) → s.bus.memory ≡ m → SignedWhere stacks m s.core result → LeftHandles s.core s.exceptions result → Comes ipsr stacks (left_by s course code value result)
+comes_left_by ipsr stacks s m course code value (left.Resumed touched) same h g =
     λ secure unlocked. came_signed ipsr stacks _ m same (h (unlocked_side s.core.run.locked s.core.run.side unlocked secure))
-comes_left_by ipsr stacks s m course code (left.Chained given touched) same h g = comes_taken ipsr stacks s (course.touched || touched) given g
-comes_left_by ipsr stacks s m course code (left.Lockup touched) same h g = comes_locks ipsr stacks s (course.touched || touched)
+comes_left_by ipsr stacks s m course code value (left.Chained given refused entry) same h g = comes_taken ipsr stacks s (course.touched || entry.touched) (Some (by_value value refused (Some entry))) given g
+comes_left_by ipsr stacks s m course code value (left.Lockup refused entry) same h g = comes_locks ipsr stacks s (course.touched || entry.touched) (Some (by_value value refused (Some entry)))
 
 pub comes_returns : (ipsr : ℕ) (s : State) (course : Course) (code : Code) (value : ℕ) → s.core.run.side ≡ NonSecure → Comes ipsr s.core.stacks_s (returns s course code value)
 unfolding returns
 comes_returns ipsr s course code value is =
     let f = framed_in course.negative s in
     let l = leaves framed s.bus.board.profile s.core s.exceptions f value in
-    comes_left_by ipsr s.core.stacks_s (state_of l.core l.exceptions l.held.bus) s.bus.memory course code l.result
+    comes_left_by ipsr s.core.stacks_s (state_of l.core l.exceptions l.held.bus) s.bus.memory course code value l.result
     (ap (λ (g : Framed). g.bus.memory) (leaves_still s.bus.board.profile s.core s.exceptions f value is)) (leaves_signed s.bus.board.profile s.core s.exceptions f value is)
     (leaves_handles s.bus.board.profile s.core s.exceptions f value)
 
@@ -358,9 +361,9 @@ comes_back_with : (before : Core) (s : State) (course : Course) (code : Code) (r
 comes_back_with before s course code (Ok c) h = λ secure unlocked. ByReturn refl h
 comes_back_with before s course code (Err fault) h = comes_faults s.core.registers.ipsr s.core.stacks_s (with_core s (core_back before s.core)) course fault
 
-pub comes_comes_back : (before : Core) (s : State) (course : Course) (code : Code) → Comes s.core.registers.ipsr s.core.stacks_s (comes_back before s course code)
+pub comes_comes_back : (before : Core) (s : State) (course : Course) (code : Code) (value : ℕ) → Comes s.core.registers.ipsr s.core.stacks_s (comes_back before s course code value)
 unfolding comes_back
-comes_comes_back before s course code =
+comes_comes_back before s course code value =
     let f = framed_in course.negative s in
     comes_back_with before s (touching course) code (function_returned framed s.core f)
     (first_called s.core s.bus.memory (frame_verdict f Read (return_base s.core) Secure f.secure_privileged) (frame_verdict f Read (wrap (return_base s.core + 4)) Secure f.secure_privileged) f refl)

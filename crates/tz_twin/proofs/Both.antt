@@ -1,13 +1,16 @@
 -- The ends of two steps of twins: they go on as twins, they both lock, or they both looked at Secure state.
-use Rattle.std.proofs.Common.{◌≡◌, Bool, true, false, ◌&&◌, cond, Option, Some, None, refl, sym, ap}
+use Rattle.std.proofs.Common.{◌≡◌, Bool, true, false, ◌&&◌, cond, Option, Some, None, refl, sym, ap, List}
 use Rattle.tz_table.specs.declared.units.Side.{Side}
+use Rattle.tz_model.specs.declared.report.Store.{Store}
 use Rattle.tz_model.specs.declared.report.Way.{Way}
 use Rattle.tz_model.specs.Words.{is_nonsecure_side}
 use Rattle.tz_regs.specs.declared.parts.Registers.{Registers}
 use Rattle.tz_regs.specs.Registers.{side_in, before_in}
 use Rattle.tz_state.specs.State.{State, side_of}
+use Rattle.tz_sem.specs.Taking.{handling_of, with_handling}
+use Rattle.tz_sem.specs.declared.ending.Handling.{Handling}
 use Rattle.tz_sem.specs.declared.ending.Cause.{Cause}
-use Rattle.tz_sem.specs.Ended.{Ended, way_by, kind_of}
+use Rattle.tz_sem.specs.Ended.{Ended, way_by, kind_of, Passed, with_stores}
 use Rattle.tz_sem.specs.Step.{stepped}
 use Rattle.tz_twin.specs.Seen.{public_of, handed, crossing, Crossing, Seen, Hidden, Shown, seen}
 use Rattle.tz_twin.specs.Integrity.{Keeps, WayIn}
@@ -84,3 +87,23 @@ both_cond s s' false x y x' y' p q = q
 pub both_second : (s s' : State) (t : Bool) (x y x' y' : Ended) → t ≡ false → Both s s' y y' → Both s s' (cond t x y) (cond t x' y')
 both_second s s' true x y x' y' e p = absurd (cc)
 both_second s s' false x y x' y' e p = p
+
+-- what is noted of how exceptions came into a step is no part of what a crossing tells
+touching_handling : (s : State) (before : Seen) (stores : List Store) (change : Handling → Handling) (p : Passed) → Touching s before (with_stores stores p) → Touching s before (with_stores stores (with_handling change p))
+touching_handling s before stores change p h = record { touched = h.touched; seen = h.seen }
+
+-- one change of it in both
+pub both_handling : (s s' : State) (stores : List Store) (change : Handling → Handling) (p p' : Passed) → Both s s' (with_stores stores p) (with_stores stores p')
+    → Both s s' (with_stores stores (with_handling change p)) (with_stores stores (with_handling change p'))
+both_handling s s' stores change p p' (Go h) =
+    Go (record {
+      twins = h.twins;
+      ending = λ i. record (h.ending i) { handling = Some (change (handling_of (h.ending i).handling)) };
+      stores = h.stores;
+      kept = h.kept;
+      kept' = h.kept';
+    })
+both_handling s s' stores change p p' (Stop h h') =
+    Stop (record { locked = h.locked; board = h.board; kept = h.kept }) (record { locked = h'.locked; board = h'.board; kept = h'.kept })
+both_handling s s' stores change p p' (Touch before before' alike t t' a a') =
+    Touch before before' alike (touching_handling s before stores change p t) (touching_handling s' before' stores change p' t') a a'

@@ -1,6 +1,6 @@
 -- A step changes no byte but those of its stores and of frames, stage by stage; nor, without a store to the system
 -- registers, the SAU, nor what stands for exceptions unless one is taken or returns.
-use Rattle.std.proofs.Common.{◌≡◌, ℕ, ◌+◌, Bool, true, false, ◌&&◌, ◌||◌, not, cond, List, [], Result, Ok, Err, refl, ap, ◌∙◌, subst}
+use Rattle.std.proofs.Common.{◌≡◌, ℕ, ◌+◌, Bool, true, false, ◌&&◌, ◌||◌, not, cond, List, [], Result, Ok, Err, refl, ap, ◌∙◌, subst, Option, None}
 use Rattle.std.specs.Prelude.{nat_lt}
 use Rattle.std.specs.FinMap.{get}
 use Rattle.tz_table.specs.declared.units.Side.{Side}
@@ -37,6 +37,7 @@ use Rattle.tz_frames.specs.Gate.{Called, call_base, call_stores, called_ns, afte
 use Rattle.tz_frames.specs.Leave.{is_exc_return, leaves}
 use Rattle.tz_frames.specs.Machine.{framed}
 use Rattle.tz_frames.specs.Status.{faulted}
+use Rattle.tz_sem.specs.declared.ending.Handling.{Handling}
 use Rattle.tz_sem.specs.declared.ending.Cause.{Cause}
 use Rattle.tz_sem.specs.declared.ending.Course.{Course}
 use Rattle.tz_sem.specs.Ended.{Passed, Ended, with_stores}
@@ -46,7 +47,7 @@ use Rattle.tz_sem.specs.ItRules.{is_misplaced, is_passed_over, ignores_condition
 use Rattle.tz_sem.specs.Local.{local_of, finished_in}
 use Rattle.tz_sem.specs.Branch.{finish_branch}
 use Rattle.tz_sem.specs.Step.{length_of, past, skips, is_call, goes_on, concludes, executes, faulting, placed, decoded, runs_gateway, fetched, fetches, fetch_in, course_in, touches_secure, unready, instructs, awake, takes_exception, idles, without_event, is_woken, by_sleep, ended, started}
-use Rattle.tz_sem.specs.Taking.{state_of, locks, framed_in, taken_by, preempted, passed_by, faults, left_by, returns}
+use Rattle.tz_sem.specs.Taking.{state_of, locks, framed_in, taken_by, preempted, passed_by, faults, left_by, returns, with_fault, with_value, with_handling, after_raise}
 use Rattle.tz_twin.specs.Writing.{are_beside, are_in_memory, is_framed, is_exceptional, with_timers_of, KeepsElsewhere, WritesTold}
 use Rattle.tz_twin.proofs.Held.{enters_held, leaves_held}
 use Rattle.tz_twin.proofs.Spared.{faulted_side}
@@ -90,8 +91,12 @@ out_of_frames true u e = e
 out_of_frames false u e = e
 
 -- the machine locks
-passes_locks : (side : Side) (s : State) (e : ExceptionsValue) (touched : Bool) → Passes side s.bus e (locks s touched)
-passes_locks side s e touched = record { bytes = λ a out. refl; board = refl; sau = refl; exceptions = true_false }
+passes_locks : (side : Side) (s : State) (e : ExceptionsValue) (touched : Bool) (handling : Option Handling) → Passes side s.bus e (locks s touched handling)
+passes_locks side s e touched handling = record { bytes = λ a out. refl; board = refl; sau = refl; exceptions = true_false }
+
+-- what is noted of how exceptions came into it is no part of that
+passes_handling : (side : Side) (b : Bus) (e : ExceptionsValue) (change : Handling → Handling) (p : Passed) → Passes side b e p → Passes side b e (with_handling change p)
+passes_handling side b e change p h = record { bytes = h.bytes; board = h.board; sau = h.sau; exceptions = h.exceptions }
 
 -- what an entry or a return left
 record FramesKept (side : Side) (b : Bus) (s : State) : Type 0 where
@@ -100,28 +105,28 @@ record FramesKept (side : Side) (b : Bus) (s : State) : Type 0 where
   pub sau : s.bus.sau ≡ b.sau
 
 passes_taken : (side : Side) (b : Bus) (e : ExceptionsValue) (s : State) (course : Course) (r : Entered) → FramesKept side b s → Passes side b e (taken_by s course r)
-passes_taken side b e s course (entered.Taken given touched) h = record {
+passes_taken side b e s course (entered.Taken given entry) h = record {
   bytes = λ a out. h.bytes a (out_of_frames s.core.run.locked (is_framed (stacks_of side s.core) a) out);
   board = h.board;
   sau = h.sau;
   exceptions = or_true s.core.run.locked;
 }
-passes_taken side b e s course (entered.Lockup touched) h = record { bytes = h.bytes; board = h.board; sau = h.sau; exceptions = true_false }
+passes_taken side b e s course (entered.Lockup entry) h = record { bytes = h.bytes; board = h.board; sau = h.sau; exceptions = true_false }
 
-passes_left : (side : Side) (b : Bus) (e : ExceptionsValue) (s : State) (course : Course) (code : Code) (r : Left) → FramesKept side b s → Passes side b e (left_by s course code r)
-passes_left side b e s course code (left.Resumed touched) h = record {
+passes_left : (side : Side) (b : Bus) (e : ExceptionsValue) (s : State) (course : Course) (code : Code) (value : ℕ) (r : Left) → FramesKept side b s → Passes side b e (left_by s course code value r)
+passes_left side b e s course code value (left.Resumed touched) h = record {
   bytes = λ a out. h.bytes a (out_of_frames s.core.run.locked (is_framed (stacks_of side s.core) a) out);
   board = h.board;
   sau = h.sau;
   exceptions = or_true s.core.run.locked;
 }
-passes_left side b e s course code (left.Chained given touched) h = record {
+passes_left side b e s course code value (left.Chained given refused entry) h = record {
   bytes = λ a out. h.bytes a (out_of_frames s.core.run.locked (is_framed (stacks_of side s.core) a) out);
   board = h.board;
   sau = h.sau;
   exceptions = or_true s.core.run.locked;
 }
-passes_left side b e s course code (left.Lockup touched) h = record { bytes = h.bytes; board = h.board; sau = h.sau; exceptions = true_false }
+passes_left side b e s course code value (left.Lockup refused entry) h = record { bytes = h.bytes; board = h.board; sau = h.sau; exceptions = true_false }
 
 passes_preempted : (s : State) (e : ExceptionsValue) (course : Course) (back : ℕ) → Passes s.core.run.side s.bus e (preempted s course back)
 unfolding preempted
@@ -142,7 +147,7 @@ passes_returns s e course code value =
     let f = framed_in course.negative s in
     let l = leaves framed s.bus.board.profile s.core s.exceptions f value in
     let held = leaves_held s.bus.board.profile s.core s.exceptions f value in
-    passes_left s.core.run.side s.bus e (state_of l.core l.exceptions l.held.bus) course code l.result
+    passes_left s.core.run.side s.bus e (state_of l.core l.exceptions l.held.bus) course code value l.result
     (record {
       bytes = leaves_kept s.bus.board.profile s.core s.exceptions f value;
       board = ap (λ (b : Bus). b.board) held;
@@ -165,8 +170,9 @@ unfolding faults
 passes_faults s e course fault =
     let r = faulted s.core.run.side fault s.core s.exceptions in
     let s' = state_of (passed_by fault r.core) r.exceptions s.bus in
-    passes_cond s.core.run.side s.bus e r.locks _ _ (passes_locks s.core.run.side (state_of r.core r.exceptions s.bus) e course.touched)
-    (of_side_that_ran s'.core.run.side s.core.run.side s.bus e _ (passed_side fault r.core ∙ faulted_side s.core.run.side fault s.core s.exceptions) (passes_preempted s' e course _))
+    passes_handling s.core.run.side s.bus e (with_fault fault) (after_raise s course fault r)
+    (passes_cond s.core.run.side s.bus e r.locks _ _ (passes_locks s.core.run.side (state_of r.core r.exceptions s.bus) e course.touched None)
+    (of_side_that_ran s'.core.run.side s.core.run.side s.bus e _ (passed_side fault r.core ∙ faulted_side s.core.run.side fault s.core s.exceptions) (passes_preempted s' e course _)))
 
 -- ---- exchanges
 
@@ -174,9 +180,11 @@ passes_back : (before : Core) (s : State) (course : Course) (code : Code) (r : R
 passes_back before s course code (Ok c) = record { bytes = λ a out. refl; board = refl; sau = refl; exceptions = λ plain. refl }
 passes_back before s course code (Err fault) = passes_faults (with_core s (core_back before s.core)) s.exceptions course fault
 
-passes_comes_back : (before : Core) (s : State) (course : Course) (code : Code) → Passes before.run.side s.bus s.exceptions (comes_back before s course code)
+passes_comes_back : (before : Core) (s : State) (course : Course) (code : Code) (value : ℕ) → Passes before.run.side s.bus s.exceptions (comes_back before s course code value)
 unfolding comes_back
-passes_comes_back before s course code = passes_back before s (touching course) code (function_returned framed s.core (framed_in course.negative s))
+passes_comes_back before s course code value =
+    let r = function_returned framed s.core (framed_in course.negative s) in
+    passes_handling before.run.side s.bus s.exceptions (with_value value) (back_with before s (touching course) code r) (passes_back before s (touching course) code r)
 
 passes_moves : (side : Side) (s : State) (course : Course) (code : Code) (target : ℕ) (ns : Bool) → Passes side s.bus s.exceptions (moves_to s course code target ns)
 passes_moves side s course code target ns =
@@ -187,7 +195,7 @@ passes_exchanged : (side : Side) (before : Core) (i : Insn) (s : State) (course 
     → Passes side s.bus s.exceptions (exchanged before s (past i s) course code target ns)
 unfolding exchanged
 passes_exchanged side before i s course code target ns was is =
-    passes_cond side s.bus s.exceptions (is_fnc_return target) _ _ (of_side_that_ran before.run.side side s.bus s.exceptions _ was (passes_comes_back before s course code))
+    passes_cond side s.bus s.exceptions (is_fnc_return target) _ _ (of_side_that_ran before.run.side side s.bus s.exceptions _ was (passes_comes_back before s course code target))
     (passes_cond side s.bus s.exceptions (is_handler s.core.registers.ipsr && is_exc_return target) _ _
     (of_side_that_ran s.core.run.side side s.bus s.exceptions _ is (passes_returns (past i s) s.exceptions course code target))
     (passes_moves side (past i s) course code target ns))
@@ -337,7 +345,7 @@ keeps_takes s =
 pub keeps_ended : (s : State) → KeepsElsewhere s.core.run.side s (ended s)
 unfolding ended
 keeps_ended s =
-    keeps_cond s.core.run.side s s.core.run.locked _ _ (without_stores s.core.run.side s (locks s true) (passes_locks s.core.run.side s s.exceptions true))
+    keeps_cond s.core.run.side s s.core.run.locked _ _ (without_stores s.core.run.side s (locks s true None) (passes_locks s.core.run.side s s.exceptions true None))
     (keeps_cond s.core.run.side s (takes_first s.exceptions s.core.masks) (takes_exception s) _ (keeps_takes s) (keeps_by_sleep s s.core.run.sleep))
 
 -- of a step, after what it begins with

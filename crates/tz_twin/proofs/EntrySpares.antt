@@ -24,15 +24,15 @@ use Rattle.tz_frames.specs.declared.entering.Entered.{Entered}
 use Rattle.tz_frames.specs.declared.entering.Entered.TheVariants as entered
 use Rattle.tz_frames.specs.Status.{slot, Raised, frame_faulted}
 use Rattle.tz_frames.specs.Stack.{pushed_basic, pushed_additional}
-use Rattle.tz_frames.specs.Enter.{Work, Chosen, Done, is_secure, handling, vectored_by, vectored, vector_failed, vector_touched, falls, callee_process, callee_privileged, stacked, taking, choosing_from, choosing, with_lock, locked_up, goes_on, tries, interrupted, begins_raised, begins, enters}
+use Rattle.tz_frames.specs.Enter.{Work, Chosen, Done, is_secure, handling, vectored_by, vectored, vector_failed, vector_touched, falls, callee_process, callee_privileged, stacked, taking, choosing_from, choosing, with_lock, locked_up, goes_on, tries, interrupted, begins_raised, begins, enters, without_frame}
 use Rattle.tz_twin.proofs.Slots.{quiet}
 use Rattle.tz_twin.proofs.Spared.{KeptBy, kept_from, kept_all, kept_then, flags_quiet, frame_faulted_kept, frame_faulted_side}
 use Rattle.tz_twin.proofs.OwnFrames.{OwnFrameSome, basic_own}
 
 -- whether an entry looked at Secure state
 abbrev pub entered_touched : Entered → Bool
-entered_touched (entered.Taken given touched) = touched
-entered_touched (entered.Lockup touched) = touched
+entered_touched (entered.Taken given entry) = entry.touched
+entered_touched (entered.Lockup entry) = entry.touched
 
 -- whether a Non-secure exception calls for an additional frame that is to be written
 abbrev pub writes_callee : Entering → Bool
@@ -196,7 +196,7 @@ entry_cond c e f false x y h k = k
 begins_raised_spares : (profile : Profile) (c : Core) (e : ExceptionsValue) (f : Framed) (x : Entering) (r : Raised) → writes_callee x ≡ false → Spared c r.core e r.exceptions
     → EntrySpared c e f (begins_raised framed profile f x r)
 begins_raised_spares profile c e f x r none h =
-    let w : Work Framed = record { core = r.core; exceptions = r.exceptions; held = f; entry = record x { faulted = true } } in
+    let w : Work Framed = record { core = r.core; exceptions = r.exceptions; held = f; entry = x } in
     let tried = tries_spares profile 4 w none in
     entry_cond c e f r.locks (locked_up w) (tries framed profile 4 w)
     (record { held = refl; spared = λ t. spared_then c r.core (with_lock r.core) e r.exceptions r.exceptions h (lock_spared r.core r.exceptions) })
@@ -212,7 +212,7 @@ begins_spares profile side e x c f None is none own =
     let tried = tries_spares profile 4 (record { core = c; exceptions = e; held = f; entry = x }) none in record { held = tried.held; spared = tried.spared }
 begins_spares profile Secure e x c f (Some fault) is none own = absurd (cc)
 begins_spares profile NonSecure e x c f (Some fault) is none own =
-    begins_raised_spares profile c e f x (frame_faulted true NonSecure fault c e) none
+    begins_raised_spares profile c e f (without_frame x false fault) (frame_faulted true NonSecure fault c e) none
     (record { kept = λ m n. frame_faulted_kept true fault c e m n own; side = λ is. frame_faulted_side true NonSecure fault c e ∙ is })
 
 no_callee_of : (side : Side) → side ≡ NonSecure → (is_secure side && not false) ≡ false

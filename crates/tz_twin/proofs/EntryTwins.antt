@@ -31,7 +31,7 @@ use Rattle.tz_frames.specs.declared.entering.Choice.TheVariants as choices
 use Rattle.tz_frames.specs.declared.entering.Entered.TheVariants as entered
 use Rattle.tz_frames.specs.Status.{Raised, frame_faulted}
 use Rattle.tz_frames.specs.Stack.{splim_of, with_sp, after_store, written, Pushed, access_fault, pushed_with, pushed, basic_base, basic_words, pushed_basic}
-use Rattle.tz_frames.specs.Enter.{Work, Chosen, Done, vectored_by, vectored, vector_failed, vector_touched, falls, taking, choosing_from, choosing, goes_on, tries, interrupted, begins_raised, begins, after_basic, enters}
+use Rattle.tz_frames.specs.Enter.{Work, Chosen, Done, vectored_by, vectored, vector_failed, vector_touched, falls, taking, choosing_from, choosing, goes_on, tries, interrupted, begins_raised, begins, after_basic, enters, without_frame}
 use Rattle.tz_twin.proofs.Bytes.{SameOpen, value_same, write_same}
 use Rattle.tz_twin.proofs.Split.{Open, Rest, open_of, rest_of, open_map, join_bus, join, Same}
 use Rattle.tz_twin.proofs.OwnFrames.{OwnFrameSome, basic_own}
@@ -209,7 +209,7 @@ vectored_by_twins profile o x x' k g g' entry number (Err fault) same =
     let v' = vectored_by profile (work_of o x' k g' entry) (of_number number NonSecure) (Err fault) in
     let y = rest_of (state_of v.work.core v.work.exceptions (join_bus o x)) in
     let y' = rest_of (state_of v'.work.core v'.work.exceptions (join_bus o x')) in
-    chooses_alike (open_of (state_of v.work.core v.work.exceptions (join_bus o x))) y y' k g g' entry v.choice
+    chooses_alike (open_of (state_of v.work.core v.work.exceptions (join_bus o x))) y y' k g g' v.work.entry v.choice
     (record { bytes = same.bytes; bus = λ is. ap (λ (b : BusStatus). record b { hfsr = bit_or b.hfsr vecttbl }) (same.bus is) })
 
 -- the vector of a Secure exception is a look at Secure state
@@ -278,7 +278,7 @@ goes_alike again w w' (choices.Taken given) t h =
       ground = t.ground;
       guise = t.guise;
       guise' = t.guise';
-      result = entered.Taken given t.entry.touched;
+      result = entered.Taken given t.entry;
       ends = ap (λ (u : Work Framed). goes_on again u (choices.Taken given)) t.work;
       ends' = ap (λ (u : Work Framed). goes_on again u (choices.Taken given)) t.work';
       same = t.same;
@@ -320,9 +320,8 @@ begins_raised_twins : (profile : Profile) (o : Open) (x x' : Rest) (k : Ground) 
 begins_raised_twins profile o x x' k g g' entry r r' none h =
     let held = held_of o x k g in
     let held' = held_of o x' k g' in
-    let faulted : Entering = record entry { faulted = true } in
     done_cond r.locks r'.locks _ _ _ _ h.locks (EntersLocked refl refl)
-    (tries_twins profile 4 (record { core = r.core; exceptions = r.exceptions; held = held; entry = faulted }) (record { core = r'.core; exceptions = r'.exceptions; held = held'; entry = faulted }) none
+    (tries_twins profile 4 (record { core = r.core; exceptions = r.exceptions; held = held; entry = entry }) (record { core = r'.core; exceptions = r'.exceptions; held = held'; entry = entry }) none
     (record {
       part = h.part;
       rest = h.rest;
@@ -330,9 +329,9 @@ begins_raised_twins profile o x x' k g g' entry r r' none h =
       ground = k;
       guise = g;
       guise' = g';
-      entry = faulted;
-      work = λ i. record { core = h.core i; exceptions = h.exceptions i; held = record held { bus = h.bus i }; entry = faulted };
-      work' = λ i. record { core = h.core' i; exceptions = h.exceptions' i; held = record held' { bus = h.bus' i }; entry = faulted };
+      entry = entry;
+      work = λ i. record { core = h.core i; exceptions = h.exceptions i; held = record held { bus = h.bus i }; entry = entry };
+      work' = λ i. record { core = h.core' i; exceptions = h.exceptions' i; held = record held' { bus = h.bus' i }; entry = entry };
       same = h.same;
     }))
 
@@ -354,7 +353,7 @@ begins_twins profile o x x' k g g' entry None none own same =
       same = same;
     })
 begins_twins profile o x x' k g g' entry (Some fault) none own same =
-    begins_raised_twins profile o x x' k g g' entry (frame_faulted true NonSecure fault (join o x).core o.exceptions) (frame_faulted true NonSecure fault (join o x').core o.exceptions) none
+    begins_raised_twins profile o x x' k g g' (without_frame entry false fault) (frame_faulted true NonSecure fault (join o x).core o.exceptions) (frame_faulted true NonSecure fault (join o x').core o.exceptions) none
     (frame_faulted_twins true o x x' fault own same)
 
 -- an entry from Non-secure code

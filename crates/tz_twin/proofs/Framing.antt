@@ -32,9 +32,12 @@ use Rattle.tz_frames.specs.declared.entering.Choice.{Choice}
 use Rattle.tz_frames.specs.declared.entering.Choice.TheVariants as choices
 use Rattle.tz_frames.specs.declared.leaving.Returning.{Returning}
 use Rattle.tz_frames.specs.declared.leaving.Unstacked.{Unstacked}
+use Rattle.tz_frames.specs.declared.entering.FrameFault.{FrameFault}
+use Rattle.tz_frames.specs.declared.leaving.Refusal.{Refusal}
+use Rattle.tz_frames.specs.declared.leaving.Refusal.TheVariants as refusals
 use Rattle.tz_frames.specs.Status.{Raised, frame_status, frame_exception, with_status, raised_as, faulted, frame_faulted}
 use Rattle.tz_frames.specs.Stack.{splim_of, with_sp, after_store, written, Pushed, pushed, basic_base, basic_words, pushed_basic, callee_words, pushed_additional}
-use Rattle.tz_frames.specs.Enter.{Work, Chosen, Done, is_secure, handling, vectored_by, vectored, vector_failed, vector_touched, falls, fallen, callee_process, callee_privileged, stacked_by, stacked, taking, choosing_from, choosing, locked_up, goes_on, tries, interrupted, begins_raised, begins, enters}
+use Rattle.tz_frames.specs.Enter.{Work, Chosen, Done, is_secure, handling, vectored_by, vectored, vector_failed, vector_touched, falls, fallen, callee_process, callee_privileged, stacked_by, stacked, taking, choosing_from, choosing, locked_up, goes_on, tries, interrupted, begins_raised, begins, enters, without_frame}
 use Rattle.tz_frames.specs.Leave.{returning_by, exc_return_fault, slot_returning, freed, unhandled, chaining, side_of_bit, Leaving, chained, chained_raised, unstacked, modes_agree, resumes, goes_back, leaves_noting, leaves}
 use Rattle.tz_twin.specs.Writing.{distance, is_within, is_framed}
 use Rattle.tz_twin.proofs.Noted.{word_beside}
@@ -340,17 +343,17 @@ raised_staged : (side : Side) (old new : Memory) (secure skip thread stacking : 
 raised_staged side old new secure skip thread stacking of fault c e h =
     raised_as_staged side old new secure skip thread (escalated e c.masks (frame_exception e of fault)) (frame_exception e of fault) (with_status c (frame_status stacking of fault c.status)) e h
 
-stacked_by_kept : (side : Side) (old : Memory) (profile : Profile) (w : Work Framed) (given : Slot) (was : Bool) (fault : Option StackFault) → StageOf side old w
-    → ChosenKept side old (stacked_by framed profile w given was fault)
-stacked_by_kept side old profile w given false (Some fault) h =
+stacked_by_kept : (side : Side) (old : Memory) (profile : Profile) (w : Work Framed) (given : Slot) (first : Option FrameFault) (fault : Option StackFault) → StageOf side old w
+    → ChosenKept side old (stacked_by framed profile w given first fault)
+stacked_by_kept side old profile w given None (Some fault) h =
     let r = frame_faulted true Secure fault w.core w.exceptions in
     let staged = raised_staged side old w.held.bus.memory w.entry.secure w.entry.skip w.entry.thread true Secure fault w.core w.exceptions h in
     record {
       kept = final side old w.held.bus.memory w.entry.secure w.entry.skip w.entry.thread r.core.stacks_s r.core.stacks_ns staged;
       again = λ e. staged;
     }
-stacked_by_kept side old profile w given true (Some fault) h = vectored_kept side old profile w given h
-stacked_by_kept side old profile w given was None h = vectored_kept side old profile w given h
+stacked_by_kept side old profile w given (Some first) (Some fault) h = vectored_kept side old profile w given h
+stacked_by_kept side old profile w given first None h = vectored_kept side old profile w given h
 
 and_false : (t : Bool) → (t && false) ≡ false
 and_false true = refl
@@ -358,7 +361,7 @@ and_false false = refl
 
 stacked_kept : (side : Side) (old : Memory) (profile : Profile) (w : Work Framed) (given : Slot) (p : Pushed Framed) → Ends side old p → ChosenKept side old (stacked framed profile w given p)
 stacked_kept side old profile w given p h =
-    stacked_by_kept side old profile (record w { core = p.core; held = p.held; entry = fallen w.entry }) given w.entry.faulted p.fault (Full (and_false w.entry.secure) h)
+    stacked_by_kept side old profile (record w { core = p.core; held = p.held; entry = fallen w.entry }) given w.entry.frame p.fault (Full (and_false w.entry.secure) h)
 
 chosen_cond : (side : Side) (old : Memory) (t : Bool) (x y : Chosen Framed) → (t ≡ true → ChosenKept side old x) → ChosenKept side old y → ChosenKept side old (cond t x y)
 chosen_cond side old true x y h k = h refl
@@ -418,14 +421,14 @@ done_cond side old false x y h k = k
 begins_raised_kept : (side : Side) (old : Memory) (profile : Profile) (f : Framed) (x : Entering) (r : Raised) → Stage side old f.bus.memory x.secure x.skip x.thread r.core.stacks_s r.core.stacks_ns
     → DoneKept side old (begins_raised framed profile f x r)
 begins_raised_kept side old profile f x r h =
-    let w : Work Framed = record { core = r.core; exceptions = r.exceptions; held = f; entry = record x { faulted = true } } in
+    let w : Work Framed = record { core = r.core; exceptions = r.exceptions; held = f; entry = x } in
     done_cond side old r.locks (locked_up w) (tries framed profile 4 w) (kept_at side old w h) (tries_kept side old profile 4 w h)
 
 begins_kept : (side : Side) (old : Memory) (profile : Profile) (of : Side) (e : ExceptionsValue) (x : Entering) (c : Core) (f : Framed) (fault : Option StackFault)
     → Stage side old f.bus.memory x.secure x.skip x.thread c.stacks_s c.stacks_ns → DoneKept side old (begins framed profile of e x c f fault)
 begins_kept side old profile of e x c f None h = tries_kept side old profile 4 (record { core = c; exceptions = e; held = f; entry = x }) h
 begins_kept side old profile of e x c f (Some fault) h =
-    begins_raised_kept side old profile f x (frame_faulted true of fault c e) (raised_staged side old f.bus.memory x.secure x.skip x.thread true of fault c e h)
+    begins_raised_kept side old profile f (without_frame x false fault) (frame_faulted true of fault c e) (raised_staged side old f.bus.memory x.secure x.skip x.thread true of fault c e h)
 
 secure_process : (side : Side) (thread : Bool) (s ns : Stacks) → side ≡ Secure → (thread && (of_side side s ns).spsel) ≡ (thread && s.spsel)
 secure_process Secure thread s ns is = refl
@@ -459,10 +462,10 @@ own_side NonSecure t e = cc
 abbrev Owned : Side → Returning → Type 0
 Owned side r = r.es ≡ true → side ≡ Secure
 
-chained_kept : (side : Side) (profile : Profile) (r : Returning) (touched : Bool) (c : Core) (e : ExceptionsValue) (f : Framed) → Owned side r
-    → let l = chained framed profile r touched c e f in Keeps side f.bus.memory l.core l.held
+chained_kept : (side : Side) (profile : Profile) (r : Returning) (refused : Option Refusal) (touched : Bool) (c : Core) (e : ExceptionsValue) (f : Framed) → Owned side r
+    → let l = chained framed profile r refused touched c e f in Keeps side f.bus.memory l.core l.held
 unfolding chained
-chained_kept side profile r touched c e f own =
+chained_kept side profile r refused touched c e f own =
     tries_kept side f.bus.memory profile 4 (record { core = c; exceptions = e; held = f; entry = chaining r touched }) (Whole (λ due. own (chained_own r.es r.dcrs r.secure due)) (λ a. refl))
 
 abbrev LeavingKept : Side → Memory → Leaving Framed → Type 0
@@ -472,28 +475,28 @@ leaving_cond : (side : Side) (old : Memory) (t : Bool) (x y : Leaving Framed) �
 leaving_cond side old true x y h k = h
 leaving_cond side old false x y h k = k
 
-chained_raised_kept : (side : Side) (profile : Profile) (r : Returning) (touched : Bool) (f : Framed) (raised : Raised) → Owned side r
-    → LeavingKept side f.bus.memory (chained_raised framed profile r touched f raised)
-chained_raised_kept side profile r touched f raised own =
-    leaving_cond side f.bus.memory raised.locks _ (chained framed profile r touched raised.core raised.exceptions f) (λ a out. refl)
-    (chained_kept side profile r touched raised.core raised.exceptions f own)
+chained_raised_kept : (side : Side) (profile : Profile) (r : Returning) (refusal : Refusal) (touched : Bool) (f : Framed) (raised : Raised) → Owned side r
+    → LeavingKept side f.bus.memory (chained_raised framed profile r refusal touched f raised)
+chained_raised_kept side profile r refusal touched f raised own =
+    leaving_cond side f.bus.memory raised.locks _ (chained framed profile r (Some refusal) touched raised.core raised.exceptions f) (λ a out. refl)
+    (chained_kept side profile r (Some refusal) touched raised.core raised.exceptions f own)
 
 resumes_kept : (side : Side) (profile : Profile) (r : Returning) (c : Core) (e : ExceptionsValue) (f : Framed) (u : Result Unstacked StackFault) → Owned side r
     → LeavingKept side f.bus.memory (resumes framed profile r c e f u)
-resumes_kept side profile r c e f (Err fault) own = chained_raised_kept side profile r r.secure f (frame_faulted false (side_of_bit r.secure) fault c e) own
+resumes_kept side profile r c e f (Err fault) own = chained_raised_kept side profile r (refusals.Frame fault) r.secure f (frame_faulted false (side_of_bit r.secure) fault c e) own
 resumes_kept side profile r c e f (Ok u) own =
     let raised = faulted (side_of_bit r.secure) (InvPc (side_of_bit r.secure)) c e in
-    leaving_cond side f.bus.memory (modes_agree r u.basic) _ (chained_raised framed profile r r.secure f raised) (λ a out. refl) (chained_raised_kept side profile r r.secure f raised own)
+    leaving_cond side f.bus.memory (modes_agree r u.basic) _ (chained_raised framed profile r (refusals.Mode (side_of_bit r.secure)) r.secure f raised) (λ a out. refl) (chained_raised_kept side profile r (refusals.Mode (side_of_bit r.secure)) r.secure f raised own)
 
 goes_back_kept : (side : Side) (profile : Profile) (r : Returning) (c : Core) (e : ExceptionsValue) (f : Framed) → Owned side r → LeavingKept side f.bus.memory (goes_back framed profile r c e f)
 unfolding goes_back
 goes_back_kept side profile r c e f own =
-    leaving_cond side f.bus.memory (takes_first e c.masks) (chained framed profile r false c e f) (resumes framed profile r c e f (unstacked framed c r f))
-    (chained_kept side profile r false c e f own) (resumes_kept side profile r c e f (unstacked framed c r f) own)
+    leaving_cond side f.bus.memory (takes_first e c.masks) (chained framed profile r None false c e f) (resumes framed profile r c e f (unstacked framed c r f))
+    (chained_kept side profile r None false c e f own) (resumes_kept side profile r c e f (unstacked framed c r f) own)
 
 noting_kept : (side : Side) (profile : Profile) (of : Side) (fault : Option Fault) (r : Returning) (c : Core) (e : ExceptionsValue) (f : Framed) → Owned side r
     → LeavingKept side f.bus.memory (leaves_noting framed profile of fault r c e f)
-noting_kept side profile of (Some fault) r c e f own = chained_raised_kept side profile r false f (faulted of fault c e) own
+noting_kept side profile of (Some fault) r c e f own = chained_raised_kept side profile r (refusals.Value fault) false f (faulted of fault c e) own
 noting_kept side profile of None r c e f own = goes_back_kept side profile r c e f own
 
 pub leaves_kept : (profile : Profile) (c : Core) (e : ExceptionsValue) (f : Framed) (value : ℕ) → LeavingKept c.run.side f.bus.memory (leaves framed profile c e f value)

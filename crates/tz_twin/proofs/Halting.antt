@@ -1,6 +1,6 @@
 -- Steps that end in an entry or a return, of one run: they stay on their board, and after one that looked at Secure state
 -- the registers of Non-secure code are found.
-use Rattle.std.proofs.Common.{◌≡◌, ℕ, ◌+◌, ◌*◌, ◌%◌, ◌^◌, Bool, true, false, ◌||◌, cond, List, Result, Ok, Err, refl, sym, ap, ◌∙◌, subst}
+use Rattle.std.proofs.Common.{◌≡◌, ℕ, ◌+◌, ◌*◌, ◌%◌, ◌^◌, Bool, true, false, ◌||◌, cond, List, Result, Ok, Err, refl, sym, ap, ◌∙◌, subst, Option, Some, None}
 use Rattle.tz_table.specs.declared.units.Side.{Side}
 use Rattle.tz_table.specs.declared.units.Side.TheVariants.{Secure, NonSecure}
 use Rattle.tz_table.specs.declared.units.Code.{Code}
@@ -29,10 +29,11 @@ use Rattle.tz_frames.specs.Status.{status_after, exception_of, Raised, with_stat
 use Rattle.tz_frames.specs.Enter.{is_secure, enters}
 use Rattle.tz_frames.specs.Leave.{returning_by, leaves}
 use Rattle.tz_frames.specs.Gate.{return_base, numbers_agree, came_back, after_second, after_first, function_returned}
+use Rattle.tz_sem.specs.declared.ending.Handling.{Handling}
 use Rattle.tz_sem.specs.declared.ending.Cause.TheVariants as causes
 use Rattle.tz_sem.specs.declared.ending.Course.{Course}
 use Rattle.tz_sem.specs.Ended.{Passed, Ended, with_stores}
-use Rattle.tz_sem.specs.Taking.{state_of, locks, framed_in, taken, taken_by, preempted, goes_on_at, passed_by, after_raise, faults, left_by, returns}
+use Rattle.tz_sem.specs.Taking.{state_of, locks, framed_in, taken, taken_by, preempted, goes_on_at, passed_by, after_raise, faults, left_by, returns, by_entry, with_fault, with_value, with_handling, by_value}
 use Rattle.tz_sem.specs.Exchange.{core_back, back_with, touching, comes_back}
 use Rattle.tz_sem.specs.Exec.{released}
 use Rattle.tz_twin.specs.Seen.{public_of, handed, Seen, Hidden, seen}
@@ -63,8 +64,12 @@ hides_secure true side is e = cc
 hides_secure false Secure is e = cc
 hides_secure false NonSecure is e = cc
 
-pub halts_locks : (side : Side) (general : List ℕ) (s : State) (touched : Bool) → Halts side s.bus.board touched general (locks s touched)
-halts_locks side general s touched = record { board = refl; touched = λ e. e; found = λ before knows t is. absurd (hides_locked true s.core.run.side refl is) }
+pub halts_locks : (side : Side) (general : List ℕ) (s : State) (touched : Bool) (handling : Option Handling) → Halts side s.bus.board touched general (locks s touched handling)
+halts_locks side general s touched handling = record { board = refl; touched = λ e. e; found = λ before knows t is. absurd (hides_locked true s.core.run.side refl is) }
+
+-- what is noted of how exceptions came into it is no part of that
+halts_handling : (side : Side) (b : BoardValue) (looked : Bool) (general : List ℕ) (change : Handling → Handling) (p : Passed) → Halts side b looked general p → Halts side b looked general (with_handling change p)
+halts_handling side b looked general change p h = record { board = h.board; touched = h.touched; found = h.found }
 
 -- ---- an exception is taken
 
@@ -82,16 +87,16 @@ found_taken : (side : Side) (before : Seen) (secure : Bool) (vtor : ℕ) (r : Re
 found_taken side before secure vtor r c e f number Secure knows h = λ is. absurd (hides_secure c.run.locked c.run.side h is)
 found_taken side before secure vtor r c e f number NonSecure knows h = found_handled side before secure vtor number r c e f knows h
 
-halts_taken : (side : Side) (b : BoardValue) (secure : Bool) (vtor : ℕ) (r : Registers) (c : Core) (e : ExceptionsValue) (f : Framed) (given : Slot) (looked touched : Bool) → f.bus.board ≡ b
-    → HandledAt secure vtor r c f given → Halts side b looked r.general (taken (state_of c e f.bus) (looked || touched))
-halts_taken side b secure vtor r c e f given looked touched board h = record {
+halts_taken : (side : Side) (b : BoardValue) (secure : Bool) (vtor : ℕ) (r : Registers) (c : Core) (e : ExceptionsValue) (f : Framed) (given : Slot) (looked touched : Bool) (handling : Option Handling) → f.bus.board ≡ b
+    → HandledAt secure vtor r c f given → Halts side b looked r.general (taken (state_of c e f.bus) (looked || touched) handling)
+halts_taken side b secure vtor r c e f given looked touched handling board h = record {
   board = board;
   touched = or_true looked touched;
   found = λ before knows t. found_taken side before secure vtor r c e f given.number given.side knows h;
 }
 
-halts_locked : (side : Side) (b : BoardValue) (general : List ℕ) (s : State) (looked touched : Bool) → s.bus.board ≡ b → Halts side b looked general (locks s (looked || touched))
-halts_locked side b general s looked touched board = record {
+halts_locked : (side : Side) (b : BoardValue) (general : List ℕ) (s : State) (looked touched : Bool) (handling : Option Handling) → s.bus.board ≡ b → Halts side b looked general (locks s (looked || touched) handling)
+halts_locked side b general s looked touched handling board = record {
   board = board;
   touched = or_true looked touched;
   found = λ before knows t is. absurd (hides_locked true s.core.run.side refl is);
@@ -99,8 +104,10 @@ halts_locked side b general s looked touched board = record {
 
 halts_taken_by : (side : Side) (b : BoardValue) (secure : Bool) (vtor : ℕ) (r : Registers) (c : Core) (e : ExceptionsValue) (f : Framed) (course : Course) (result : Entered) → f.bus.board ≡ b
     → EnteredHandled secure vtor r c f result → Halts side b course.touched r.general (taken_by (state_of c e f.bus) course result)
-halts_taken_by side b secure vtor r c e f course (entered.Taken given touched) board h = halts_taken side b secure vtor r c e f given course.touched touched board h
-halts_taken_by side b secure vtor r c e f course (entered.Lockup touched) board h = halts_locked side b r.general (state_of c e f.bus) course.touched touched board
+halts_taken_by side b secure vtor r c e f course (entered.Taken given entry) board h =
+    halts_taken side b secure vtor r c e f given course.touched entry.touched (Some (by_entry entry)) board h
+halts_taken_by side b secure vtor r c e f course (entered.Lockup entry) board h =
+    halts_locked side b r.general (state_of c e f.bus) course.touched entry.touched (Some (by_entry entry)) board
 
 pub halts_preempted : (side : Side) (s : State) (course : Course) (back : ℕ) → Halts side s.bus.board course.touched s.core.registers.general (preempted s course back)
 unfolding preempted
@@ -130,7 +137,7 @@ halts_raised : (side : Side) (s : State) (course : Course) (fault : Fault) (r : 
 halts_raised side s course fault r same =
     let entry = preempted (state_of (passed_by fault r.core) r.exceptions s.bus) course (goes_on_at fault s.core.registers.pc) in
     halts_cond side s.bus.board course.touched s.core.registers.general r.locks _ entry
-    (halts_locks side s.core.registers.general (state_of r.core r.exceptions s.bus) course.touched)
+    (halts_locks side s.core.registers.general (state_of r.core r.exceptions s.bus) course.touched None)
     (subst (λ (general : List ℕ). Halts side s.bus.board course.touched general entry) (passed_general fault r.core ∙ same)
     (halts_preempted side (state_of (passed_by fault r.core) r.exceptions s.bus) course (goes_on_at fault s.core.registers.pc)))
 
@@ -139,8 +146,10 @@ unfolding faults
 halts_faults side s course fault =
     let own = s.core.run.side in
     let c = with_status s.core (status_after own fault s.core.status) in
-    halts_raised side s course fault (faulted own fault s.core s.exceptions)
-    (raised_as_general (escalated s.exceptions c.masks (exception_of s.exceptions own fault)) (exception_of s.exceptions own fault) c s.exceptions)
+    let r = faulted own fault s.core s.exceptions in
+    halts_handling side s.bus.board course.touched s.core.registers.general (with_fault fault) (after_raise s course fault r)
+    (halts_raised side s course fault r
+    (raised_as_general (escalated s.exceptions c.masks (exception_of s.exceptions own fault)) (exception_of s.exceptions own fault) c s.exceptions))
 
 -- ---- a return
 
@@ -153,15 +162,17 @@ found_resumed NonSecure before s looked touched quiet t h is = absurd (hides_sec
   other true u e h = cc
   other false u e h = h
 
-halts_left_by : (side : Side) (b : BoardValue) (secure : Bool) (vtor : ℕ) (r : Registers) (c : Core) (e : ExceptionsValue) (f : Framed) (course : Course) (code : Code) (result : Left)
-    → (side ≡ NonSecure → course.touched ≡ false) → f.bus.board ≡ b → LeftHandled secure vtor r c f result → Halts side b course.touched r.general (left_by (state_of c e f.bus) course code result)
-halts_left_by side b secure vtor r c e f course code (left.Resumed touched) quiet board h = record {
+halts_left_by : (side : Side) (b : BoardValue) (secure : Bool) (vtor : ℕ) (r : Registers) (c : Core) (e : ExceptionsValue) (f : Framed) (course : Course) (code : Code) (value : ℕ) (result : Left)
+    → (side ≡ NonSecure → course.touched ≡ false) → f.bus.board ≡ b → LeftHandled secure vtor r c f result → Halts side b course.touched r.general (left_by (state_of c e f.bus) course code value result)
+halts_left_by side b secure vtor r c e f course code value (left.Resumed touched) quiet board h = record {
   board = board;
   touched = or_true course.touched touched;
   found = λ before knows t. found_resumed side before (released (state_of c e f.bus)) course.touched touched quiet t h;
 }
-halts_left_by side b secure vtor r c e f course code (left.Chained given touched) quiet board h = halts_taken side b secure vtor r c e f given course.touched touched board h
-halts_left_by side b secure vtor r c e f course code (left.Lockup touched) quiet board h = halts_locked side b r.general (state_of c e f.bus) course.touched touched board
+halts_left_by side b secure vtor r c e f course code value (left.Chained given refused entry) quiet board h =
+    halts_taken side b secure vtor r c e f given course.touched entry.touched (Some (by_value value refused (Some entry))) board h
+halts_left_by side b secure vtor r c e f course code value (left.Lockup refused entry) quiet board h =
+    halts_locked side b r.general (state_of c e f.bus) course.touched entry.touched (Some (by_value value refused (Some entry))) board
 
 -- code of the Non-secure side that returns has not looked at Secure state before
 pub halts_returns : (side : Side) (s : State) (course : Course) (code : Code) (value : ℕ) → (side ≡ NonSecure → course.touched ≡ false)
@@ -170,7 +181,7 @@ unfolding returns
 halts_returns side s course code value quiet =
     let f = framed_in course.negative s in
     let l = leaves framed s.bus.board.profile s.core s.exceptions f value in
-    halts_left_by side s.bus.board (returning_by s.core.run.side value).secure s.core.status.ns.vtor s.core.registers l.core l.exceptions l.held course code l.result quiet
+    halts_left_by side s.bus.board (returning_by s.core.run.side value).secure s.core.status.ns.vtor s.core.registers l.core l.exceptions l.held course code value l.result quiet
     (ap (λ (b : Bus). b.board) (leaves_held s.bus.board.profile s.core s.exceptions f value)) (leaves_handled s.bus.board.profile s.core s.exceptions f value refl)
 
 -- ---- FNC_RETURN
@@ -204,12 +215,13 @@ halts_back_with side before s course code (Ok c) secure = record {
 halts_back_with side before s course code (Err fault) secure = halts_faults side (with_core s (core_back before s.core)) course fault
 
 -- it has looked at Secure state; where it faults, the registers are those before the instruction
-pub halts_comes_back : (side : Side) (before : Core) (s : State) (course : Course) (code : Code) → Halts side s.bus.board true before.registers.general (comes_back before s course code)
+pub halts_comes_back : (side : Side) (before : Core) (s : State) (course : Course) (code : Code) (value : ℕ) → Halts side s.bus.board true before.registers.general (comes_back before s course code value)
 unfolding comes_back
-halts_comes_back side before s course code =
+halts_comes_back side before s course code value =
     let f = framed_in course.negative s in
-    halts_back_with side before s (touching course) code (function_returned framed s.core f)
-    (back_secure s.core (framed f (SecureLoad (return_base s.core))).1 (framed f (SecureLoad (wrap (return_base s.core + 4)))).1)
+    halts_handling side s.bus.board true before.registers.general (with_value value) (back_with before s (touching course) code (function_returned framed s.core f))
+    (halts_back_with side before s (touching course) code (function_returned framed s.core f)
+    (back_secure s.core (framed f (SecureLoad (return_base s.core))).1 (framed f (SecureLoad (wrap (return_base s.core + 4)))).1))
 
 -- ---- what is seen after them
 

@@ -40,10 +40,13 @@ use Rattle.tz_frames.specs.declared.leaving.Returning.{Returning}
 use Rattle.tz_frames.specs.declared.leaving.Unstacked.{Unstacked}
 use Rattle.tz_frames.specs.declared.leaving.Left.{Left}
 use Rattle.tz_frames.specs.declared.leaving.Left.TheVariants as lefts
+use Rattle.tz_frames.specs.declared.entering.FrameFault.{FrameFault}
+use Rattle.tz_frames.specs.declared.leaving.Refusal.{Refusal}
+use Rattle.tz_frames.specs.declared.leaving.Refusal.TheVariants as refusals
 use Rattle.tz_frames.specs.Registers.{no_flags, scratch_cleared, all_cleared}
 use Rattle.tz_frames.specs.Status.{with_ufsr, with_mmfsr, with_mmfar, status_after, word_status, frame_status, exception_of, frame_exception, Raised, with_status, raised_as, faulted, frame_faulted}
 use Rattle.tz_frames.specs.Stack.{Pushed, splim_of, with_side_sp, after_store, written, pushed_with, pushed, basic_base, basic_words, pushed_basic, callee_words, pushed_additional}
-use Rattle.tz_frames.specs.Enter.{Work, Chosen, Done, is_secure, exc_return, dcrs_of, handling, can_harden, vector_choice, vectored_by, vectored, vector_failed, vector_touched, falls, fallen, callee_process, callee_privileged, raised_choice, after_raise, stacked_by, stacked, taking, choosing_from, choosing, locked_up, goes_on, tries, interrupted, begins_raised, begins, enters}
+use Rattle.tz_frames.specs.Enter.{Work, Chosen, Done, is_secure, exc_return, dcrs_of, handling, can_harden, vector_choice, vectored_by, vectored, vector_failed, vector_touched, falls, fallen, callee_process, callee_privileged, raised_choice, after_raise, stacked_by, stacked, taking, choosing_from, choosing, locked_up, goes_on, tries, interrupted, begins_raised, begins, enters, without_frame}
 use Rattle.tz_frames.specs.Leave.{returning_by, side_of_bit, exc_return_fault, slot_returning, freed, unhandled, chaining, Leaving, left_of, chained, chained_raised, unstacked, modes_agree, resumes, goes_back, leaves_noting, leaves}
 
 -- what a Non-secure handler finds, from the registers `r` of the code before it, which was Secure or not, and from the
@@ -72,14 +75,14 @@ HandledAt secure vtor r c f given = of_side given.side where
 
 -- where an entry takes an exception
 abbrev pub EnteredHandled : Bool → ℕ → Registers → Core → Framed → Entered → Type 0
-EnteredHandled secure vtor r c f (entered.Taken given touched) = HandledAt secure vtor r c f given
-EnteredHandled secure vtor r c f (entered.Lockup touched) = Unit {0}
+EnteredHandled secure vtor r c f (entered.Taken given entry) = HandledAt secure vtor r c f given
+EnteredHandled secure vtor r c f (entered.Lockup entry) = Unit {0}
 
 -- where a return is a tail-chain; and one that unstacked for Secure code resumed it
 abbrev pub LeftHandled : Bool → ℕ → Registers → Core → Framed → Left → Type 0
-LeftHandled secure vtor r c f (lefts.Chained given touched) = HandledAt secure vtor r c f given
+LeftHandled secure vtor r c f (lefts.Chained given refused entry) = HandledAt secure vtor r c f given
 LeftHandled secure vtor r c f (lefts.Resumed touched) = touched ≡ true → c.run.side ≡ Secure
-LeftHandled secure vtor r c f (lefts.Lockup touched) = Unit {0}
+LeftHandled secure vtor r c f (lefts.Lockup refused entry) = Unit {0}
 
 -- ---- what is carried on until an exception is taken
 
@@ -312,15 +315,15 @@ raise_came k f x r h is = go r.locks where
   go true = tt
   go false = record { carried = h; secure = is }
 
-stacked_by_came : (k : Known) (profile : Profile) (w : Work Framed) (given : Slot) (faulted : Bool) (fault : Option StackFault) → Carries k w → CameOf k (stacked_by framed profile w given faulted fault)
-stacked_by_came k profile w given false (Some fault) h =
-    raise_came k w.held w.entry (frame_faulted true Secure fault w.core w.exceptions) (frame_faulted_carried k true Secure fault w.core w.exceptions w.held h.carried) h.secure
-stacked_by_came k profile w given true (Some fault) h = vectored_came k profile w given h
-stacked_by_came k profile w given faulted None h = vectored_came k profile w given h
+stacked_by_came : (k : Known) (profile : Profile) (w : Work Framed) (given : Slot) (first : Option FrameFault) (fault : Option StackFault) → Carries k w → CameOf k (stacked_by framed profile w given first fault)
+stacked_by_came k profile w given None (Some fault) h =
+    raise_came k w.held (without_frame w.entry true fault) (frame_faulted true Secure fault w.core w.exceptions) (frame_faulted_carried k true Secure fault w.core w.exceptions w.held h.carried) h.secure
+stacked_by_came k profile w given (Some first) (Some fault) h = vectored_came k profile w given h
+stacked_by_came k profile w given first None h = vectored_came k profile w given h
 
 stacked_came : (k : Known) (profile : Profile) (w : Work Framed) (given : Slot) (p : Pushed Framed) → CarriedBy k p → w.entry.secure ≡ k.secure → CameOf k (stacked framed profile w given p)
 stacked_came k profile w given p h is =
-    stacked_by_came k profile (record w { core = p.core; held = p.held; entry = fallen w.entry }) given w.entry.faulted p.fault (record { carried = h; secure = is })
+    stacked_by_came k profile (record w { core = p.core; held = p.held; entry = fallen w.entry }) given w.entry.frame p.fault (record { carried = h; secure = is })
 
 chosen_cond : (k : Known) (t : Bool) (x y : Chosen Framed) → CameOf k x → CameOf k y → CameOf k (cond t x y)
 chosen_cond k true x y p q = p
@@ -364,7 +367,7 @@ done_cond k false x y p q = q
 
 begins_raised_ends : (k : Known) (profile : Profile) (f : Framed) (x : Entering) (r : Raised) → Carried k r.core f → x.secure ≡ k.secure → Ends k (begins_raised framed profile f x r)
 begins_raised_ends k profile f x r h is =
-    let w : Work Framed = record { core = r.core; exceptions = r.exceptions; held = f; entry = record x { faulted = true } } in
+    let w : Work Framed = record { core = r.core; exceptions = r.exceptions; held = f; entry = x } in
     done_cond k r.locks (locked_up w) (tries framed profile 4 w) tt (tries_ends k profile 4 w (record { carried = h; secure = is }))
 
 begins_ends : (k : Known) (profile : Profile) (side : Side) (e : ExceptionsValue) (x : Entering) (c : Core) (f : Framed) (fault : Option StackFault) → Carried k c f → x.secure ≡ k.secure
@@ -372,7 +375,7 @@ begins_ends : (k : Known) (profile : Profile) (side : Side) (e : ExceptionsValue
 begins_ends k profile side e x c f None h is =
     tries_ends k profile 4 (record { core = c; exceptions = e; held = f; entry = x }) (record { carried = h; secure = is })
 begins_ends k profile side e x c f (Some fault) h is =
-    begins_raised_ends k profile f x (frame_faulted true side fault c e) (frame_faulted_carried k true side fault c e f h) is
+    begins_raised_ends k profile f (without_frame x false fault) (frame_faulted true side fault c e) (frame_faulted_carried k true side fault c e f h) is
 
 -- what an entry takes finds the registers of the code that was interrupted, cleared
 pub enters_handled : (profile : Profile) (c : Core) (e : ExceptionsValue) (f : Framed) (back : ℕ) → f.vtor_ns ≡ c.status.ns.vtor
@@ -385,27 +388,27 @@ enters_handled profile c e f back held =
 
 -- ---- return
 
-entered_left : (k : Known) (c : Core) (f : Framed) (x : Entered) → EnteredHandled k.secure k.vtor k.registers c f x → LeftHandled k.secure k.vtor k.registers c f (left_of x)
-entered_left k c f (entered.Taken given touched) h = h
-entered_left k c f (entered.Lockup touched) h = tt
+entered_left : (k : Known) (refused : Option Refusal) (c : Core) (f : Framed) (x : Entered) → EnteredHandled k.secure k.vtor k.registers c f x → LeftHandled k.secure k.vtor k.registers c f (left_of refused x)
+entered_left k refused c f (entered.Taken given entry) h = h
+entered_left k refused c f (entered.Lockup entry) h = tt
 
-chained_leaves : (k : Known) (profile : Profile) (r : Returning) (touched : Bool) (c : Core) (e : ExceptionsValue) (f : Framed) → Carried k c f → r.secure ≡ k.secure
-    → Leaves k (chained framed profile r touched c e f)
+chained_leaves : (k : Known) (profile : Profile) (r : Returning) (refused : Option Refusal) (touched : Bool) (c : Core) (e : ExceptionsValue) (f : Framed) → Carried k c f → r.secure ≡ k.secure
+    → Leaves k (chained framed profile r refused touched c e f)
 unfolding chained
-chained_leaves k profile r touched c e f h is =
+chained_leaves k profile r refused touched c e f h is =
     let w : Work Framed = record { core = c; exceptions = e; held = f; entry = chaining r touched } in
     let d = tries framed profile 4 w in
-    entered_left k d.core d.held d.result (tries_ends k profile 4 w (record { carried = h; secure = is }))
+    entered_left k refused d.core d.held d.result (tries_ends k profile 4 w (record { carried = h; secure = is }))
 
 leaving_cond : (k : Known) (t : Bool) (x y : Leaving Framed) → Leaves k x → Leaves k y → Leaves k (cond t x y)
 leaving_cond k true x y p q = p
 leaving_cond k false x y p q = q
 
-chained_raised_leaves : (k : Known) (profile : Profile) (r : Returning) (touched : Bool) (f : Framed) (raised : Raised) → Carried k raised.core f → r.secure ≡ k.secure
-    → Leaves k (chained_raised framed profile r touched f raised)
-chained_raised_leaves k profile r touched f raised h is =
-    leaving_cond k raised.locks _ (chained framed profile r touched raised.core raised.exceptions f) tt
-    (chained_leaves k profile r touched raised.core raised.exceptions f h is)
+chained_raised_leaves : (k : Known) (profile : Profile) (r : Returning) (refusal : Refusal) (touched : Bool) (f : Framed) (raised : Raised) → Carried k raised.core f → r.secure ≡ k.secure
+    → Leaves k (chained_raised framed profile r refusal touched f raised)
+chained_raised_leaves k profile r refusal touched f raised h is =
+    leaving_cond k raised.locks _ (chained framed profile r (Some refusal) touched raised.core raised.exceptions f) tt
+    (chained_leaves k profile r (Some refusal) touched raised.core raised.exceptions f h is)
 
 secured : (secure : Bool) → secure ≡ true → side_of_bit secure ≡ Secure
 secured true e = refl
@@ -415,22 +418,22 @@ resumes_leaves : (k : Known) (profile : Profile) (r : Returning) (c : Core) (e :
     → Leaves k (resumes framed profile r c e f u)
 resumes_leaves k profile r c e f (Err fault) h is =
     let side = side_of_bit r.secure in
-    chained_raised_leaves k profile r r.secure f (frame_faulted false side fault c e) (frame_faulted_carried k false side fault c e f h) is
+    chained_raised_leaves k profile r (refusals.Frame fault) r.secure f (frame_faulted false side fault c e) (frame_faulted_carried k false side fault c e f h) is
 resumes_leaves k profile r c e f (Ok u) h is =
     let side = side_of_bit r.secure in
     let raised = faulted side (InvPc side) c e in
-    leaving_cond k (modes_agree r u.basic) _ (chained_raised framed profile r r.secure f raised) (secured r.secure)
-    (chained_raised_leaves k profile r r.secure f raised (faulted_carried k side (InvPc side) c e f h) is)
+    leaving_cond k (modes_agree r u.basic) _ (chained_raised framed profile r (refusals.Mode (side_of_bit r.secure)) r.secure f raised) (secured r.secure)
+    (chained_raised_leaves k profile r (refusals.Mode (side_of_bit r.secure)) r.secure f raised (faulted_carried k side (InvPc side) c e f h) is)
 
 goes_back_leaves : (k : Known) (profile : Profile) (r : Returning) (c : Core) (e : ExceptionsValue) (f : Framed) → Carried k c f → r.secure ≡ k.secure → Leaves k (goes_back framed profile r c e f)
 unfolding goes_back
 goes_back_leaves k profile r c e f h is =
-    leaving_cond k (takes_first e c.masks) (chained framed profile r false c e f) (resumes framed profile r c e f (unstacked framed c r f))
-    (chained_leaves k profile r false c e f h is) (resumes_leaves k profile r c e f (unstacked framed c r f) h is)
+    leaving_cond k (takes_first e c.masks) (chained framed profile r None false c e f) (resumes framed profile r c e f (unstacked framed c r f))
+    (chained_leaves k profile r None false c e f h is) (resumes_leaves k profile r c e f (unstacked framed c r f) h is)
 
 leaves_noting_leaves : (k : Known) (profile : Profile) (side : Side) (fault : Option Fault) (r : Returning) (c : Core) (e : ExceptionsValue) (f : Framed) → Carried k c f → r.secure ≡ k.secure
     → Leaves k (leaves_noting framed profile side fault r c e f)
-leaves_noting_leaves k profile side (Some fault) r c e f h is = chained_raised_leaves k profile r false f (faulted side fault c e) (faulted_carried k side fault c e f h) is
+leaves_noting_leaves k profile side (Some fault) r c e f h is = chained_raised_leaves k profile r (refusals.Value fault) false f (faulted side fault c e) (faulted_carried k side fault c e f h) is
 leaves_noting_leaves k profile side None r c e f h is = goes_back_leaves k profile r c e f h is
 
 -- what a tail-chain takes finds the registers of the handler that returned, cleared

@@ -24,9 +24,12 @@ use Rattle.tz_frames.specs.declared.entering.Choice.{Choice}
 use Rattle.tz_frames.specs.declared.entering.Choice.TheVariants as choices
 use Rattle.tz_frames.specs.declared.leaving.Returning.{Returning}
 use Rattle.tz_frames.specs.declared.leaving.Unstacked.{Unstacked}
+use Rattle.tz_frames.specs.declared.entering.FrameFault.{FrameFault}
+use Rattle.tz_frames.specs.declared.leaving.Refusal.{Refusal}
+use Rattle.tz_frames.specs.declared.leaving.Refusal.TheVariants as refusals
 use Rattle.tz_frames.specs.Status.{Raised, faulted, frame_faulted}
 use Rattle.tz_frames.specs.Stack.{Pushed, splim_of, with_side_sp, after_store, written, pushed_with, pushed, basic_base, basic_words, pushed_basic, callee_words, pushed_additional}
-use Rattle.tz_frames.specs.Enter.{Work, Chosen, Done, vectored_by, vectored, vector_failed, vector_touched, falls, fallen, callee_process, callee_privileged, stacked_by, stacked, taking, choosing_from, choosing, locked_up, goes_on, tries, interrupted, begins_raised, begins, enters}
+use Rattle.tz_frames.specs.Enter.{Work, Chosen, Done, vectored_by, vectored, vector_failed, vector_touched, falls, fallen, callee_process, callee_privileged, stacked_by, stacked, taking, choosing_from, choosing, locked_up, goes_on, tries, interrupted, begins_raised, begins, enters, without_frame}
 use Rattle.tz_frames.specs.Leave.{returning_by, exc_return_fault, slot_returning, freed, unhandled, chaining, side_of_bit, Leaving, chained, chained_raised, unstacked, modes_agree, resumes, goes_back, leaves_noting, leaves}
 
 -- of a bus the memory alone is another
@@ -98,15 +101,15 @@ unfolding vectored
 vectored_held profile w given =
     vectored_by_held profile (record w { entry = vector_touched w.entry given.side }) given (framed w.held (Vector given.number given.side)).1
 
-stacked_by_held : (profile : Profile) (w : Work Framed) (given : Slot) (faulted : Bool) (fault : Option StackFault) → BusKept w.held (stacked_by framed profile w given faulted fault).work.held
-stacked_by_held profile w given false (Some fault) = refl
-stacked_by_held profile w given true (Some fault) = vectored_held profile w given
-stacked_by_held profile w given faulted None = vectored_held profile w given
+stacked_by_held : (profile : Profile) (w : Work Framed) (given : Slot) (first : Option FrameFault) (fault : Option StackFault) → BusKept w.held (stacked_by framed profile w given first fault).work.held
+stacked_by_held profile w given None (Some fault) = refl
+stacked_by_held profile w given (Some first) (Some fault) = vectored_held profile w given
+stacked_by_held profile w given first None = vectored_held profile w given
 
 stacked_held : (profile : Profile) (w : Work Framed) (given : Slot) (p : Pushed Framed) → BusKept w.held p.held → BusKept w.held (stacked framed profile w given p).work.held
 stacked_held profile w given p h =
     bus_then w.held p.held (stacked framed profile w given p).work.held h
-    (stacked_by_held profile (record w { core = p.core; held = p.held; entry = fallen w.entry }) given w.entry.faulted p.fault)
+    (stacked_by_held profile (record w { core = p.core; held = p.held; entry = fallen w.entry }) given w.entry.frame p.fault)
 
 chosen_cond : (f : Framed) (t : Bool) (x y : Chosen Framed) → BusKept f x.work.held → BusKept f y.work.held → BusKept f (cond t x y).work.held
 chosen_cond f true x y h k = h
@@ -151,12 +154,12 @@ done_cond f false x y h k = k
 
 begins_raised_held : (profile : Profile) (f : Framed) (x : Entering) (r : Raised) → BusKept f (begins_raised framed profile f x r).held
 begins_raised_held profile f x r =
-    let w : Work Framed = record { core = r.core; exceptions = r.exceptions; held = f; entry = record x { faulted = true } } in
+    let w : Work Framed = record { core = r.core; exceptions = r.exceptions; held = f; entry = x } in
     done_cond f r.locks (locked_up w) (tries framed profile 4 w) refl (tries_held profile 4 w)
 
 begins_held : (profile : Profile) (side : Side) (e : ExceptionsValue) (x : Entering) (c : Core) (f : Framed) (fault : Option StackFault) → BusKept f (begins framed profile side e x c f fault).held
 begins_held profile side e x c f None = tries_held profile 4 (record { core = c; exceptions = e; held = f; entry = x })
-begins_held profile side e x c f (Some fault) = begins_raised_held profile f x (frame_faulted true side fault c e)
+begins_held profile side e x c f (Some fault) = begins_raised_held profile f (without_frame x false fault) (frame_faulted true side fault c e)
 
 pub enters_held : (profile : Profile) (c : Core) (e : ExceptionsValue) (f : Framed) (back : ℕ) → BusKept f (enters framed profile c e f back).held
 unfolding enters
@@ -167,33 +170,33 @@ enters_held profile c e f back =
 
 -- ---- return
 
-chained_held : (profile : Profile) (r : Returning) (touched : Bool) (c : Core) (e : ExceptionsValue) (f : Framed) → BusKept f (chained framed profile r touched c e f).held
+chained_held : (profile : Profile) (r : Returning) (refused : Option Refusal) (touched : Bool) (c : Core) (e : ExceptionsValue) (f : Framed) → BusKept f (chained framed profile r refused touched c e f).held
 unfolding chained
-chained_held profile r touched c e f = tries_held profile 4 (record { core = c; exceptions = e; held = f; entry = chaining r touched })
+chained_held profile r refused touched c e f = tries_held profile 4 (record { core = c; exceptions = e; held = f; entry = chaining r touched })
 
 leaving_cond : (f : Framed) (t : Bool) (x y : Leaving Framed) → BusKept f x.held → BusKept f y.held → BusKept f (cond t x y).held
 leaving_cond f true x y h k = h
 leaving_cond f false x y h k = k
 
-chained_raised_held : (profile : Profile) (r : Returning) (touched : Bool) (f : Framed) (raised : Raised) → BusKept f (chained_raised framed profile r touched f raised).held
-chained_raised_held profile r touched f raised =
-    leaving_cond f raised.locks _ (chained framed profile r touched raised.core raised.exceptions f) refl
-    (chained_held profile r touched raised.core raised.exceptions f)
+chained_raised_held : (profile : Profile) (r : Returning) (refusal : Refusal) (touched : Bool) (f : Framed) (raised : Raised) → BusKept f (chained_raised framed profile r refusal touched f raised).held
+chained_raised_held profile r refusal touched f raised =
+    leaving_cond f raised.locks _ (chained framed profile r (Some refusal) touched raised.core raised.exceptions f) refl
+    (chained_held profile r (Some refusal) touched raised.core raised.exceptions f)
 
 resumes_held : (profile : Profile) (r : Returning) (c : Core) (e : ExceptionsValue) (f : Framed) (u : Result Unstacked StackFault) → BusKept f (resumes framed profile r c e f u).held
-resumes_held profile r c e f (Err fault) = chained_raised_held profile r r.secure f (frame_faulted false (side_of_bit r.secure) fault c e)
+resumes_held profile r c e f (Err fault) = chained_raised_held profile r (refusals.Frame fault) r.secure f (frame_faulted false (side_of_bit r.secure) fault c e)
 resumes_held profile r c e f (Ok u) =
     let raised = faulted (side_of_bit r.secure) (InvPc (side_of_bit r.secure)) c e in
-    leaving_cond f (modes_agree r u.basic) _ (chained_raised framed profile r r.secure f raised) refl (chained_raised_held profile r r.secure f raised)
+    leaving_cond f (modes_agree r u.basic) _ (chained_raised framed profile r (refusals.Mode (side_of_bit r.secure)) r.secure f raised) refl (chained_raised_held profile r (refusals.Mode (side_of_bit r.secure)) r.secure f raised)
 
 goes_back_held : (profile : Profile) (r : Returning) (c : Core) (e : ExceptionsValue) (f : Framed) → BusKept f (goes_back framed profile r c e f).held
 unfolding goes_back
 goes_back_held profile r c e f =
-    leaving_cond f (takes_first e c.masks) (chained framed profile r false c e f) (resumes framed profile r c e f (unstacked framed c r f))
-    (chained_held profile r false c e f) (resumes_held profile r c e f (unstacked framed c r f))
+    leaving_cond f (takes_first e c.masks) (chained framed profile r None false c e f) (resumes framed profile r c e f (unstacked framed c r f))
+    (chained_held profile r None false c e f) (resumes_held profile r c e f (unstacked framed c r f))
 
 leaves_noting_held : (profile : Profile) (side : Side) (fault : Option Fault) (r : Returning) (c : Core) (e : ExceptionsValue) (f : Framed) → BusKept f (leaves_noting framed profile side fault r c e f).held
-leaves_noting_held profile side (Some fault) r c e f = chained_raised_held profile r false f (faulted side fault c e)
+leaves_noting_held profile side (Some fault) r c e f = chained_raised_held profile r (refusals.Value fault) false f (faulted side fault c e)
 leaves_noting_held profile side None r c e f = goes_back_held profile r c e f
 
 pub leaves_held : (profile : Profile) (c : Core) (e : ExceptionsValue) (f : Framed) (value : ℕ) → BusKept f (leaves framed profile c e f value).held

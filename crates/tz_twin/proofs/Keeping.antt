@@ -97,8 +97,8 @@ or_left true u e = cc
 or_left false u e = refl
 
 kept_taken_by : (s0 s : State) (course : Course) (r : Entered) → (entered_touched r ≡ false → Kept s0 s) → (taken_by s course r).ending.touched ≡ false → Kept s0 (taken_by s course r).state
-kept_taken_by s0 s course (entered.Taken given touched) k e = kept_released s0 s _ refl refl refl refl (k (or_right course.touched touched e))
-kept_taken_by s0 s course (entered.Lockup touched) k e = kept_locked s0 s (k (or_right course.touched touched e))
+kept_taken_by s0 s course (entered.Taken given entry) k e = kept_released s0 s _ refl refl refl refl (k (or_right course.touched entry.touched e))
+kept_taken_by s0 s course (entered.Lockup entry) k e = kept_locked s0 s (k (or_right course.touched entry.touched e))
 
 pub kept_preempted : (s0 s : State) (course : Course) (back : ℕ) → s.core.run.side ≡ NonSecure → Kept s0 s → (preempted s course back).ending.touched ≡ false → Kept s0 (preempted s course back).state
 unfolding preempted
@@ -108,17 +108,17 @@ kept_preempted s0 s course back is k e =
     kept_taken_by s0 (state_of d.core d.exceptions d.held.bus) course d.result
     (λ u. kept_then s0 s d.core d.exceptions d.held.bus k (enters_kept s.bus.board.profile s.core s.exceptions f back is u) (enters_held s.bus.board.profile s.core s.exceptions f back)) e
 
-kept_left_by : (s0 s : State) (course : Course) (code : Code) (r : Left) → (left_touched r ≡ false → Kept s0 s) → (left_by s course code r).ending.touched ≡ false → Kept s0 (left_by s course code r).state
-kept_left_by s0 s course code (left.Resumed touched) k e = kept_released s0 s _ refl refl refl refl (k (or_right course.touched touched e))
-kept_left_by s0 s course code (left.Chained given touched) k e = kept_released s0 s _ refl refl refl refl (k (or_right course.touched touched e))
-kept_left_by s0 s course code (left.Lockup touched) k e = kept_locked s0 s (k (or_right course.touched touched e))
+kept_left_by : (s0 s : State) (course : Course) (code : Code) (value : ℕ) (r : Left) → (left_touched r ≡ false → Kept s0 s) → (left_by s course code value r).ending.touched ≡ false → Kept s0 (left_by s course code value r).state
+kept_left_by s0 s course code value (left.Resumed touched) k e = kept_released s0 s _ refl refl refl refl (k (or_right course.touched touched e))
+kept_left_by s0 s course code value (left.Chained given refused entry) k e = kept_released s0 s _ refl refl refl refl (k (or_right course.touched entry.touched e))
+kept_left_by s0 s course code value (left.Lockup refused entry) k e = kept_locked s0 s (k (or_right course.touched entry.touched e))
 
 kept_returns : (s0 s : State) (course : Course) (code : Code) (value : ℕ) → s.core.run.side ≡ NonSecure → Kept s0 s → (returns s course code value).ending.touched ≡ false → Kept s0 (returns s course code value).state
 unfolding returns
 kept_returns s0 s course code value is k e =
     let f = framed_in course.negative s in
     let l = leaves framed s.bus.board.profile s.core s.exceptions f value in
-    kept_left_by s0 (state_of l.core l.exceptions l.held.bus) course code l.result
+    kept_left_by s0 (state_of l.core l.exceptions l.held.bus) course code value l.result
     (λ u. kept_then s0 s l.core l.exceptions l.held.bus k (leaves_kept s.bus.board.profile s.core s.exceptions f value is u) (leaves_held s.bus.board.profile s.core s.exceptions f value)) e
 
 -- ---- a fault
@@ -193,13 +193,13 @@ differs true e f = cc
 differs false e f = cc
 
 -- FNC_RETURN has looked at Secure state; the branch to it left IPSR and the Secure stacks as they were
-pub passes_comes_back : (s0 s : State) (before : Core) (course : Course) (code : Code) → s.bus.board ≡ s0.bus.board → s.core.registers.ipsr ≡ s0.core.registers.ipsr → s.core.stacks_s ≡ s0.core.stacks_s
-    → Passes s0 true before.registers.general (comes_back before s course code)
-passes_comes_back s0 s before course code board ipsr stacks =
-    let p = comes_back before s course code in
-    let h = halts_on s.bus.board s0.bus.board true before.registers.general p board (halts_comes_back NonSecure before s course code) in
+pub passes_comes_back : (s0 s : State) (before : Core) (course : Course) (code : Code) (value : ℕ) → s.bus.board ≡ s0.bus.board → s.core.registers.ipsr ≡ s0.core.registers.ipsr → s.core.stacks_s ≡ s0.core.stacks_s
+    → Passes s0 true before.registers.general (comes_back before s course code value)
+passes_comes_back s0 s before course code value board ipsr stacks =
+    let p = comes_back before s course code value in
+    let h = halts_on s.bus.board s0.bus.board true before.registers.general p board (halts_comes_back NonSecure before s course code value) in
     record {
       halts = h;
       kept = λ e. absurd (differs p.ending.touched (h.touched refl) e);
-      comes = comes_on s0.core.registers.ipsr s.core.stacks_s s0.core.stacks_s p stacks (subst (λ (n : ℕ). Comes n s.core.stacks_s p) ipsr (comes_comes_back before s course code));
+      comes = comes_on s0.core.registers.ipsr s.core.stacks_s s0.core.stacks_s p stacks (subst (λ (n : ℕ). Comes n s.core.stacks_s p) ipsr (comes_comes_back before s course code value));
     }

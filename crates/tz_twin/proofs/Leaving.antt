@@ -1,6 +1,6 @@
 -- How a step of Non-secure code goes on from what its instruction left: twins stay twins, both lock, or both looked at
 -- Secure state.
-use Rattle.std.proofs.Common.{◌≡◌, ℕ, ◌+◌, ◌%◌, ◌==◌, Bool, true, false, ◌&&◌, cond, List, [], Some, refl, sym, ap, ◌∙◌, subst}
+use Rattle.std.proofs.Common.{◌≡◌, ℕ, ◌+◌, ◌%◌, ◌==◌, Bool, true, false, ◌&&◌, cond, List, [], Some, refl, sym, ap, ◌∙◌, subst, None}
 use Rattle.tz_table.specs.declared.units.Side.TheVariants.{NonSecure}
 use Rattle.tz_table.specs.declared.units.Code.{Code}
 use Rattle.tz_table.specs.declared.instruction.Insn.{Insn}
@@ -150,7 +150,7 @@ branch_ns_same o p x x' y y' course code stores target h = go (target % 2 == 0) 
           core = record (join (with_registers p r) y).core { run = record (join p y).core.run { side = cond t NonSecure NonSecure } };
         };
         stores = stores;
-        ending = record { touched = course.touched; cause = cond t Returned Went; ran = Some code };
+        ending = record { touched = course.touched; cause = cond t Returned Went; ran = Some code; handling = None };
       }
 
   go : (t : Bool) → Both (join o x) (join o x') (to t y) (to t y')
@@ -173,7 +173,7 @@ exchanged_same : (o p q : Open) (x x' y y' : Rest) (r : Registers) (before befor
 unfolding exchanged
 exchanged_same o p q x x' y y' r before before' course code stores target ns f n h g =
     passed_cond o x x' stores (is_fnc_return target) _ _ _ _
-    (comes_back_both o p x x' y y' r before before' course code stores f.first f.second h.same h.leaves.board n h.leaves.stacks h.leaves'.stacks)
+    (comes_back_both o p x x' y y' r before before' course code target stores f.first f.second h.same h.leaves.board n h.leaves.stacks h.leaves'.stacks)
     (passed_cond o x x' stores (is_handler p.registers.ipsr && is_exc_return target) _ _ _ _
     (returns_both o q x x' y y' course code target stores f.quiet g.same (kept_of o x q y g.leaves) (kept_of o x' q y' g.leaves'))
     (passed_cond o x x' stores ns _ _ _ _ (branch_ns_same o q x x' y y' course code stores target g)

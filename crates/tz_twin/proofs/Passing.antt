@@ -17,16 +17,17 @@ use Rattle.tz_frames.specs.declared.leaving.Left.TheVariants as left
 use Rattle.tz_frames.specs.Status.{Raised, faulted}
 use Rattle.tz_frames.specs.Enter.{Done}
 use Rattle.tz_frames.specs.Leave.{Leaving}
+use Rattle.tz_sem.specs.declared.ending.Handling.{Handling}
 use Rattle.tz_sem.specs.declared.ending.Cause.{Cause}
 use Rattle.tz_sem.specs.declared.ending.Cause.TheVariants as causes
 use Rattle.tz_sem.specs.declared.ending.Course.{Course}
 use Rattle.tz_sem.specs.Ended.{Passed, with_stores}
-use Rattle.tz_sem.specs.Taking.{state_of, locks, taken_by, after_entry, preempted, goes_on_at, passed_by, after_raise, faults, left_by, after_return, returns}
+use Rattle.tz_sem.specs.Taking.{state_of, locks, taken_by, after_entry, preempted, goes_on_at, passed_by, after_raise, faults, left_by, after_return, returns, by_entry, by_value, with_fault}
 use Rattle.tz_sem.specs.Exchange.{comes_back}
 use Rattle.tz_sem.specs.Exec.{released}
 use Rattle.tz_twin.specs.Seen.{public_of, Seen, Shown}
 use Rattle.tz_twin.proofs.Split.{Open, Rest, join_bus, join, Same, twins_join, board_seen, seen_of_twins}
-use Rattle.tz_twin.proofs.Both.{Kept, Stops, Arrives, Both, Go, Stop, Touch}
+use Rattle.tz_twin.proofs.Both.{Kept, Stops, Arrives, Both, Go, Stop, Touch, both_handling}
 use Rattle.tz_twin.proofs.Faults.{is_own}
 use Rattle.tz_twin.proofs.EntrySpares.{entered_touched}
 use Rattle.tz_twin.proofs.ReturnSpares.{left_touched}
@@ -73,15 +74,15 @@ same_released : (part : Open) (rest rest' : Rest) → Same part rest rest' → S
 same_released part rest rest' same = record { bytes = same.bytes; bus = same.bus }
 
 -- an exception was taken or returned, with a look at Secure state or without
-both_released : (o q part : Open) (x x' z z' rest rest' : Rest) (r : Registers) (before looked : Bool) (cause : Cause) (ran : Option Code) (stores : List Store) → Same q z z' → q.board ≡ o.board → Same part rest rest'
-    → Passes (join o x) before r.general (record { state = released (join part rest); ending = record { touched = looked; cause = cause; ran = ran } })
-    → Passes (join o x') before r.general (record { state = released (join part rest'); ending = record { touched = looked; cause = cause; ran = ran } })
-    → Both (join o x) (join o x') (record { state = released (join part rest); stores = stores; ending = record { touched = looked; cause = cause; ran = ran } })
-    (record { state = released (join part rest'); stores = stores; ending = record { touched = looked; cause = cause; ran = ran } })
-both_released o q part x x' z z' rest rest' r before true cause ran stores same board alike h h' =
-    both_touch o q x x' z z' r before stores (record { state = released (join part rest); ending = record { touched = true; cause = cause; ran = ran } })
-    (record { state = released (join part rest'); ending = record { touched = true; cause = cause; ran = ran } }) same board h h' refl refl
-both_released o q part x x' z z' rest rest' r before false cause ran stores same board alike h h' =
+both_released : (o q part : Open) (x x' z z' rest rest' : Rest) (r : Registers) (before looked : Bool) (cause : Cause) (ran : Option Code) (handling : Option Handling) (stores : List Store) → Same q z z' → q.board ≡ o.board → Same part rest rest'
+    → Passes (join o x) before r.general (record { state = released (join part rest); ending = record { touched = looked; cause = cause; ran = ran; handling = handling } })
+    → Passes (join o x') before r.general (record { state = released (join part rest'); ending = record { touched = looked; cause = cause; ran = ran; handling = handling } })
+    → Both (join o x) (join o x') (record { state = released (join part rest); stores = stores; ending = record { touched = looked; cause = cause; ran = ran; handling = handling } })
+    (record { state = released (join part rest'); stores = stores; ending = record { touched = looked; cause = cause; ran = ran; handling = handling } })
+both_released o q part x x' z z' rest rest' r before true cause ran handling stores same board alike h h' =
+    both_touch o q x x' z z' r before stores (record { state = released (join part rest); ending = record { touched = true; cause = cause; ran = ran; handling = handling } })
+    (record { state = released (join part rest'); ending = record { touched = true; cause = cause; ran = ran; handling = handling } }) same board h h' refl refl
+both_released o q part x x' z z' rest rest' r before false cause ran handling stores same board alike h h' =
     Go (record {
       twins = twins_join (record part { monitor = None }) rest rest' (same_released part rest rest' alike);
       ending = refl;
@@ -93,23 +94,23 @@ both_released o q part x x' z z' rest rest' r before false cause ran stores same
 -- ---- entry
 
 locks_taken : (s : State) (course : Course) (result : Entered) → locks_up result ≡ true → (taken_by s course result).state.core.run.locked ≡ true
-locks_taken s course (entered.Taken given touched) e = cc
-locks_taken s course (entered.Lockup touched) e = refl
+locks_taken s course (entered.Taken given entry) e = cc
+locks_taken s course (entered.Lockup entry) e = refl
 
 or_second : (p q : Bool) → q ≡ true → (p || q) ≡ true
 or_second true q e = refl
 or_second false q e = e
 
 looks_taken : (s : State) (course : Course) (result : Entered) → entered_touched result ≡ true → (taken_by s course result).ending.touched ≡ true
-looks_taken s course (entered.Taken given touched) e = or_second course.touched touched e
-looks_taken s course (entered.Lockup touched) e = or_second course.touched touched e
+looks_taken s course (entered.Taken given entry) e = or_second course.touched entry.touched e
+looks_taken s course (entered.Lockup entry) e = or_second course.touched entry.touched e
 
 entered_alike : (o q part : Open) (x x' z z' rest rest' : Rest) (r : Registers) (course : Course) (stores : List Store) (k : Ground) (g g' : Guise) (result : Entered) → Same q z z' → q.board ≡ o.board → Same part rest rest'
     → Passes (join o x) course.touched r.general (after_entry course (done_of part rest k g result)) → Passes (join o x') course.touched r.general (after_entry course (done_of part rest' k g' result))
     → Both (join o x) (join o x') (with_stores stores (after_entry course (done_of part rest k g result))) (with_stores stores (after_entry course (done_of part rest' k g' result)))
-entered_alike o q part x x' z z' rest rest' r course stores k g g' (entered.Taken given touched) same board alike h h' =
-    both_released o q part x x' z z' rest rest' r course.touched (course.touched || touched) causes.Taken None stores same board alike h h'
-entered_alike o q part x x' z z' rest rest' r course stores k g g' (entered.Lockup touched) same board alike h h' = both_stop o x x' course.touched r.general stores _ _ h h' refl refl
+entered_alike o q part x x' z z' rest rest' r course stores k g g' (entered.Taken given entry) same board alike h h' =
+    both_released o q part x x' z z' rest rest' r course.touched (course.touched || entry.touched) causes.Taken None (Some (by_entry entry)) stores same board alike h h'
+entered_alike o q part x x' z z' rest rest' r course stores k g g' (entered.Lockup entry) same board alike h h' = both_stop o x x' course.touched r.general stores _ _ h h' refl refl
 
 entered_both : (o q : Open) (x x' z z' : Rest) (r : Registers) (course : Course) (stores : List Store) (d d' : Done Framed) → Same q z z' → q.board ≡ o.board
     → Passes (join o x) course.touched r.general (after_entry course d) → Passes (join o x') course.touched r.general (after_entry course d') → DoneBoth d d'
@@ -160,8 +161,8 @@ unfolding passed_open
 same_passed faults_of.Call p y y' same = record { bytes = same.bytes; bus = same.bus }
 same_passed _ p y y' same = same
 
-stops_locks : (s0 s : State) (touched : Bool) (stores : List Store) → Kept s0 s → Stops s0 (with_stores stores (locks s touched))
-stops_locks s0 s touched stores k = record { locked = refl; board = k.keeps.board; kept = λ e. kept_locked s0 s k }
+stops_locks : (s0 s : State) (touched : Bool) (handling : Option Handling) (stores : List Store) → Kept s0 s → Stops s0 (with_stores stores (locks s touched handling))
+stops_locks s0 s touched handling stores k = record { locked = refl; board = k.keeps.board; kept = λ e. kept_locked s0 s k }
 
 -- the code behind a fault is interrupted
 raised_entry : (o p : Open) (x x' y y' : Rest) (course : Course) (fault : Fault) (back : ℕ) (stores : List Store) (r r' : Raised) → RaisedTwins p y y' r r'
@@ -190,13 +191,13 @@ raised_both o p x x' y y' course fault stores r r' t k k' = go r.locks r'.locks 
   back = goes_on_at fault p.registers.pc
 
   locked : Raised → Rest → Passed
-  locked q z = locks (state_of q.core q.exceptions (join_bus p z)) course.touched
+  locked q z = locks (state_of q.core q.exceptions (join_bus p z)) course.touched None
 
   entry : Raised → Rest → Passed
   entry q z = preempted (state_of (passed_by fault q.core) q.exceptions (join_bus p z)) course back
 
   go : (l l' : Bool) → l ≡ l' → Both (join o x) (join o x') (with_stores stores (cond l (locked r y) (entry r y))) (with_stores stores (cond l' (locked r' y') (entry r' y')))
-  go true true e = Stop (stops_locks (join o x) _ course.touched stores k) (stops_locks (join o x') _ course.touched stores k')
+  go true true e = Stop (stops_locks (join o x) _ course.touched None stores k) (stops_locks (join o x') _ course.touched None stores k')
   go false false e =
       raised_entry o p x x' y y' course fault back stores r r' t (kept_passed (join o x) fault r.core r.exceptions (join_bus p y) k) (kept_passed (join o x') fault r'.core r'.exceptions (join_bus p y') k')
   go true false e = cc
@@ -206,72 +207,75 @@ pub faults_both : (o p : Open) (x x' y y' : Rest) (course : Course) (fault : Fau
     → Both (join o x) (join o x') (with_stores stores (faults (join p y) course fault)) (with_stores stores (faults (join p y') course fault))
 unfolding faults
 faults_both o p x x' y y' course fault stores own same k k' =
-    raised_both o p x x' y y' course fault stores (faulted NonSecure fault (join p y).core p.exceptions) (faulted NonSecure fault (join p y').core p.exceptions) (faulted_twins p y y' fault own same)
-    (kept_fault (join o x) (join p y) fault refl own k) (kept_fault (join o x') (join p y') fault refl own k')
+    let r = faulted NonSecure fault (join p y).core p.exceptions in
+    let r' = faulted NonSecure fault (join p y').core p.exceptions in
+    both_handling (join o x) (join o x') stores (with_fault fault) (after_raise (join p y) course fault r) (after_raise (join p y') course fault r')
+    (raised_both o p x x' y y' course fault stores r r' (faulted_twins p y y' fault own same) (kept_fault (join o x) (join p y) fault refl own k)
+    (kept_fault (join o x') (join p y') fault refl own k'))
 
 -- ---- a return
 
-locks_left : (s : State) (course : Course) (code : Code) (result : Left) → leaves_locked result ≡ true → (left_by s course code result).state.core.run.locked ≡ true
-locks_left s course code (left.Resumed touched) e = cc
-locks_left s course code (left.Chained given touched) e = cc
-locks_left s course code (left.Lockup touched) e = refl
+locks_left : (s : State) (course : Course) (code : Code) (value : ℕ) (result : Left) → leaves_locked result ≡ true → (left_by s course code value result).state.core.run.locked ≡ true
+locks_left s course code value (left.Resumed touched) e = cc
+locks_left s course code value (left.Chained given refused entry) e = cc
+locks_left s course code value (left.Lockup refused entry) e = refl
 
-looks_left : (s : State) (course : Course) (code : Code) (result : Left) → left_touched result ≡ true → (left_by s course code result).ending.touched ≡ true
-looks_left s course code (left.Resumed touched) e = or_second course.touched touched e
-looks_left s course code (left.Chained given touched) e = or_second course.touched touched e
-looks_left s course code (left.Lockup touched) e = or_second course.touched touched e
+looks_left : (s : State) (course : Course) (code : Code) (value : ℕ) (result : Left) → left_touched result ≡ true → (left_by s course code value result).ending.touched ≡ true
+looks_left s course code value (left.Resumed touched) e = or_second course.touched touched e
+looks_left s course code value (left.Chained given refused entry) e = or_second course.touched entry.touched e
+looks_left s course code value (left.Lockup refused entry) e = or_second course.touched entry.touched e
 
-left_alike : (o q part : Open) (x x' z z' rest rest' : Rest) (r : Registers) (course : Course) (code : Code) (stores : List Store) (k : Ground) (g g' : Guise) (result : Left) → Same q z z' → q.board ≡ o.board
-    → Same part rest rest' → Passes (join o x) course.touched r.general (after_return course code (leaving_of part rest k g result))
-    → Passes (join o x') course.touched r.general (after_return course code (leaving_of part rest' k g' result))
-    → Both (join o x) (join o x') (with_stores stores (after_return course code (leaving_of part rest k g result))) (with_stores stores (after_return course code (leaving_of part rest' k g' result)))
-left_alike o q part x x' z z' rest rest' r course code stores k g g' (left.Resumed touched) same board alike h h' =
-    both_released o q part x x' z z' rest rest' r course.touched (course.touched || touched) causes.Resumed (Some code) stores same board alike h h'
-left_alike o q part x x' z z' rest rest' r course code stores k g g' (left.Chained given touched) same board alike h h' =
-    both_released o q part x x' z z' rest rest' r course.touched (course.touched || touched) causes.Taken None stores same board alike h h'
-left_alike o q part x x' z z' rest rest' r course code stores k g g' (left.Lockup touched) same board alike h h' = both_stop o x x' course.touched r.general stores _ _ h h' refl refl
+left_alike : (o q part : Open) (x x' z z' rest rest' : Rest) (r : Registers) (course : Course) (code : Code) (value : ℕ) (stores : List Store) (k : Ground) (g g' : Guise) (result : Left) → Same q z z' → q.board ≡ o.board
+    → Same part rest rest' → Passes (join o x) course.touched r.general (after_return course code value (leaving_of part rest k g result))
+    → Passes (join o x') course.touched r.general (after_return course code value (leaving_of part rest' k g' result))
+    → Both (join o x) (join o x') (with_stores stores (after_return course code value (leaving_of part rest k g result))) (with_stores stores (after_return course code value (leaving_of part rest' k g' result)))
+left_alike o q part x x' z z' rest rest' r course code value stores k g g' (left.Resumed touched) same board alike h h' =
+    both_released o q part x x' z z' rest rest' r course.touched (course.touched || touched) causes.Resumed (Some code) (Some (by_value value None None)) stores same board alike h h'
+left_alike o q part x x' z z' rest rest' r course code value stores k g g' (left.Chained given refused entry) same board alike h h' =
+    both_released o q part x x' z z' rest rest' r course.touched (course.touched || entry.touched) causes.Taken None (Some (by_value value refused (Some entry))) stores same board alike h h'
+left_alike o q part x x' z z' rest rest' r course code value stores k g g' (left.Lockup refused entry) same board alike h h' = both_stop o x x' course.touched r.general stores _ _ h h' refl refl
 
-left_both : (o q : Open) (x x' z z' : Rest) (r : Registers) (course : Course) (code : Code) (stores : List Store) (l l' : Leaving Framed) → Same q z z' → q.board ≡ o.board
-    → Passes (join o x) course.touched r.general (after_return course code l) → Passes (join o x') course.touched r.general (after_return course code l') → LeavingBoth l l'
-    → Both (join o x) (join o x') (with_stores stores (after_return course code l)) (with_stores stores (after_return course code l'))
-left_both o q x x' z z' r course code stores l l' same board h h' (LeavesLooking t t') =
-    both_touch o q x x' z z' r course.touched stores _ _ same board h h' (looks_left (state_of l.core l.exceptions l.held.bus) course code l.result t)
-    (looks_left (state_of l'.core l'.exceptions l'.held.bus) course code l'.result t')
-left_both o q x x' z z' r course code stores l l' same board h h' (LeavesLocked t t') =
-    both_stop o x x' course.touched r.general stores _ _ h h' (locks_left (state_of l.core l.exceptions l.held.bus) course code l.result t)
-    (locks_left (state_of l'.core l'.exceptions l'.held.bus) course code l'.result t')
-left_both o q x x' z z' r course code stores l l' same board h h' (LeavesAlike a) =
+left_both : (o q : Open) (x x' z z' : Rest) (r : Registers) (course : Course) (code : Code) (value : ℕ) (stores : List Store) (l l' : Leaving Framed) → Same q z z' → q.board ≡ o.board
+    → Passes (join o x) course.touched r.general (after_return course code value l) → Passes (join o x') course.touched r.general (after_return course code value l') → LeavingBoth l l'
+    → Both (join o x) (join o x') (with_stores stores (after_return course code value l)) (with_stores stores (after_return course code value l'))
+left_both o q x x' z z' r course code value stores l l' same board h h' (LeavesLooking t t') =
+    both_touch o q x x' z z' r course.touched stores _ _ same board h h' (looks_left (state_of l.core l.exceptions l.held.bus) course code value l.result t)
+    (looks_left (state_of l'.core l'.exceptions l'.held.bus) course code value l'.result t')
+left_both o q x x' z z' r course code value stores l l' same board h h' (LeavesLocked t t') =
+    both_stop o x x' course.touched r.general stores _ _ h h' (locks_left (state_of l.core l.exceptions l.held.bus) course code value l.result t)
+    (locks_left (state_of l'.core l'.exceptions l'.held.bus) course code value l'.result t')
+left_both o q x x' z z' r course code value stores l l' same board h h' (LeavesAlike a) =
     subst (λ (e : Leaving Framed). Goal e l') (sym a.ends)
     (subst (λ (e' : Leaving Framed). Goal (leaving_of a.part a.rest a.ground a.guise a.result) e') (sym a.ends')
-    (λ p p'. left_alike o q a.part x x' z z' a.rest a.rest' r course code stores a.ground a.guise a.guise' a.result same board a.same p p')) h h'
+    (λ p p'. left_alike o q a.part x x' z z' a.rest a.rest' r course code value stores a.ground a.guise a.guise' a.result same board a.same p p')) h h'
   where
     Goal : Leaving Framed → Leaving Framed → Type 0
     Goal e e' =
-        Passes (join o x) course.touched r.general (after_return course code e) → Passes (join o x') course.touched r.general (after_return course code e')
-        → Both (join o x) (join o x') (with_stores stores (after_return course code e)) (with_stores stores (after_return course code e'))
+        Passes (join o x) course.touched r.general (after_return course code value e) → Passes (join o x') course.touched r.general (after_return course code value e')
+        → Both (join o x) (join o x') (with_stores stores (after_return course code value e)) (with_stores stores (after_return course code value e'))
 
 -- Non-secure code returns by an instruction that looked at nothing Secure
 pub returns_both : (o p : Open) (x x' y y' : Rest) (course : Course) (code : Code) (value : ℕ) (stores : List Store) → course.touched ≡ false → Same p y y' → Kept (join o x) (join p y) → Kept (join o x') (join p y')
     → Both (join o x) (join o x') (with_stores stores (returns (join p y) course code value)) (with_stores stores (returns (join p y') course code value))
 unfolding returns ground_of guise_of
 returns_both o p x x' y y' course code value stores quiet same k k' =
-    left_both o p x x' y y' p.registers course code stores _ _ same k.keeps.board (passes_returns (join o x) (join p y) course code value quiet refl k)
+    left_both o p x x' y y' p.registers course code value stores _ _ same k.keeps.board (passes_returns (join o x) (join p y) course code value quiet refl k)
     (passes_returns (join o x') (join p y') course code value quiet refl k') (leaves_twins p.board.profile p y y' (ground_of p course.negative) (guise_of p y) (guise_of p y') value same)
 
 -- ---- FNC_RETURN
 
 -- both look at Secure state; where it faults, both have the registers before the instruction
-pub comes_back_both : (o p : Open) (x x' y y' : Rest) (r : Registers) (before before' : Core) (course : Course) (code : Code) (stores : List Store) → before.registers ≡ r → before'.registers ≡ r → Same p y y' → p.board ≡ o.board
-    → p.registers.ipsr ≡ o.registers.ipsr → y.stacks_s ≡ x.stacks_s → y'.stacks_s ≡ x'.stacks_s → Both (join o x) (join o x') (with_stores stores (comes_back before (join p y) course code)) (with_stores stores (comes_back before' (join p y') course code))
-comes_back_both o p x x' y y' r before before' course code stores is is' same board ipsr stacks stacks' =
+pub comes_back_both : (o p : Open) (x x' y y' : Rest) (r : Registers) (before before' : Core) (course : Course) (code : Code) (value : ℕ) (stores : List Store) → before.registers ≡ r → before'.registers ≡ r → Same p y y' → p.board ≡ o.board
+    → p.registers.ipsr ≡ o.registers.ipsr → y.stacks_s ≡ x.stacks_s → y'.stacks_s ≡ x'.stacks_s → Both (join o x) (join o x') (with_stores stores (comes_back before (join p y) course code value)) (with_stores stores (comes_back before' (join p y') course code value))
+comes_back_both o p x x' y y' r before before' course code value stores is is' same board ipsr stacks stacks' =
     both_touch o p x x' y y' r true stores _ _ same board h h' (h.halts.touched refl) (h'.halts.touched refl)
   where
-    h : Passes (join o x) true r.general (comes_back before (join p y) course code)
+    h : Passes (join o x) true r.general (comes_back before (join p y) course code value)
     h =
-        subst (λ (b : Registers). Passes (join o x) true b.general (comes_back before (join p y) course code)) is
-        (passes_comes_back (join o x) (join p y) before course code board ipsr stacks)
+        subst (λ (b : Registers). Passes (join o x) true b.general (comes_back before (join p y) course code value)) is
+        (passes_comes_back (join o x) (join p y) before course code value board ipsr stacks)
 
-    h' : Passes (join o x') true r.general (comes_back before' (join p y') course code)
+    h' : Passes (join o x') true r.general (comes_back before' (join p y') course code value)
     h' =
-        subst (λ (b : Registers). Passes (join o x') true b.general (comes_back before' (join p y') course code)) is'
-        (passes_comes_back (join o x') (join p y') before' course code board ipsr stacks')
+        subst (λ (b : Registers). Passes (join o x') true b.general (comes_back before' (join p y') course code value)) is'
+        (passes_comes_back (join o x') (join p y') before' course code value board ipsr stacks')

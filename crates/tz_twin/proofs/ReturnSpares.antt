@@ -20,6 +20,8 @@ use Rattle.tz_frames.specs.declared.leaving.Returning.{Returning}
 use Rattle.tz_frames.specs.declared.leaving.Unstacked.{Unstacked}
 use Rattle.tz_frames.specs.declared.leaving.Left.{Left}
 use Rattle.tz_frames.specs.declared.leaving.Left.TheVariants as lefts
+use Rattle.tz_frames.specs.declared.leaving.Refusal.{Refusal}
+use Rattle.tz_frames.specs.declared.leaving.Refusal.TheVariants as refusals
 use Rattle.tz_frames.specs.Status.{Raised, faulted, frame_faulted}
 use Rattle.tz_frames.specs.Stack.{popped_basic}
 use Rattle.tz_frames.specs.Enter.{Work, with_lock, tries}
@@ -33,8 +35,8 @@ use Rattle.tz_twin.proofs.EntrySpares.{entered_touched, Spared, spared_then, loc
 -- whether a return looked at Secure state
 abbrev pub left_touched : Left → Bool
 left_touched (lefts.Resumed touched) = touched
-left_touched (lefts.Chained given touched) = touched
-left_touched (lefts.Lockup touched) = touched
+left_touched (lefts.Chained given refused entry) = entry.touched
+left_touched (lefts.Lockup refused entry) = entry.touched
 
 -- what a stage of a return leaves, and whether it looked at Secure state before: nothing is written, and where it
 -- didn't look in the end, it hadn't before, and spares the Secure side
@@ -61,39 +63,39 @@ returns_after before c c' e e' f l h k = record {
 
 -- ---- a tail-chain
 
-pub entered_left : (x : Entered) → left_touched (left_of x) ≡ entered_touched x
-entered_left (entered.Taken given touched) = refl
-entered_left (entered.Lockup touched) = refl
+pub entered_left : (refused : Option Refusal) (x : Entered) → left_touched (left_of refused x) ≡ entered_touched x
+entered_left refused (entered.Taken given entry) = refl
+entered_left refused (entered.Lockup entry) = refl
 
 pub no_callee : (secure es dcrs : Bool) → es ≡ false → (secure && not (not es || not dcrs)) ≡ false
 no_callee true true dcrs h = cc
 no_callee true false dcrs h = refl
 no_callee false es dcrs h = refl
 
-chained_returns : (profile : Profile) (r : Returning) (touched : Bool) (c : Core) (e : ExceptionsValue) (f : Framed) → r.es ≡ false → Returns touched c e f (chained framed profile r touched c e f)
+chained_returns : (profile : Profile) (r : Returning) (refused : Option Refusal) (touched : Bool) (c : Core) (e : ExceptionsValue) (f : Framed) → r.es ≡ false → Returns touched c e f (chained framed profile r refused touched c e f)
 unfolding chained
-chained_returns profile r touched c e f own =
+chained_returns profile r refused touched c e f own =
     let w : Work Framed = record { core = c; exceptions = e; held = f; entry = chaining r touched } in
     let d = tries framed profile 4 w in
     let tried = tries_spares profile 4 w (no_callee r.secure r.es r.dcrs own) in
     record {
       held = tried.held;
-      touched = λ t. tried.touched (sym (entered_left d.result) ∙ t);
-      spared = λ t. tried.spared (sym (entered_left d.result) ∙ t);
+      touched = λ t. tried.touched (sym (entered_left refused d.result) ∙ t);
+      spared = λ t. tried.spared (sym (entered_left refused d.result) ∙ t);
     }
 
-chained_raised_returns : (profile : Profile) (r : Returning) (touched : Bool) (c : Core) (e : ExceptionsValue) (f : Framed) (raised : Raised) → r.es ≡ false
-    → (touched ≡ false → Spared c raised.core e raised.exceptions) → Returns touched c e f (chained_raised framed profile r touched f raised)
-chained_raised_returns profile r touched c e f raised own h =
-    returns_cond touched c e f raised.locks (record { core = with_lock raised.core; exceptions = raised.exceptions; held = f; result = lefts.Lockup touched })
-    (chained framed profile r touched raised.core raised.exceptions f)
+chained_raised_returns : (profile : Profile) (r : Returning) (refusal : Refusal) (touched : Bool) (c : Core) (e : ExceptionsValue) (f : Framed) (raised : Raised) → r.es ≡ false
+    → (touched ≡ false → Spared c raised.core e raised.exceptions) → Returns touched c e f (chained_raised framed profile r refusal touched f raised)
+chained_raised_returns profile r refusal touched c e f raised own h =
+    returns_cond touched c e f raised.locks (record { core = with_lock raised.core; exceptions = raised.exceptions; held = f; result = lefts.Lockup (Some refusal) (chaining r touched) })
+    (chained framed profile r (Some refusal) touched raised.core raised.exceptions f)
     (record {
       held = refl;
       touched = λ t. t;
       spared = λ t. spared_then c raised.core (with_lock raised.core) e raised.exceptions raised.exceptions (h t) (lock_spared raised.core raised.exceptions);
     })
-    (returns_after touched c raised.core e raised.exceptions f (chained framed profile r touched raised.core raised.exceptions f) h
-    (chained_returns profile r touched raised.core raised.exceptions f own))
+    (returns_after touched c raised.core e raised.exceptions f (chained framed profile r (Some refusal) touched raised.core raised.exceptions f) h
+    (chained_returns profile r (Some refusal) touched raised.core raised.exceptions f own))
 
 -- ---- faults
 
@@ -145,14 +147,14 @@ pub resumes_returns : (profile : Profile) (r : Returning) (c : Core) (e : Except
     → Returns r.secure c e f (resumes framed profile r c e f u)
 unfolding OwnFrame
 resumes_returns profile r c e f (Err fault) own frame =
-    chained_raised_returns profile r r.secure c e f (frame_faulted false (side_of_bit r.secure) fault c e) own
+    chained_raised_returns profile r (refusals.Frame fault) r.secure c e f (frame_faulted false (side_of_bit r.secure) fault c e) own
     (λ is. frame_spared (side_of_bit r.secure) fault c e (nonsecure_by r.secure is) (frame is))
 resumes_returns profile r c e f (Ok u) own frame =
     let raised = faulted (side_of_bit r.secure) (InvPc (side_of_bit r.secure)) c e in
     returns_cond r.secure c e f (modes_agree r u.basic) (record { core = resumed r u c; exceptions = e; held = f; result = lefts.Resumed r.secure })
-    (chained_raised framed profile r r.secure f raised)
+    (chained_raised framed profile r (refusals.Mode (side_of_bit r.secure)) r.secure f raised)
     (record { held = refl; touched = λ t. t; spared = λ t. resumed_spared c e u r.es r.process r.thread r.dcrs r.secure t })
-    (chained_raised_returns profile r r.secure c e f raised own
+    (chained_raised_returns profile r (refusals.Mode (side_of_bit r.secure)) r.secure c e f raised own
     (λ is. faulted_spared (side_of_bit r.secure) (InvPc (side_of_bit r.secure)) c e (nonsecure_by r.secure is) (own_inv_pc (side_of_bit r.secure) (nonsecure_by r.secure is))))
 
 -- ---- all of it
@@ -161,7 +163,7 @@ goes_back_returns : (profile : Profile) (r : Returning) (c : Core) (e : Exceptio
 unfolding goes_back
 goes_back_returns profile r c e f own =
     let u = unstacked framed c r f in
-    returns_cond false c e f (takes_first e c.masks) (chained framed profile r false c e f) (resumes framed profile r c e f u) (chained_returns profile r false c e f own)
+    returns_cond false c e f (takes_first e c.masks) (chained framed profile r None false c e f) (resumes framed profile r c e f u) (chained_returns profile r None false c e f own)
     (returns_any r.secure c e f (resumes framed profile r c e f u)
     (resumes_returns profile r c e f u own (λ is. own_unstacked c f r.es r.process r.thread r.dcrs r.secure is)))
 
@@ -169,7 +171,7 @@ leaves_noting_returns : (profile : Profile) (side : Side) (fault : Option Fault)
     → Returns false c e f (leaves_noting framed profile side fault r c e f)
 unfolding OwnSome
 leaves_noting_returns profile side (Some fault) r c e f is own exc_return_fault =
-    chained_raised_returns profile r false c e f (faulted side fault c e) own (λ t. faulted_spared side fault c e is exc_return_fault)
+    chained_raised_returns profile r (refusals.Value fault) false c e f (faulted side fault c e) own (λ t. faulted_spared side fault c e is exc_return_fault)
 leaves_noting_returns profile side None r c e f is own exc_return_fault = goes_back_returns profile r c e f own
 
 pub own_noted : (c : Core) (e : ExceptionsValue) (value : ℕ) → c.run.side ≡ NonSecure → OwnSome (exc_return_fault c e value)

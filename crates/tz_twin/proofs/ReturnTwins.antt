@@ -21,6 +21,8 @@ use Rattle.tz_frames.specs.declared.entering.Entered.TheVariants as entered
 use Rattle.tz_frames.specs.declared.leaving.Returning.{Returning}
 use Rattle.tz_frames.specs.declared.leaving.Unstacked.{Unstacked}
 use Rattle.tz_frames.specs.declared.leaving.Left.TheVariants as lefts
+use Rattle.tz_frames.specs.declared.leaving.Refusal.{Refusal}
+use Rattle.tz_frames.specs.declared.leaving.Refusal.TheVariants as refusals
 use Rattle.tz_frames.specs.Status.{Raised, faulted, frame_faulted}
 use Rattle.tz_frames.specs.Stack.{word_answer, word_read, with_lowest_word, reads, basic_read, popped_basic}
 use Rattle.tz_frames.specs.Enter.{Done, tries}
@@ -44,33 +46,33 @@ leaving_along l m l' m' e e' h = subst (λ (v : Leaving Framed). LeavingBoth v l
 
 -- ---- a tail-chain
 
-left_locked : (x : Entered) → locks_up x ≡ true → leaves_locked (left_of x) ≡ true
-left_locked (entered.Taken given touched) h = cc
-left_locked (entered.Lockup touched) h = refl
+left_locked : (refused : Option Refusal) (x : Entered) → locks_up x ≡ true → leaves_locked (left_of refused x) ≡ true
+left_locked refused (entered.Taken given entry) h = cc
+left_locked refused (entered.Lockup entry) h = refl
 
-left_both : (d d' : Done Framed) → DoneBoth d d' → LeavingBoth (leaving_by d) (leaving_by d')
-left_both d d' (EntersAlike t) = LeavesAlike (record {
+left_both : (refused : Option Refusal) (d d' : Done Framed) → DoneBoth d d' → LeavingBoth (leaving_by refused d) (leaving_by refused d')
+left_both refused d d' (EntersAlike t) = LeavesAlike (record {
   part = t.part;
   rest = t.rest;
   rest' = t.rest';
   ground = t.ground;
   guise = t.guise;
   guise' = t.guise';
-  result = left_of t.result;
-  ends = λ i. leaving_by (t.ends i);
-  ends' = λ i. leaving_by (t.ends' i);
+  result = left_of refused t.result;
+  ends = λ i. leaving_by refused (t.ends i);
+  ends' = λ i. leaving_by refused (t.ends' i);
   same = t.same;
 })
-left_both d d' (EntersLocked h h') = LeavesLocked (left_locked d.result h) (left_locked d'.result h')
-left_both d d' (EntersLooking h h') = LeavesLooking (entered_left d.result ∙ h) (entered_left d'.result ∙ h')
+left_both refused d d' (EntersLocked h h') = LeavesLocked (left_locked refused d.result h) (left_locked refused d'.result h')
+left_both refused d d' (EntersLooking h h') = LeavesLooking (entered_left refused d.result ∙ h) (entered_left refused d'.result ∙ h')
 
-chained_both : (profile : Profile) (o : Open) (x x' : Rest) (k : Ground) (g g' : Guise) (r : Returning) (touched : Bool) → r.es ≡ false → Same o x x'
-    → LeavingBoth (chained framed profile r touched (join o x).core o.exceptions (held_of o x k g)) (chained framed profile r touched (join o x').core o.exceptions (held_of o x' k g'))
+chained_both : (profile : Profile) (o : Open) (x x' : Rest) (k : Ground) (g g' : Guise) (r : Returning) (refused : Option Refusal) (touched : Bool) → r.es ≡ false → Same o x x'
+    → LeavingBoth (chained framed profile r refused touched (join o x).core o.exceptions (held_of o x k g)) (chained framed profile r refused touched (join o x').core o.exceptions (held_of o x' k g'))
 unfolding chained
-chained_both profile o x x' k g g' r touched own same =
+chained_both profile o x x' k g g' r refused touched own same =
     let w = work_of o x k g (chaining r touched) in
     let w' = work_of o x' k g' (chaining r touched) in
-    left_both (tries framed profile 4 w) (tries framed profile 4 w')
+    left_both refused (tries framed profile 4 w) (tries framed profile 4 w')
     (tries_twins profile 4 w w' (no_callee r.secure r.es r.dcrs own) (record {
       part = o;
       rest = x;
@@ -84,26 +86,26 @@ chained_both profile o x x' k g g' r touched own same =
       same = same;
     }))
 
-pended_both : (profile : Profile) (o : Open) (x x' : Rest) (k : Ground) (g g' : Guise) (r : Returning) (touched locks : Bool) → r.es ≡ false → Same o x x'
-    → LeavingBoth (chained_raised framed profile r touched (held_of o x k g) (record { core = (join o x).core; exceptions = o.exceptions; locks = locks }))
-    (chained_raised framed profile r touched (held_of o x' k g') (record { core = (join o x').core; exceptions = o.exceptions; locks = locks }))
-pended_both profile o x x' k g g' r touched true own same = LeavesLocked refl refl
-pended_both profile o x x' k g g' r touched false own same = chained_both profile o x x' k g g' r touched own same
+pended_both : (profile : Profile) (o : Open) (x x' : Rest) (k : Ground) (g g' : Guise) (r : Returning) (refusal : Refusal) (touched : Bool) (locks : Bool) → r.es ≡ false → Same o x x'
+    → LeavingBoth (chained_raised framed profile r refusal touched (held_of o x k g) (record { core = (join o x).core; exceptions = o.exceptions; locks = locks }))
+    (chained_raised framed profile r refusal touched (held_of o x' k g') (record { core = (join o x').core; exceptions = o.exceptions; locks = locks }))
+pended_both profile o x x' k g g' r refusal touched true own same = LeavesLocked refl refl
+pended_both profile o x x' k g g' r refusal touched false own same = chained_both profile o x x' k g g' r (Some refusal) touched own same
 
 -- after a fault
-raised_both : (profile : Profile) (o : Open) (x x' : Rest) (k : Ground) (g g' : Guise) (r : Returning) (touched : Bool) (a a' : Raised) → r.es ≡ false → RaisedTwins o x x' a a'
-    → LeavingBoth (chained_raised framed profile r touched (held_of o x k g) a) (chained_raised framed profile r touched (held_of o x' k g') a')
-raised_both profile o x x' k g g' r touched a a' own t =
+raised_both : (profile : Profile) (o : Open) (x x' : Rest) (k : Ground) (g g' : Guise) (r : Returning) (refusal : Refusal) (touched : Bool) (a a' : Raised) → r.es ≡ false → RaisedTwins o x x' a a'
+    → LeavingBoth (chained_raised framed profile r refusal touched (held_of o x k g) a) (chained_raised framed profile r refusal touched (held_of o x' k g') a')
+raised_both profile o x x' k g g' r refusal touched a a' own t =
     let p = t.part in
     let y = t.rest in
     let y' = t.rest' in
-    let here : chained_raised framed profile r touched (held_of o x k g) a
-    ≡ chained_raised framed profile r touched (held_of p y k g) (record { core = (join p y).core; exceptions = p.exceptions; locks = a.locks }) =
-    λ i. chained_raised framed profile r touched (record (held_of o x k g) { bus = t.bus i }) (record { core = t.core i; exceptions = t.exceptions i; locks = a.locks }) in
-    let there : chained_raised framed profile r touched (held_of o x' k g') a'
-    ≡ chained_raised framed profile r touched (held_of p y' k g') (record { core = (join p y').core; exceptions = p.exceptions; locks = a.locks }) =
-    λ i. chained_raised framed profile r touched (record (held_of o x' k g') { bus = t.bus' i }) (record { core = t.core' i; exceptions = t.exceptions' i; locks = sym t.locks i }) in
-    leaving_along _ _ _ _ here there (pended_both profile p y y' k g g' r touched a.locks own t.same)
+    let here : chained_raised framed profile r refusal touched (held_of o x k g) a
+    ≡ chained_raised framed profile r refusal touched (held_of p y k g) (record { core = (join p y).core; exceptions = p.exceptions; locks = a.locks }) =
+    λ i. chained_raised framed profile r refusal touched (record (held_of o x k g) { bus = t.bus i }) (record { core = t.core i; exceptions = t.exceptions i; locks = a.locks }) in
+    let there : chained_raised framed profile r refusal touched (held_of o x' k g') a'
+    ≡ chained_raised framed profile r refusal touched (held_of p y' k g') (record { core = (join p y').core; exceptions = p.exceptions; locks = a.locks }) =
+    λ i. chained_raised framed profile r refusal touched (record (held_of o x' k g') { bus = t.bus' i }) (record { core = t.core' i; exceptions = t.exceptions' i; locks = sym t.locks i }) in
+    leaving_along _ _ _ _ here there (pended_both profile p y y' k g g' r refusal touched a.locks own t.same)
 
 -- ---- a frame of a Non-secure stack
 
@@ -162,12 +164,12 @@ read_both : (profile : Profile) (o : Open) (x x' : Rest) (k : Ground) (g g' : Gu
     (resumes framed profile (bits false process thread dcrs false) (join o x').core o.exceptions (held_of o x' k g') (with_basic None b))
 unfolding OwnFrame
 read_both profile o x x' k g g' process thread dcrs (Err fault) own same =
-    raised_both profile o x x' k g g' (bits false process thread dcrs false) false (frame_faulted false NonSecure fault (join o x).core o.exceptions)
+    raised_both profile o x x' k g g' (bits false process thread dcrs false) (refusals.Frame fault) false (frame_faulted false NonSecure fault (join o x).core o.exceptions)
     (frame_faulted false NonSecure fault (join o x').core o.exceptions) refl (frame_faulted_twins false o x x' fault own same)
 read_both profile o x x' k g g' process thread dcrs (Ok b) own same =
     let r = bits false process thread dcrs false in
     leaving_cond (modes_agree r b) _ _ _ _ (resumed_both o x x' k g g' process thread dcrs (record { callee = None; basic = b }) same)
-    (raised_both profile o x x' k g g' r false (faulted NonSecure (InvPc NonSecure) (join o x).core o.exceptions) (faulted NonSecure (InvPc NonSecure) (join o x').core o.exceptions) refl
+    (raised_both profile o x x' k g g' r (refusals.Mode NonSecure) false (faulted NonSecure (InvPc NonSecure) (join o x).core o.exceptions) (faulted NonSecure (InvPc NonSecure) (join o x').core o.exceptions) refl
     (faulted_twins o x x' (InvPc NonSecure) (own_inv_pc NonSecure refl) same))
 
 -- what was looked at stays so
@@ -206,7 +208,7 @@ goes_back_both : (profile : Profile) (o : Open) (x x' : Rest) (k : Ground) (g g'
     (goes_back framed profile (bits false process thread dcrs secure) (join o x').core o.exceptions (held_of o x' k g'))
 unfolding goes_back
 goes_back_both profile o x x' k g g' process thread dcrs secure same =
-    leaving_cond (takes_first o.exceptions o.masks) _ _ _ _ (chained_both profile o x x' k g g' (bits false process thread dcrs secure) false refl same)
+    leaving_cond (takes_first o.exceptions o.masks) _ _ _ _ (chained_both profile o x x' k g g' (bits false process thread dcrs secure) None false refl same)
     (resumes_both profile o x x' k g g' process thread dcrs secure same)
 
 noting_both : (profile : Profile) (fault : Option Fault) (o : Open) (x x' : Rest) (k : Ground) (g g' : Guise) (process thread dcrs secure : Bool) → OwnSome fault → Same o x x'
@@ -214,7 +216,7 @@ noting_both : (profile : Profile) (fault : Option Fault) (o : Open) (x x' : Rest
     (leaves_noting framed profile NonSecure fault (bits false process thread dcrs secure) (join o x').core o.exceptions (held_of o x' k g'))
 unfolding OwnSome
 noting_both profile (Some fault) o x x' k g g' process thread dcrs secure own same =
-    raised_both profile o x x' k g g' (bits false process thread dcrs secure) false (faulted NonSecure fault (join o x).core o.exceptions) (faulted NonSecure fault (join o x').core o.exceptions) refl
+    raised_both profile o x x' k g g' (bits false process thread dcrs secure) (refusals.Value fault) false (faulted NonSecure fault (join o x).core o.exceptions) (faulted NonSecure fault (join o x').core o.exceptions) refl
     (faulted_twins o x x' fault own same)
 noting_both profile None o x x' k g g' process thread dcrs secure own same = goes_back_both profile o x x' k g g' process thread dcrs secure same
 

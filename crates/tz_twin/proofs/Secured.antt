@@ -163,7 +163,7 @@ touching_branch s0 s before negative code stores target starts e = go (target % 
       record {
         state = record r { core = record r.core { run = record r.core.run { side = cond t NonSecure Secure; locked = false } } };
         stores = stores;
-        ending = record { touched = true; cause = cond t Returned Went; ran = Some code };
+        ending = record { touched = true; cause = cond t Returned Went; ran = Some code; handling = None };
       }
 
   go : (t : Bool) → Touching s0 before (to t)
@@ -178,7 +178,7 @@ touching_exchanged : (s0 s p : State) (before : Seen) (core : Core) (negative : 
     → Touching s0 before (with_stores stores (exchanged core (secured s) (secured p) (seeing negative) code target ns))
 unfolding exchanged
 touching_exchanged s0 s p before core negative code stores target ns starts e f =
-    let back = halts_comes_back (side_in s0.core) core (secured s) (seeing negative) code in
+    let back = halts_comes_back (side_in s0.core) core (secured s) (seeing negative) code target in
     let leaving = halts_returns (side_in s0.core) (secured p) (seeing negative) code target (λ h. absurd (never s0 starts h)) in
     touching_passed s0 before stores (is_fnc_return target) _ _
     (touching_halts s0 (secured s) before true core.registers.general stores _ e (λ h. absurd (never s0 starts h)) (back.touched refl) back)
@@ -371,7 +371,7 @@ touching_first s0 before false x y h p = false_is_true h
 touching_locked : (s : State) (before : Seen) → s.core.run.locked ≡ true → Of before s → Touching s before (ended s)
 unfolding ended
 touching_locked s before is e = touching_first s before s.core.run.locked _ _ is
-    (touching_halts s s before true (general_seen before) [] _ e (λ h. refl) refl (halts_locks (side_in s.core) (general_seen before) s true))
+    (touching_halts s s before true (general_seen before) [] _ e (λ h. refl) refl (halts_locks (side_in s.core) (general_seen before) s true None))
 
 -- a step that starts Secure, or locked
 pub touching_step : (s : State) (before : Seen) → is_nonsecure_side (side_of s) ≡ false → Of before s → Touching s before (ended s)

@@ -84,8 +84,8 @@ abbrev pub done_of : Open → Rest → Ground → Guise → Entered → Done Fra
 done_of o x k g result = record { core = (join o x).core; exceptions = o.exceptions; held = held_of o x k g; result = result }
 
 abbrev pub locks_up : Entered → Bool
-locks_up (entered.Taken given touched) = false
-locks_up (entered.Lockup touched) = true
+locks_up (entered.Taken given entry) = false
+locks_up (entered.Lockup entry) = true
 
 pub data DoneBoth (d d' : Done Framed) : Type 0 where
   EntersAlike : EndTwins done_of d d' → DoneBoth d d'
@@ -99,8 +99,8 @@ leaving_of o x k g result = record { core = (join o x).core; exceptions = o.exce
 
 abbrev pub leaves_locked : Left → Bool
 leaves_locked (left.Resumed touched) = false
-leaves_locked (left.Chained given touched) = false
-leaves_locked (left.Lockup touched) = true
+leaves_locked (left.Chained given refused entry) = false
+leaves_locked (left.Lockup refused entry) = true
 
 pub data LeavingBoth (l l' : Leaving Framed) : Type 0 where
   LeavesAlike : EndTwins leaving_of l l' → LeavingBoth l l'

@@ -11,6 +11,7 @@ use crate::words::leaf::matches;
 use clap::ArgMatches;
 use std::alloc::{AllocError, Global};
 use tz_model::View;
+use tz_show::Range;
 
 /// No value: such a command has no option.
 static NO_VALUES: [&str; 0] = [];
@@ -31,16 +32,18 @@ pub struct StartWords<'a> {
 }
 
 /// What is done with the machine that a run begins with.
-#[derive(Clone, Copy)]
+#[derive(Drop)]
 pub enum Work {
     /// The trace of its steps, with what it shows.
     Trace(View),
+    /// The same with what is told of each step under its line.
+    Full,
     /// Where its steps enter Secure code, and how often.
     Gates,
     /// The file of the state after its steps.
     Save,
-    /// The page of that state.
-    Page,
+    /// The page of that state, with ranges of memory.
+    Page(Vec<Range>),
 }
 
 /// What five words begin; `None` where there are others.

@@ -1,11 +1,12 @@
 use Rattle.std.proofs.Common.{◌≡◌, subst, List, arith}
 use Rattle.tz_model.specs.declared.report.ScriptEvent.{ScriptEvent}
 use Rattle.tz_sem.specs.Step.{step}
+use Rattle.tz_run.proofs.Known.{typed_start, typed_step, typed_end}
 use Rattle.tz_run.proofs.Lines.{so_far_start, so_far_step, so_far_end, so_far_failed, state_at_end}
 use Rattle.tz_run.proofs.run_counted.Goals as goal
 
 pub loop-step-init : goal.loop-step-init
-loop-step-init g c = record { lines = so_far_start _ _ _ _ _ _ _; later = omega arith }
+loop-step-init g c = record { lines = so_far_start _ _ _ _ _ _ _; typed = typed_start _ _ _; later = omega arith }
 
 pub loop-step-preserved : goal.loop-step-preserved
 loop-step-preserved g c =
@@ -14,6 +15,7 @@ loop-step-preserved g c =
     subst (λ (due : List ScriptEvent). step c.loop-step.machine due ≡ record { state = c.step_into.new.self; report = report }) c.due-due.ensures.events c.step_into.ensures.steps in
     record {
       lines = so_far_step _ _ _ _ _ _ _ _ _ _ _ _ _ _ report c.loop-step-test.true made c.loop-step.invariant.lines c.in_default.ensures.put;
+      typed = typed_step _ _ _ _ _ _ report made c.know_typed.ensures c.loop-step.invariant.typed;
       later = let l = c.in_default.ensures.cause.later in omega (arith, l, c.loop-step.invariant.later);
     }
 
@@ -29,3 +31,6 @@ returns-clause-put g c = so_far_end _ _ _ _ _ _ _ _ _ _ _ c.loop-step-test.false
 
 pub returns-clause-state : goal.returns-clause-state
 returns-clause-state g c = state_at_end _ _ _ _ _ _ _ _ _ _ _ c.loop-step-test.false c.loop-step.invariant.lines
+
+pub returns-clause-resumption : goal.returns-clause-resumption
+returns-clause-resumption g c = typed_end _ _ _ _ _ _ c.loop-step-test.false c.loop-step.invariant.typed

@@ -1,10 +1,12 @@
 use Rattle.std.proofs.Common.{◌≤◌}
 use Rattle.tz_run.specs.Events.{events_of}
+use Rattle.tz_run.proofs.Known.{TypedSoFar}
 use Rattle.tz_run.proofs.Lines.{SoFar}
 use Rattle.tz_run.proofs.run_counted.Given as goal
 
 abbrev pub invariant-loop-step : goal.invariant-loop-step
 invariant-loop-step g l = record {
   lines : SoFar l.view (events_of l.script) (g.O.Sink.written l.fn.out) (g.O.Sink.written l.out) (g.O.Sink.space l.fn.out) (g.O.Sink.space l.out) l.fn.machine l.machine l.first l.step l.steps;
+  typed : TypedSoFar (events_of l.script) l.fn.machine l.machine l.first l.step;
   later : g.O.Sink.faults l.fn.out ≤ g.O.Sink.faults l.out;
 }

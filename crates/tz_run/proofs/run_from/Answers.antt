@@ -9,3 +9,6 @@ returns-clause-cause g c = c.run_counted.ensures.cause
 
 pub returns-clause-state : goal.returns-clause-state
 returns-clause-state g c = c.run_counted.ensures.state
+
+pub returns-clause-resumption : goal.returns-clause-resumption
+returns-clause-resumption g c = c.run_counted.ensures.resumption

@@ -1,4 +1,4 @@
-use Rattle.std.proofs.Common.{◌≡◌, Bool, true, false, cond, refl, sym, ap, ◌∙◌}
+use Rattle.std.proofs.Common.{◌≡◌, Bool, true, false, cond, None, refl, sym, ap, ◌∙◌}
 use Rattle.tz_state.specs.State.{State}
 use Rattle.tz_sem.specs.Ended.{Ended}
 use Rattle.tz_sem.specs.Taking.{locks}
@@ -12,7 +12,7 @@ first false x y e = cc
 ended_locked : (s : State) → s.core.run.locked ≡ true → (ended s).state ≡ s
 unfolding ended
 ended_locked s e =
-    let locked : (locks s true).state ≡ s =
+    let locked : (locks s true None).state ≡ s =
     λ i. record s { core = record s.core { run = record s.core.run { locked = sym e i } } } in
     ap (λ (x : Ended). x.state) (first s.core.run.locked _ _ e) ∙ locked
 

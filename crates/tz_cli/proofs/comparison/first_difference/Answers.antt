@@ -8,11 +8,11 @@ use Rattle.tz_cli.proofs.comparison.first_difference.Goals as goal
 pub loop-step-preserved : goal.loop-step-preserved
 loop-step-preserved g c =
     so_far_step (events_of c.args.script.now) _ c.loop-step.pair c.step.new.self c.loop-step.step _ c.loop-step-test.true
-    (subst (λ (due : List ScriptEvent). c.step.new.self ≡ pair_after c.loop-step.pair due) c.due-due.ensures.events c.step.ensures.steps)
+    (subst (λ (due : List ScriptEvent). c.step.new.self ≡ pair_after c.loop-step.pair due) c.due_next-due.ensures.events c.step.ensures.steps)
     c.in-Kept.ensures.answer c.loop-step.invariant
 
 pub returns-in-Differ : goal.returns-in-Differ
 returns-in-Differ g c =
     so_far_found (events_of c.args.script.now) _ c.loop-step.pair c.step.new.self c.loop-step.step _ c.in-Differ.step c.in-Differ.what c.loop-step-test.true
-    (subst (λ (due : List ScriptEvent). c.step.new.self ≡ pair_after c.loop-step.pair due) c.due-due.ensures.events c.step.ensures.steps)
+    (subst (λ (due : List ScriptEvent). c.step.new.self ≡ pair_after c.loop-step.pair due) c.due_next-due.ensures.events c.step.ensures.steps)
     c.in-Differ.ensures.answer c.loop-step.invariant

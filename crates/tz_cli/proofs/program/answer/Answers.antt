@@ -1,8 +1,9 @@
 -- Each exit is its answer.
 use Rattle.std.proofs.Common.{refl, sym, arith, map, Global}
 use Rattle.std.specs.String.{string_bytes}
-use Rattle.tz_cli.specs.Commands.{Pair, Asm, Dis, Resume, command_with}
+use Rattle.tz_cli.specs.Commands.{Pair, Asm, Dis, ShowSaved, Resume, command_with}
 use Rattle.tz_cli.specs.StartWords.{start_in}
+use Rattle.tz_cli.specs.ShowWords.{saved_in}
 use Rattle.tz_cli.specs.Resume.{resume_in}
 use Rattle.tz_cli.specs.Pair.{pair_in}
 use Rattle.tz_cli.specs.Asm.{asm_in}
@@ -35,6 +36,11 @@ pub returns-in-Dis : goal.returns-in-Dis
 returns-in-Dis g c =
     let says = rw c.in-Dis.is at (rw c.in-Ok-Some.field-0-is at c.in-Ok-Some.ensures) in
     answer_command _ _ (map (string_bytes {Z = Global}) c.args.words.now) (Dis (dis_in c.in-Dis.words)) refl refl (sym says) c.dis_files.ensures
+
+pub returns-in-ShowSaved : goal.returns-in-ShowSaved
+returns-in-ShowSaved g c =
+    let says = rw c.in-ShowSaved.is at (rw c.in-Ok-Some.field-0-is at c.in-Ok-Some.ensures) in
+    answer_command _ _ (map (string_bytes {Z = Global}) c.args.words.now) (ShowSaved (saved_in c.in-ShowSaved.words)) refl refl (sym says) c.page_files.ensures
 
 pub returns-in-Resume : goal.returns-in-Resume
 returns-in-Resume g c =

@@ -2,7 +2,7 @@
 use Rattle.std.proofs.Common.{refl}
 use Rattle.tz_cli.proofs.Clauses.{usage_only, settled_stop, settled_task, unread_only, unwritten_only, cut_only, refused_only, memory_told, one_status, task_written, nothing_told, no_stop, quiet_else, front_written, room_suffices, sound_reads, trace_written, isolated_trace}
 use Rattle.tz_cli.proofs.PairClauses.{agreement_told, disagreement_told}
-use Rattle.tz_cli.proofs.RunClauses.{gates_written, none_unlisted, page_written, state_written, lines_written, rest_written}
+use Rattle.tz_cli.proofs.RunClauses.{full_written, gates_written, none_unlisted, page_written, saved_written, state_written, lines_written, rest_written}
 use Rattle.tz_cli.proofs.program.top.Goals as goal
 
 pub returns-clause-usage : goal.returns-clause-usage
@@ -56,6 +56,9 @@ returns-clause-room g c = room_suffices _ _ c.answer.ensures
 pub returns-clause-trace : goal.returns-clause-trace
 returns-clause-trace g c = trace_written _ _ c.answer.ensures
 
+pub returns-clause-full : goal.returns-clause-full
+returns-clause-full g c = full_written _ _ c.answer.ensures
+
 pub returns-clause-isolation : goal.returns-clause-isolation
 returns-clause-isolation g c = λ done r run job told view other image accepted agree. isolated_trace _ _ c.answer.ensures done r run job told view image agree
 
@@ -76,6 +79,9 @@ returns-clause-snap g c = state_written _ _ c.answer.ensures
 
 pub returns-clause-shown : goal.returns-clause-shown
 returns-clause-shown g c = page_written _ _ c.answer.ensures
+
+pub returns-clause-shown_saved : goal.returns-clause-shown_saved
+returns-clause-shown_saved g c = saved_written _ _ c.answer.ensures
 
 pub returns-clause-resumed : goal.returns-clause-resumed
 returns-clause-resumed g c = lines_written _ _ c.answer.ensures

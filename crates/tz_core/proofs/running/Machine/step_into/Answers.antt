@@ -9,16 +9,16 @@ use Rattle.tz_core.proofs.running.Machine.step_into.Goals as goal
 
 pub returns-clause-leaves_secure : goal.returns-clause-leaves_secure
 returns-clause-leaves_secure c =
-    subst (λ (r : Stepped). LeavesSecure c.args.self.now r) c.report_step.ensures
+    subst (λ (r : Stepped). LeavesSecure c.args.self.now r) c.report_step.ensures.step
     (λ is untouched. leaves_secure c.args.self.now c.args.due.now is untouched)
 
 pub returns-clause-enters_secure : goal.returns-clause-enters_secure
 returns-clause-enters_secure c =
-    subst (λ (r : Stepped). EntersSecure c.args.self.now c.args.due.now r) c.report_step.ensures
+    subst (λ (r : Stepped). EntersSecure c.args.self.now c.args.due.now r) c.report_step.ensures.step
     (λ is secure unlocked. enters_secure c.args.self.now c.args.due.now is secure unlocked)
 
 pub returns-clause-tells_way : goal.returns-clause-tells_way
-returns-clause-tells_way c = subst (λ (r : Stepped). TellsWay r) c.report_step.ensures (tells_way c.args.self.now c.args.due.now)
+returns-clause-tells_way c = subst (λ (r : Stepped). TellsWay r) c.report_step.ensures.step (tells_way c.args.self.now c.args.due.now)
 
 pub returns-clause-steps : goal.returns-clause-steps
-returns-clause-steps c = c.report_step.ensures
+returns-clause-steps c = c.report_step.ensures.step

@@ -1,6 +1,6 @@
 use Rattle.std.proofs.Common.{arith, rules, tests}
 use Rattle.std.proofs.lemmas.Grind.{common_steps, elements}
-use Rattle.tz_prio.proofs.masks.basepri.Goals as goal
+use Rattle.tz_prio.proofs.masks.basepri_priority.Goals as goal
 
 -- What the tactics try, by name: a body that is refused is then told without a search for what to offer.
 pub returns-else-byte-eq0-clause-is : goal.returns-else-byte-eq0-clause-is

@@ -1,0 +1,30 @@
+//! The command `show` of a state's file: its files, the page of the state, and the status.
+
+ghost use Rattle.tz_cli.specs.ShowWords.{saved_in};
+ghost use Rattle.tz_cli.specs.Commands.{ShowSaved};
+ghost use Rattle.tz_cli.specs.Answer.{CommandAnswer, shelved, sunk};
+
+use crate::files::load_shown;
+use crate::lines::{put_status, refuse_fault};
+use crate::words::SavedWords;
+use std::alloc::Global;
+use tz_model::{Shelf, Sink};
+use tz_show::show;
+
+/// Does what the words of `show --state` say, and tells the answer with what it says of the outside.
+pub fn page_files<H: Shelf, O: Sink, E: Sink>(
+    alloc: Global,
+    words: &SavedWords<'_>,
+    shelf: &mut H,
+    out: &mut O,
+    err: &mut E,
+) -> u8
+    ensures { CommandAnswer (ShowSaved (saved_in words.now)) (shelved H.held H.sound H.faults shelf.old shelf.new)
+        (sunk O.written O.space O.faults out.old out.new) (sunk E.written E.space E.faults err.old err.new) result }
+{
+    let saved = match load_shown(alloc, shelf, words) {
+        Ok(saved) => saved,
+        Err(fault) => return refuse_fault(alloc, fault, err),
+    };
+    put_status(show(&saved.machine, saved.step, &words.ranges, out))
+}

@@ -1,0 +1,83 @@
+//! What is noted of how exceptions came into a step.
+
+ghost use Rattle.std.specs.Prelude.{◌≡◌, ◌&&◌, Some};
+ghost use Rattle.tz_state.specs.Timers.{interrupts, runs_out};
+ghost use Rattle.tz_sem.specs.Taking.{unnoted, handling_of, with_fault, with_value, by_entry, by_value};
+
+use tz_frames::{Entering, Refusal};
+use tz_model::Fault;
+use tz_sem::{Ending, Handling};
+use tz_state::Timer;
+use tz_state::systick_bits::SYST_CSR_TICKINT;
+
+const UNNOTED: Handling = Handling {
+    fault: None,
+    value: None,
+    refused: None,
+    entry: None,
+};
+
+/// What was noted before, where anything was.
+fn handling_of(before: &Option<Handling>) -> Handling
+    ensures { result ≡ handling_of before.now }
+{
+    match before {
+        Some(handling) => *handling,
+        None => UNNOTED,
+    }
+}
+
+/// An entry from running code.
+pub(crate) fn by_entry(entry: Entering) -> Handling
+    ensures { result ≡ by_entry entry }
+{
+    Handling {
+        fault: None,
+        value: None,
+        refused: None,
+        entry: Some(entry),
+    }
+}
+
+/// A return by a value, with the entry in its place, where there was one.
+pub(crate) fn by_value(value: u32, refused: Option<Refusal>, entry: Option<Entering>) -> Handling
+    ensures { result ≡ by_value value refused entry }
+{
+    Handling {
+        fault: None,
+        value: Some(value),
+        refused,
+        entry,
+    }
+}
+
+/// How a step ended that began with a fault of its instruction or of its fetch.
+pub(crate) fn note_fault(ending: Ending, fault: Fault) -> Ending
+    ensures { result ≡ record ending { handling = Some (with_fault fault (handling_of ending.handling)) } }
+{
+    let mut handling = handling_of(&ending.handling);
+    handling.fault = Some(fault);
+    Ending {
+        handling: Some(handling),
+        ..ending
+    }
+}
+
+/// How a step ended in which code returned by a value, or tried to.
+pub(crate) fn note_value(ending: Ending, value: u32) -> Ending
+    ensures { result ≡ record ending { handling = Some (with_value value (handling_of ending.handling)) } }
+{
+    let mut handling = handling_of(&ending.handling);
+    handling.value = Some(value);
+    Ending {
+        handling: Some(handling),
+        ..ending
+    }
+}
+
+/// Whether the next count of a timer takes it from 1 to 0, so that its SysTick pends.
+pub(crate) fn pends_next(timer: &Timer) -> bool
+    ensures { result ≡ (runs_out timer.now && interrupts timer.now) }
+{
+    timer.csr % 2 == 1 && timer.cvr == 1 && timer.csr / SYST_CSR_TICKINT % 2 == 1
+}

@@ -1,7 +1,0 @@
-use Rattle.std.proofs.Common.{arith}
-use Rattle.std.proofs.lemmas.Grind.{common_steps}
-use Rattle.tz_excret.proofs.leaving.resume_by.Goals as goal
-
--- The first call that the prover tries finds nothing here, after long: the one that does is named.
-pub returns-clause-does : goal.returns-clause-does
-returns-clause-does g c = grind (arith, common_steps)

@@ -1,0 +1,8 @@
+use Rattle.tz_show.proofs.Texts.{follows}
+use Rattle.tz_full.specs.CrossingLine.{way_text}
+use Rattle.tz_full.proofs.crossing.push_way.Goals as goal
+
+pub returns-clause-bytes : goal.returns-clause-bytes
+unfolding way_text
+returns-clause-bytes c =
+    follows c.args.text.now.bytes c.push_handed.new.text.bytes c.push_str-3.new.self.bytes _ _ (follows c.args.text.now.bytes c.push_str-2.new.self.bytes c.push_handed.new.text.bytes _ _ (follows c.args.text.now.bytes c.push_kind.new.text.bytes c.push_str-2.new.self.bytes _ _ (follows c.args.text.now.bytes c.push_str.new.self.bytes c.push_kind.new.text.bytes _ _ c.push_str.ensures.bytes c.push_kind.ensures.bytes) c.push_str-2.ensures.bytes) c.push_handed.ensures.bytes) c.push_str-3.ensures.bytes

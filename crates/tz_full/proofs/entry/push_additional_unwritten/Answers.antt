@@ -1,0 +1,8 @@
+use Rattle.tz_show.proofs.Texts.{follows}
+use Rattle.tz_full.specs.EntryFrames.{additional_unwritten}
+use Rattle.tz_full.proofs.entry.push_additional_unwritten.Goals as goal
+
+pub returns-clause-bytes : goal.returns-clause-bytes
+unfolding additional_unwritten
+returns-clause-bytes c =
+    follows c.args.text.now.bytes c.push_additional_why.new.text.bytes c.push_str-2.new.self.bytes _ _ (follows c.args.text.now.bytes c.push_str.new.self.bytes c.push_additional_why.new.text.bytes _ _ c.push_str.ensures.bytes c.push_additional_why.ensures.bytes) c.push_str-2.ensures.bytes

@@ -1,0 +1,8 @@
+use Rattle.tz_show.proofs.Texts.{follows}
+use Rattle.tz_full.specs.EntryFrames.{interrupted_line}
+use Rattle.tz_full.proofs.entry.push_interrupted.Goals as goal
+
+pub returns-clause-bytes : goal.returns-clause-bytes
+unfolding interrupted_line
+returns-clause-bytes c =
+    follows c.args.text.now.bytes c.push_place.new.text.bytes c.push_str-2.new.self.bytes _ _ (follows c.args.text.now.bytes c.push_str.new.self.bytes c.push_place.new.text.bytes _ _ c.push_str.ensures.bytes (rw (c.back_of.ensures, c.side_of_bit.ensures) at c.push_place.ensures.bytes)) c.push_str-2.ensures.bytes

@@ -1,0 +1,8 @@
+use Rattle.tz_model.proofs.Puts.{put_then, put_failed}
+use Rattle.tz_full.proofs.full.put_step.Goals as goal
+
+pub returns-in-Err-clause-put : goal.returns-in-Err-clause-put
+returns-in-Err-clause-put g c = put_failed _ _ _ _ _ _ c.in-Err.error c.in-Err.ensures.put
+
+pub returns-clause-put : goal.returns-clause-put
+returns-clause-put g c = put_then _ _ _ _ _ _ _ _ _ c.in_default.ensures.put c.put_under.ensures.put

@@ -1,0 +1,8 @@
+use Rattle.tz_show.proofs.Texts.{follows}
+use Rattle.tz_full.specs.WayLines.{gateway_text}
+use Rattle.tz_full.proofs.ways.push_gateway.Goals as goal
+
+pub returns-clause-bytes : goal.returns-clause-bytes
+unfolding gateway_text
+returns-clause-bytes c =
+    follows c.args.text.now.bytes c.push_hex_word-2.new.text.bytes c.push_str-3.new.self.bytes _ _ (follows c.args.text.now.bytes c.push_str-2.new.self.bytes c.push_hex_word-2.new.text.bytes _ _ (follows c.args.text.now.bytes c.push_hex_word.new.text.bytes c.push_str-2.new.self.bytes _ _ (follows c.args.text.now.bytes c.push_str.new.self.bytes c.push_hex_word.new.text.bytes _ _ c.push_str.ensures.bytes c.push_hex_word.ensures.bytes) c.push_str-2.ensures.bytes) (rw c.core.ensures at c.push_hex_word-2.ensures.bytes)) c.push_str-3.ensures.bytes

@@ -1,0 +1,15 @@
+pub mod BegunLines
+pub mod CrossingLine
+pub mod EntryFrames
+pub mod Escalation
+pub mod ExceptionNames
+pub mod FaultNames
+pub mod FrameLines
+pub mod Full
+pub mod Instruction
+pub mod LoadLines
+pub mod RefusalLines
+pub mod RegisterNames
+pub mod TakenLines
+pub mod WayLines
+pub mod Words

@@ -1,0 +1,74 @@
+//! Exceptions by the manual's names, and priorities as it counts them.
+
+ghost use Rattle.std.specs.Prelude.{◌≡◌, ◌≤◌, ◌+◌, ◌++◌, length};
+ghost use Rattle.std.specs.Fmt.{signed_decimal};
+ghost use Rattle.arrayvec.specs.ArrayString.{array_string_len};
+ghost use Rattle.tz_state.specs.Execution.{manual_priority};
+ghost use Rattle.tz_full.specs.ExceptionNames.{system_name, exception_name, slot_text};
+
+use crate::text::{Text, push_side};
+use itoa::Buffer;
+use tz_model::Slot;
+use tz_state::exception::{
+    BUS_FAULT, FIRST_INTERRUPT, HARD_FAULT, MEM_MANAGE, NMI, PEND_SV, SECURE_FAULT, SV_CALL,
+    SYS_TICK, USAGE_FAULT, ZERO_PRIORITY,
+};
+use tz_syntax::push_decimal;
+
+/// The name of a number of the system.
+#[tactic(auto, unfolding(crate::specs::ExceptionNames::system_name))]
+fn system_name(number: u16) -> &'static str
+    ensures name { result.now ≡ system_name number }
+    ensures short { length result.now ≤ 11 }
+{
+    match number {
+        NMI => "NMI",
+        HARD_FAULT => "HardFault",
+        MEM_MANAGE => "MemManage",
+        BUS_FAULT => "BusFault",
+        USAGE_FAULT => "UsageFault",
+        SECURE_FAULT => "SecureFault",
+        SV_CALL => "SVCall",
+        PEND_SV => "PendSV",
+        SYS_TICK => "SysTick",
+        _ => "reserved",
+    }
+}
+
+/// The name of an exception; external interrupts count from 0.
+#[tactic(auto, unfolding(crate::specs::ExceptionNames::exception_name))]
+pub fn push_exception_name(text: &mut Text, number: u16)
+    requires { array_string_len text.old + 20 ≤ 4096 }
+    ensures bytes { text.new.bytes ≡ text.old.bytes ++ exception_name number }
+    ensures len { array_string_len text.new ≤ array_string_len text.old + 20 }
+{
+    if number < FIRST_INTERRUPT {
+        text.push_str(system_name(number));
+    } else {
+        text.push_str("interrupt ");
+        push_decimal(text, u32::from(number - FIRST_INTERRUPT));
+    }
+}
+
+/// An exception with its side.
+#[tactic(auto, unfolding(crate::specs::ExceptionNames::slot_text))]
+pub fn push_slot(text: &mut Text, slot: Slot)
+    requires { array_string_len text.old + 23 ≤ 4096 }
+    ensures bytes { text.new.bytes ≡ text.old.bytes ++ slot_text slot }
+    ensures len { array_string_len text.new ≤ array_string_len text.old + 23 }
+{
+    push_exception_name(text, slot.number);
+    text.push_str(" ");
+    push_side(text, slot.side);
+}
+
+/// A priority that stands four above the manual's, as the manual has it.
+pub fn push_priority(text: &mut Text, priority: u32)
+    requires small { priority ≤ 260 }
+    requires room { array_string_len text.old + 11 ≤ 4096 }
+    ensures bytes { text.new.bytes ≡ text.old.bytes ++ signed_decimal (manual_priority priority) }
+    ensures len { array_string_len text.new ≤ array_string_len text.old + 11 }
+{
+    let mut buffer = Buffer::new();
+    text.push_str(buffer.format(priority as i32 - ZERO_PRIORITY as i32));
+}

@@ -1,0 +1,16 @@
+//! What is told of a step beside its report.
+
+use crate::ending::Ending;
+use tz_regs::Core;
+
+/// What is told of a step beside its report: what neither that nor the state after the step tells.
+#[derive(Clone, Copy)]
+pub struct Account {
+    /// The core before the step.
+    pub core: Core,
+    /// The Secure SysTick counted to 0 at the beginning of the step, and pended.
+    pub ticked_s: bool,
+    /// The Non-secure one did.
+    pub ticked_ns: bool,
+    pub ending: Ending,
+}
