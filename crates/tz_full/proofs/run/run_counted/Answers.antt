@@ -11,9 +11,9 @@ loop-step-init g c = record { lines = so_far_start _ _ _ _ _; later = omega arit
 pub loop-step-preserved : goal.loop-step-preserved
 loop-step-preserved g c =
     let due = c.due-due.ensures.events in
-    let made = c.step_told.ensures.step in
+    let made = c.step_told-account.ensures.step in
     let moved = ap (λ (d : List ScriptEvent). (step c.loop-step.machine d).state) (sym due) ∙ ap (λ (x : Stepped). x.state) made in
-    let told = text_told (events_of c.args.script.now) c.loop-step.step _ _ _ _ _ due made c.step_told.ensures.account in
+    let told = text_told (events_of c.args.script.now) c.loop-step.step _ _ _ _ _ due made c.step_told-account.ensures.account in
     record {
       lines = so_far_step _ _ _ _ _ _ _ _ _ _ _ _ _ c.loop-step-test.true moved told c.loop-step.invariant.lines c.in_default.ensures.put;
       later = let l = c.in_default.ensures.cause.later in omega (arith, l, c.loop-step.invariant.later);
@@ -22,9 +22,9 @@ loop-step-preserved g c =
 pub returns-in-Err-clause-put : goal.returns-in-Err-clause-put
 returns-in-Err-clause-put g c =
     let due = c.due-due.ensures.events in
-    let made = c.step_told.ensures.step in
+    let made = c.step_told-account.ensures.step in
     let moved = ap (λ (d : List ScriptEvent). (step c.loop-step.machine d).state) (sym due) ∙ ap (λ (x : Stepped). x.state) made in
-    let told = text_told (events_of c.args.script.now) c.loop-step.step _ _ _ _ _ due made c.step_told.ensures.account in
+    let told = text_told (events_of c.args.script.now) c.loop-step.step _ _ _ _ _ due made c.step_told-account.ensures.account in
     so_far_failed _ _ _ _ _ _ _ _ _ _ _ _ _ c.in-Err.error c.loop-step-test.true moved told c.loop-step.invariant.lines c.in-Err.ensures.put
 
 pub returns-clause-put : goal.returns-clause-put
