@@ -30,7 +30,7 @@ CROSSED = (b"10000000 0010003041000010\n1000000c 81000010\n10000064 08ed00e01001
     cleared r0-r12, flags
     crossing preempt, hands over nothing
 5 n N 00200100 4770 bx lr r0=e000ed08 r1=10000000 r12=0000002a sp=30001000 lr=ffffffff
-    EXC_RETURN fffffff8: ES 0 S 1 DCRS 1 thread MSP
+    EXC_RETURN fffffff8: ES 0 S 1 DCRS 1 thread SPSEL 0
     from additional frame MSP_S 30000fb8 fefa125b 00000000 r4=00000000 r5=00000000 r6=00000000 r7=00000000 r8=00000000 r9=00000000 r10=00000000 r11=00000000
     from frame MSP_S 30000fe0 r0=e000ed08 r1=10000000 r2=00000000 r3=00000000 r12=0000002a lr=ffffffff pc=1000004a retpsr=01000000
     goes on at 1000004a S thread
@@ -71,7 +71,7 @@ REFUSED = (b"10000000 0010003041000010\n1000000c 81000010\n1000002c 01010010\n10
 1 s N 10000100 4800 ldr r0, [pc, #0] r0=ffbffff9
     load 10000104 word ffbffff9
 2 s X 3 fffffff9
-    EXC_RETURN ffbffff9: ES 1 S 1 DCRS 1 thread MSP
+    EXC_RETURN ffbffff9: ES 1 S 1 DCRS 1 thread SPSEL 0
     refused: INVPC, bits 23 to 7 are not ones
     HardFault S for UsageFault S (FORCED): UsageFault is not enabled
     tail-chain S thread

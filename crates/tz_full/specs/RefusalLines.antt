@@ -22,10 +22,7 @@ use Rattle.tz_frames.specs.declared.leaving.Refusal.TheVariants.{Value, Frame, M
 abbrev pub flag_digit : Bool → List ℕ
 flag_digit on = if on then codes "1" else codes "0"
 
-abbrev pub pointer_text : Bool → List ℕ
-pointer_text process = if process then codes "PSP" else codes "MSP"
-
--- its bits in words: those of SPSEL tell which stack pointer the side of ES uses in Thread mode
+-- its bits in words
 unfoldable pub bits_text : ℕ → List ℕ
 bits_text value =
     codes "ES " ++ flag_digit (is_set value exc_return_es) ++ codes " S " ++ flag_digit (is_set value exc_return_s) ++ codes " DCRS "
@@ -33,8 +30,8 @@ bits_text value =
 
 unfoldable pub exc_return_line : ℕ → List ℕ
 exc_return_line value =
-    codes "    EXC_RETURN " ++ hex_word value ++ codes ": " ++ bits_text value ++ codes " " ++ mode_text (is_set value exc_return_mode) ++ codes " "
-    ++ pointer_text (is_set value exc_return_spsel) ++ codes "\n"
+    codes "    EXC_RETURN " ++ hex_word value ++ codes ": " ++ bits_text value ++ codes " " ++ mode_text (is_set value exc_return_mode) ++ codes " SPSEL "
+    ++ flag_digit (is_set value exc_return_spsel) ++ codes "\n"
 
 -- ---- the check that refuses the value
 

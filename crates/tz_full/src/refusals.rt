@@ -4,7 +4,7 @@ ghost use Rattle.std.specs.Prelude.{◌≡◌, ◌≤◌, ◌+◌, ◌/◌, ◌%
 ghost use Rattle.arrayvec.specs.ArrayString.{array_string_len};
 ghost use Rattle.tz_model.specs.Words.{is_nonsecure_side};
 ghost use Rattle.tz_frames.specs.Leave as leave;
-ghost use Rattle.tz_full.specs.RefusalLines.{flag_digit, pointer_text, bits_text, exc_return_line, inactive_text, check_text, takes_process, frame_at, unread_word, unsigned_text, unread_text, reason_text, refused_line};
+ghost use Rattle.tz_full.specs.RefusalLines.{flag_digit, bits_text, exc_return_line, inactive_text, check_text, takes_process, frame_at, unread_word, unsigned_text, unread_text, reason_text, refused_line};
 
 use crate::faults::{fault_name, push_word_fault};
 use crate::text::{Text, push_mode, push_side};
@@ -66,13 +66,6 @@ pub fn flag_digit(on: bool) -> &'static str
     if on { "1" } else { "0" }
 }
 
-fn pointer_text(process: bool) -> &'static str
-    ensures text { result.now ≡ pointer_text process }
-    ensures short { length result.now ≤ 3 }
-{
-    if process { "PSP" } else { "MSP" }
-}
-
 /// ES, S and DCRS of a value.
 #[tactic(auto, unfolding(crate::specs::RefusalLines::bits_text))]
 fn push_bits(text: &mut Text, value: u32)
@@ -101,8 +94,8 @@ pub fn push_exc_return(text: &mut Text, value: u32)
     push_bits(text, value);
     text.push_str(" ");
     push_mode(text, value / EXC_RETURN_MODE % 2 == 1);
-    text.push_str(" ");
-    text.push_str(pointer_text(value / EXC_RETURN_SPSEL % 2 == 1));
+    text.push_str(" SPSEL ");
+    text.push_str(flag_digit(value / EXC_RETURN_SPSEL % 2 == 1));
     text.push_str("\n");
 }
 
