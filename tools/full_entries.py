@@ -92,7 +92,9 @@ class Entries:
             self.equal("mode that a return refuses", "thread" if bit(value, 3) else "handler", self.told["refused mode"][0].fields["mode"])
         for told in self.told["refused frame"] + self.told["refused word"]:
             self.refused_frame(told, value)
-        core.spsel[SECURE if core.side == SECURE and bit(value, 0) else NONSECURE] = bool(bit(value, 2))
+        ended = SECURE if core.side == SECURE and bit(value, 0) else NONSECURE
+        core.spsel[ended] = bool(bit(value, 2))
+        self.system.end(core.ipsr, ended)
         return value
 
     def branched(self, text, value):
@@ -260,8 +262,8 @@ class Entries:
                 self.system.status.words[HFSR] |= FORCED
                 last = None
             elif told.kind == "lockup":
+                self.locked(told, last)
                 self.system.status.words[HFSR] |= FORCED
-                self.equal("exception that can't be taken", f"{name_of(last[0])} {last[1] or told.fields['side']}", f"{told.fields['name']} {told.fields['side']}")
                 last = None
         self.settle(last)
         for told in self.told["unread vector"] + self.told["last vector"]:
@@ -275,11 +277,18 @@ class Entries:
             self.system.status.note(fault, side, address and int(address, 16), told.kind != "fault")
 
     def settle(self, last):
-        """A fault whose exception stays what it is: it is enabled."""
+        """A fault whose exception stays what it is."""
         if last:
-            if last[0] in (4, 5, 6, 7) and last[1]:
-                self.equal("an exception that is enabled", self.system.enabled(*last), True)
+            self.equal("what becomes of a fault", self.system.outcome(*last), "itself")
             self.system.pend(last[0])
+
+    def locked(self, told, last):
+        """A fault by which the core locks."""
+        fields = told.fields
+        self.equal("what becomes of a fault", self.system.outcome(*last), "lockup")
+        self.equal("exception that can't be taken", f"{name_of(last[0])} {last[1]}", f"{fields['name']} {fields['side']}")
+        self.equal("priority at which the core locks", digit(self.system.execution()), fields["priority"])
+        self.equal("HardFault that can't be taken, either", last[0] != 3, bool(fields["nor"]))
 
     def raised(self, told, side):
         """The exception of a fault, and its side; nothing where the line is of no fault."""
@@ -310,16 +319,15 @@ class Entries:
                 self.tell("INVPC, and no return from a call")
 
     def forced(self, told, last):
-        number, side = last
-        self.equal("exception that escalates", name_of(number), told.fields["name"])
-        self.equal("side of what escalates", side, told.fields["of"])
-        enabled = self.system.enabled(number, side) if number in (4, 5, 6, 7) and side else None
-        if number not in (4, 5, 6, 7):
-            enabled = True
-        reason = None if enabled is None else "its priority is not above that of the code" if enabled else f"{name_of(number)} is not enabled"
-        self.equal("why it escalates", reason, told.fields["why"])
-        if not self.system.is_swapped:
-            self.equal("side of HardFault", SECURE, told.fields["side"])
+        """HardFault in the place of a fault's exception."""
+        (number, side), fields = last, told.fields
+        self.equal("what becomes of a fault", self.system.outcome(number, side), "HardFault")
+        self.equal("exception that escalates", name_of(number), fields["name"])
+        self.equal("side of what escalates", side, fields["of"])
+        is_enabled = self.system.enabled(number, side)
+        reason = "its priority is not above that of the code" if is_enabled else f"{name_of(number)} is not enabled"
+        self.equal("why it escalates", reason, fields["why"])
+        self.equal("side of HardFault", side if self.system.is_swapped else SECURE, fields["side"])
 
     def missing(self, told):
         """A vector that can't be read."""
@@ -342,6 +350,8 @@ class Entries:
         if not self.system.may_be_taken(line.number):
             self.tell(f"exception {line.number} is taken, and nothing below the line has made it pend")
         priority = self.system.priority(line.number, target)
+        self.equal("an exception that can be taken", True, priority < self.system.execution())
+        self.system.active.add((line.number, target))
         self.want("takes", number=digit(line.number), name=name_of(line.number), side=target, priority=digit(priority),
                   dcrs=digit(bit(line.lr, 5)))
         address = plus(core.vtor[target], 4 * line.number)

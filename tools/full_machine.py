@@ -34,6 +34,7 @@ for first, (array, count) in ARRAYS.items():
 DEMO = """
 secure_vtor = 0x10000000
 nonsecure_vtor = 0x00200000
+interrupts = 8
 [[region]]
 base = 0x10000000
 size = 0x8000
@@ -60,7 +61,7 @@ def system_name(address):
 
 
 class Board:
-    """Of a board file what is asked here: the vector tables, the profile, and where there is memory."""
+    """Of a board file what is asked here: the vector tables, the profile, how many interrupts, and where there is memory."""
 
     def __init__(self, text):
         keys = {}
@@ -70,6 +71,7 @@ class Board:
                 keys.setdefault(found[1], []).append(found[2].strip('"'))
         self.vtor = {side: int(keys[f"{name}_vtor"][0], 0) for side, name in ((SECURE, "secure"), (NONSECURE, "nonsecure"))}
         self.clears = keys.get("profile", ["v8.0"])[0] == "v8.1"
+        self.interrupts = int(keys["interrupts"][0], 0)
         # The bases of `[[sau]]` have no size beside them.
         regions = re.split(r"\[\[region\]\]", text)[1:]
         self.regions = [(number_in(it, "base"), number_in(it, "size")) for it in regions]

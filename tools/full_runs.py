@@ -3,6 +3,7 @@
 import collections
 import os
 import pathlib
+import random
 
 from case_rows import decimal, lists_of, unescaped, words_of
 from full_lines import INDENT
@@ -12,6 +13,8 @@ from full_system import System
 
 TOP = pathlib.Path(__file__).resolve().parent.parent
 MOST_STEPS, LIMIT = 20_000, 9_999_999
+# Of a run with events of its own: steps behind the last one of the run, and how many at most.
+MORE_STEPS, MOST_WITH_EVENTS = 300, 3_000
 
 
 class Command(collections.namedtuple("Command", "folder board images script steps")):
@@ -71,6 +74,21 @@ def all_runs(folder):
     for run in runs:
         found[run[:-1]] = max(run.steps, found.get(run[:-1], 0))
     return [Command(*key, steps) for key, steps in found.items() if steps]
+
+
+def with_events(run, folder, seed):
+    """A run with events of its own in place of its script: interrupts and NMI in a row of steps, by a seed."""
+    chosen = random.Random(f"{seed} {run.words(run.steps)}")
+    count = demo_or_file(run.folder, run.board).interrupts
+    steps = min(run.steps + MORE_STEPS, MOST_WITH_EVENTS)
+    lines = []
+    for step in range(chosen.randrange(1, 10), steps, chosen.choice((3, 7, 11, 23, 40))):
+        for _ in range(chosen.choice((1, 1, 2))):
+            is_interrupt = count and chosen.random() > 0.15
+            lines.append(f"{step} irq {chosen.randrange(count)}\n" if is_interrupt else f"{step} nmi\n")
+    path = folder / f"{seed}.{len(list(folder.iterdir()))}.txt"
+    path.write_text("".join(lines), encoding="ascii")
+    return run._replace(script=str(path), steps=steps)
 
 
 def events_of(text):

@@ -19,6 +19,7 @@ RAN = re.compile(rf"([0-9a-f]{{8}}) ([0-9a-f]{{4,8}}) (.*?)((?: (?:{CHANGE}))*)"
 REGISTER = re.compile(r"(r\d+|sp|lr|apsr)=([0-9a-f]{8})")
 STORE = re.compile(r"\[([0-9a-f]{8})\]\.([124])=([0-9a-f]{8})")
 WRITE = re.compile(r"msr (\w+), (\w+)")
+MASK = re.compile(r"cpsi([de]) ([if]+)")
 LETTERS = {"s": SECURE, "n": NONSECURE}
 SIZES = {1: "byte", 2: "half", 4: "word"}
 # Kinds of which a step may have several lines.
@@ -182,6 +183,8 @@ class Run(Entries):
         found = WRITE.fullmatch(text)
         if found:
             self.write(found[1], core.get(found[2]))
+        elif MASK.fullmatch(text):
+            self.mask(*MASK.fullmatch(text).groups())
         elif text == "wfi":
             core.sleep = "wfi"
         elif text == "sev":
@@ -191,7 +194,7 @@ class Run(Entries):
             core.event = 0 if core.event else core.event
 
     def write(self, name, value):
-        """MSR, but for the flags, which a line lists, and the masks."""
+        """MSR, but for the flags, which a line lists."""
         core, side = self.core, self.core.side
         if name.endswith("_ns"):
             if side == NONSECURE:
@@ -205,9 +208,18 @@ class Run(Entries):
             self.set_sp(side, name == "psp", value)
         elif name in ("msplim", "psplim"):
             core.limit[side, name == "psplim"] = None if value is None else value & ~7
+        elif name in ("primask", "basepri", "basepri_max", "faultmask"):
+            self.system.mask(name, side, value)
         elif name == "control":
             core.npriv[side] = None if value is None else bool(value & 1)
             core.spsel[side] = None if value is None else bool(value & 2)
+
+    def mask(self, change, masks):
+        """CPS."""
+        core = self.core
+        if not (core.ipsr == 0 and core.npriv[core.side]):
+            for letter in masks:
+                self.system.mask({"i": "primask", "f": "faultmask"}[letter], core.side, int(change == "d"))
 
     def set_sp(self, side, process, value):
         """A stack pointer that is written; the one in use is listed."""
@@ -283,6 +295,7 @@ class Run(Entries):
         self.value_facts(value)
         es = bit(value, 0) if core.side == SECURE else 0
         core.spsel[SECURE if es else NONSECURE] = bool(bit(value, 2))
+        self.system.end(core.ipsr, SECURE if es else NONSECURE)
         side = SECURE if bit(value, 6) else NONSECURE
         process = core.process(side, bool(bit(value, 3)))
         base = None if process is None else core.sp[side, bool(process)]

@@ -122,6 +122,9 @@ class System:
         self.priorities, self.enables, self.interrupt_sides = {}, {}, {}
         self.groups = {side: 0 for side in SIDES}
         self.pris, self.is_swapped = 0, 0
+        # What is active, with its side, and the masks of both sides by their names.
+        self.active = set()
+        self.masks = {name: {side: 0 for side in SIDES} for name in ("primask", "basepri", "faultmask")}
         self.status = Status()
         # Exceptions that may pend, by number.
         self.pending = set()
@@ -136,8 +139,53 @@ class System:
         return told
 
     def enabled(self, number, side):
-        """Whether a fault's exception is enabled."""
-        return self.enables.get((number, side), False)
+        """Whether an exception that a fault raises is enabled."""
+        return number not in ENABLES or self.enables.get((number, side), False)
+
+    def outcome(self, number, side):
+        """What becomes of an exception that a fault raises: itself, HardFault in its place, or a lockup."""
+        execution = self.execution()
+        if self.enabled(number, side) and self.priority(number, side) < execution:
+            return "itself"
+        return "HardFault" if self.priority(3, side if self.is_swapped else SECURE) < execution else "lockup"
+
+    def mask(self, name, side, value):
+        """A write of a mask; FAULTMASK is set below priority -1 alone."""
+        if value is None:
+            return
+        if name == "basepri_max":
+            old = self.masks["basepri"][side]
+            if value & 0xFF and (value & 0xFF < old or not old):
+                self.masks["basepri"][side] = value & 0xFF
+        elif name != "faultmask" or not value & 1 or self.execution() > -1:
+            self.masks[name][side] = value & (0xFF if name == "basepri" else 1)
+
+    def execution(self):
+        """The execution priority."""
+        active = [self.priority(*it) for it in self.active]
+        return min([256, *active, *(self.masked(side) for side in SIDES)])
+
+    def masked(self, side):
+        """What the masks of a side count as."""
+        first = 0x80 if side == NONSECURE and self.pris else 0
+        base = self.masks["basepri"][side]
+        found = [256, self.grouped(base, side) if base else 256]
+        if self.masks["primask"][side]:
+            found.append(first)
+        if self.masks["faultmask"][side]:
+            found.append((-3 if self.is_swapped else -1) if side == SECURE else -1 if self.is_swapped else first)
+        return min(found)
+
+    def end(self, number, side):
+        """A return from an exception, by a value with ES of this side: what isn't active any more, and FAULTMASK."""
+        raw = min([256, *(self.priority(*it) for it in self.active)])
+        if raw < 0:
+            ended = [it for it in self.active if it[0] in (2, 3) and self.priority(*it) == raw]
+            self.active -= set(sorted(ended, key=lambda it: it[1] != SECURE)[:1])
+            return
+        self.active = {it for it in self.active if it[0] != number or number in BANKED and it[1] != side}
+        if number != 2:
+            self.masks["faultmask"][side] = 0
 
     def store(self, side, address, size, value):
         """A store of code of a side."""
@@ -212,5 +260,9 @@ class System:
             return -2
         if number == 3:
             return -3 if side == SECURE and self.is_swapped else -1
-        group = self.priorities.get((number, side if number in BANKED else None), 0) & ~((2 << self.groups[side]) - 1)
+        return self.grouped(self.priorities.get((number, side if number in BANKED else None), 0), side)
+
+    def grouped(self, priority, side):
+        """A priority without its subpriority, as it counts."""
+        group = priority & ~((2 << self.groups[side]) - 1)
         return 0x80 + (group >> 1) if side == NONSECURE and self.pris else group

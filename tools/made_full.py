@@ -124,9 +124,8 @@ SLEPT = (b"10000000 0010003041000010\n1000003c 81000010\n10000060 10e000e0\n", "
 """)
 TRACES = [CROSSED, REFUSED, LIMITED, SLEPT]
 
-# Fields of which nothing at their own step tells: which fault of an exception it was, which later loads of status registers do
-# tell, and the priority at which a core locks.
-UNKNOWN = {("fault", "fault"), ("fault", "address"), ("lockup", "priority"), ("lockup", "nor")}
+# Fields of which nothing at their own step tells: which fault of an exception it was. Later loads of status registers do.
+UNKNOWN = {("fault", "fault"), ("fault", "address")}
 
 
 def verdict_on(image, script, text):
