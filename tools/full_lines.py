@@ -26,7 +26,7 @@ def values(names):
 PARTS = named(
     address=WORD, base=WORD, value=f"{WORD}|-{{8}}", word=WORD, second=WORD, side=SIDE, of=SIDE, mode=MODE, stack=f"[MP]SP_{SIDE}",
     limit=f"[MP]SPLIM_{SIDE}", bound=WORD, name=EXCEPTION, other=EXCEPTION, system=SYSTEM, number="[0-9]+", priority="-?[0-9]+",
-    size="byte|half|word", es="[01]", s="[01]", dcrs="[01]", pointer="[MP]SP",
+    size="byte|half|word", es="[01]", s="[01]", dcrs="[01]", spsel="[01]",
     back=f"{WORD}|-{{8}}", ipsr="[0-9]+|-{8}", t="[01]", flags=WORD, it="[0-9a-f]{2}", pc=WORD)
 
 CALL_FRAME = "call frame {base}: return address {back}, IPSR {ipsr}"
@@ -46,7 +46,7 @@ FORMS = [
     ("gateway", WAYS, "SG from {address}: Secure code goes on at {pc}"),
     ("call", WAYS, CALL_FRAME),
     ("function", WAYS, f"FNC_RETURN {{word}}(?:: {CALL_FRAME})?"),
-    ("return", WAYS, "EXC_RETURN {word}: ES {es} S {s} DCRS {dcrs} {mode} {pointer}"),
+    ("return", WAYS, "EXC_RETURN {word}: ES {es} S {s} DCRS {dcrs} {mode} SPSEL {spsel}"),
     ("from additional", WAYS, f"from {ADDITIONAL}"),
     ("from", WAYS, f"from {FRAME}"),
     ("onward", WAYS, "goes on at {pc} {side} {mode}"),
