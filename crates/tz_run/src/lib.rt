@@ -1,4 +1,4 @@
-//! The run: steps of a machine, each shown as a line or made in silence.
+//! The run: steps of a machine, each shown as a line, made in silence or tallied, and jobs to run.
 //!
 //! Each line goes out as one put as soon as its step is done, and what goes out is exactly the lines of
 //! the steps from the machine's state on. It takes no memory, and knows nothing of where bytes go.
@@ -13,6 +13,12 @@ ghost use Rattle.tz_text.specs.Line.{line};
 ghost use Rattle.tz_twin.specs.Trace.{text_from};
 ghost use Rattle.tz_run.specs.Events.{events_of};
 
+mod images;
+mod job;
+mod tally;
+
+pub use job::{Job, make_job};
+pub use tally::{Tally, make_tally};
 use std::marker::Brand;
 use std::sync::ledger::{Blank, Ledger};
 use tz_board::Script;
