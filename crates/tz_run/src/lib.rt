@@ -18,9 +18,9 @@ mod job;
 mod tally;
 
 pub use job::{Job, make_job};
-pub use tally::{Tally, make_tally};
 use std::marker::Brand;
 use std::sync::ledger::{Blank, Ledger};
+pub use tally::{Tally, make_tally};
 use tz_board::Script;
 use tz_core::Machine;
 use tz_model::{Report, Sink, SinkError, View};
