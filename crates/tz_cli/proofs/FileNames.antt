@@ -17,7 +17,7 @@ use Rattle.tz_cli.specs.declared.words.show.Next.{Next as NextWord}
 use Rattle.tz_cli.specs.declared.words.show.Next.TheVariants as nexts
 use Rattle.tz_cli.specs.ShowWords.{ShowWords, SavedWords, ShowParts, no_parts, option_named, with_range, with_state, with_option, with_any, with_next, with_word, with_words, show_names, saved_names}
 use Rattle.tz_cli.specs.ShowWords as shown
-use Rattle.tz_cli.specs.Run.{start_of, view_of}
+use Rattle.tz_cli.specs.Run.{view_of}
 use Rattle.tz_cli.specs.Resume.{ResumeWords, resume_behind, resume_names, resume_parts, resume_with}
 use Rattle.tz_cli.specs.Pair.{PairWords, pair_behind, pair_names, pair_parts, pair_with}
 use Rattle.tz_cli.specs.Asm.{AsmWords, asm_behind, asm_names, asm_parts, asm_with, form_of}
@@ -160,9 +160,9 @@ longest_last (w ∷ words) word = let l = longest_last words word in omega (arit
 abbrev named : ShowParts → ℕ
 named p = max (longest p.positionals) (length (unwrap_or p.state []))
 
-abbrev Named : ℕ → Option ShowParts → Type 0
-Named n None = Unit {0}
-Named n (Some p) = named p ≤ n
+abbrev NamedIn : ℕ → Option ShowParts → Type 0
+NamedIn n None = Unit {0}
+NamedIn n (Some p) = named p ≤ n
 
 -- the value of an option is no longer than its word
 abbrev Shorter : ℕ → Option Text → Type 0
@@ -180,48 +180,49 @@ cut_shorter word n l = by_test (list_any (λ x. x == 61) word)
     by_test false = tt
 
 module _ (n : ℕ) (p : ShowParts) (before : named p ≤ n) where
-  named_range : (range : Option Range) → Named n (with_range range p)
+  named_range : (range : Option Range) → NamedIn n (with_range range p)
   named_range None = tt
   named_range (Some range) = before
 
-  named_state : (state : Option Text) (file : Text) → length file ≤ n → Named n (with_state state file p)
+  named_state : (state : Option Text) (file : Text) → length file ≤ n → NamedIn n (with_state state file p)
   named_state None file l = omega (arith, before, l)
   named_state (Some other) file l = tt
 
-  named_value : (option : ShowOption) (value : Text) → length value ≤ n → Named n (shown.with_value option value p)
+  named_value : (option : ShowOption) (value : Text) → length value ≤ n → NamedIn n (shown.with_value option value p)
   named_value options.Memory value l = named_range (range_of value)
   named_value options.State value l = named_state p.state value l
 
-  named_option : (option : Option ShowOption) (value : Option Text) → Shorter n value → Named n (with_option option value p)
+  named_option : (option : Option ShowOption) (value : Option Text) → Shorter n value → NamedIn n (with_option option value p)
   named_option None value l = tt
   named_option (Some option) None l = before
   named_option (Some option) (Some value) l = named_value option value l
 
-  named_positional : (word : Text) → length word ≤ n → Named n (Some (shown.with_positional word p))
+  named_positional : (word : Text) → length word ≤ n → NamedIn n (Some (shown.with_positional word p))
   named_positional word l = let last = longest_last p.positionals word in omega (arith, last, before, l)
 
-  named_any : (word : Text) → length word ≤ n → Named n (with_any word p)
+  named_any : (word : Text) → length word ≤ n → NamedIn n (with_any word p)
   named_any word l = by_end (bytes_eq word (codes "--")) (is_hyphened word)
     where
-      by_end : (ends hyphened : Bool) → Named n (cond ends (Some (record p { next = nexts.NoOption }))
+      by_end : (ends hyphened : Bool) → NamedIn n (cond ends (Some (record p { next = nexts.NoOption }))
           (cond hyphened (with_option (option_named (cut_at 61 word).0) (cut_at 61 word).1 p) (Some (shown.with_positional word p))))
       by_end true hyphened = before
       by_end false true = named_option (option_named (cut_at 61 word).0) (cut_at 61 word).1 (cut_shorter word n l)
       by_end false false = named_positional word l
 
-  named_next : (next : NextWord) (word : Text) → length word ≤ n → Named n (with_next next word p)
+  named_next : (next : NextWord) (word : Text) → length word ≤ n → NamedIn n (with_next next word p)
   named_next nexts.AnyWord word l = named_any word l
   named_next (nexts.ItsValue option) word l = named_value option word l
   named_next nexts.NoOption word l = named_positional word l
 
-named_words : (n : ℕ) (words : List Text) (p : ShowParts) → named p ≤ n → longest words ≤ n → Named n (with_words words p)
+named_then : (n : ℕ) (words : List Text) (o : Option ShowParts) → NamedIn n o → ((q : ShowParts) → named q ≤ n → NamedIn n (with_words words q)) → NamedIn n (option_and_then (with_words words) o)
+named_then n words None h go = tt
+named_then n words (Some q) h go = go q h
+
+named_words : (n : ℕ) (words : List Text) (p : ShowParts) → named p ≤ n → longest words ≤ n → NamedIn n (with_words words p)
 unfolding with_word
 named_words n [] p before l = before
-named_words n (word ∷ words) p before l = on (with_word word p) (named_next n p before p.next word (omega (arith, l)))
-  where
-    on : (o : Option ShowParts) → Named n o → Named n (option_and_then (with_words words) o)
-    on None h = tt
-    on (Some q) h = named_words n words q h (omega (arith, l))
+named_words n (word ∷ words) p before l =
+    named_then n words (with_word word p) (named_next n p before p.next word (omega (arith, l))) (λ q h. named_words n words q h (omega (arith, l)))
 
 show_in : (state : Option Text) (words : List Text) (ranges : List Range) (command : Command) → show_with state words ranges ≡ Some command
     → longest (names_of command) ≤ max (longest words) (length (unwrap_or state []))
@@ -242,7 +243,7 @@ shown_next nexts.NoOption p command e = show_in p.state p.positionals p.ranges c
 show_within : (words : List Text) (command : Command) → show_behind words ≡ Some command → longest (names_of command) ≤ longest words
 show_within words command e = by_parts_of (with_words words no_parts) (named_words (longest words) words no_parts (omega arith) (omega arith)) e
   where
-    by_parts_of : (o : Option ShowParts) → Named (longest words) o → option_and_then show_parts o ≡ Some command → longest (names_of command) ≤ longest words
+    by_parts_of : (o : Option ShowParts) → NamedIn (longest words) o → option_and_then show_parts o ≡ Some command → longest (names_of command) ≤ longest words
     by_parts_of None h e = absurd (cc)
     by_parts_of (Some p) h e = let l = shown_next p.next p command e in omega (arith, l, h)
 

@@ -15,7 +15,6 @@ use Rattle.tz_gates.specs.Gates.{gates_of}
 use Rattle.tz_gates.specs.Entries.{entries_at, other_entries}
 use Rattle.tz_gates.specs.GatesText.{gates_text}
 use Rattle.tz_snap.specs.StateFile.{SavedState, file_of}
-use Rattle.tz_show.specs.declared.memory.Range.{Range}
 use Rattle.tz_show.specs.Page.{page}
 use Rattle.tz_cli.specs.ShowWords.{ShowWords, SavedWords}
 use Rattle.tz_cli.specs.Resume.{ResumeWords}

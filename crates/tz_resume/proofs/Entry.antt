@@ -14,6 +14,7 @@ use Rattle.tz_regs.specs.Banks.{secure_after}
 use Rattle.tz_regs.specs.Registers.{sp_of}
 use Rattle.tz_state.specs.Priority.{chosen}
 use Rattle.tz_state.specs.Slots.{ExceptionsValue}
+use Rattle.tz_frames.specs.declared.entering.FrameFault.{FrameFault}
 use Rattle.tz_frames.specs.declared.entering.Entering.{Entering}
 use Rattle.tz_frames.specs.declared.entering.Entered.TheVariants as entered
 use Rattle.tz_frames.specs.declared.frame.StackFault.{StackFault}
@@ -55,7 +56,7 @@ alike c c' s r f process privileged = go (nat_lt base (splim_of process s)) wher
 
 -- the end of an entry that takes a Non-secure exception
 abbrev pub Ends : Stacks → Framed → Done Framed → Type 0
-Ends s h d = (given : Slot) (touched : Bool) → d.result ≡ entered.Taken given touched → is_nonsecure_side d.core.run.side ≡ true → (d.core.stacks_s ≡ s) × (d.held ≡ h)
+Ends s h d = (given : Slot) (x : Entering) → d.result ≡ entered.Taken given x → is_nonsecure_side d.core.run.side ≡ true → (d.core.stacks_s ≡ s) × (d.held ≡ h)
 
 -- both frames are written
 record Written (s : Stacks) (h : Framed) (w : Work Framed) : Type 0 where
@@ -117,10 +118,10 @@ vectored_unwritten profile c f thread s h again w given is_secure induction k = 
 
 -- ---- a choice
 
-none_faulted : (profile : Profile) (w : Work Framed) (given : Slot) (faulted : Bool) (x : Option StackFault) → x ≡ None → stacked_by framed profile w given faulted x ≡ vectored framed profile w given
-none_faulted profile w given true None e = refl
-none_faulted profile w given false None e = refl
-none_faulted profile w given faulted (Some fault) e = cc
+none_faulted : (profile : Profile) (w : Work Framed) (given : Slot) (first : Option FrameFault) (x : Option StackFault) → x ≡ None → stacked_by framed profile w given first x ≡ vectored framed profile w given
+none_faulted profile w given (Some first) None e = refl
+none_faulted profile w given None None e = refl
+none_faulted profile w given first (Some fault) e = cc
 
 and_no : (p : Bool) → (p && false) ≡ false
 and_no true = refl
@@ -178,7 +179,7 @@ taking_unwritten profile c f x again w given none later same k = by (is_nonsecur
 
   frame : Comes s h again (stacked framed profile w given p)
   frame =
-      subst (λ (d : Chosen Framed). Comes s h again d) (sym (none_faulted profile w1 given w.entry.faulted p.fault (a.fault ∙ none)))
+      subst (λ (d : Chosen Framed). Comes s h again d) (sym (none_faulted profile w1 given w.entry.frame p.fault (a.fault ∙ none)))
       (vectored_written profile s h again w1 given later (record { stacks = a.stacks; held = a.held; skip = refl }))
 
   by : (t : Bool) → is_nonsecure_side given.side ≡ t → Comes s h again (cond (falls w.entry given && not w.entry.skip) (stacked framed profile w given p) (vectored framed profile w2 given))

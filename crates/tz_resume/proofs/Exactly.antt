@@ -10,7 +10,7 @@ use Rattle.tz_frames.specs.Enter.{enters}
 use Rattle.tz_frames.specs.Leave.{leaves}
 use Rattle.tz_resume.specs.Words.{SameBytes}
 use Rattle.tz_resume.specs.Resumption.{process_of, frames_at, both_pushed, Takes, GoesOn}
-use Rattle.tz_resume.specs.Exact.{IsPreempted, IsTakenBack, returning, leaver, left_at}
+use Rattle.tz_resume.specs.Entries.{IsPreempted, IsTakenBack, returning, leaver, left_at}
 use Rattle.tz_resume.proofs.Resuming.{frames_give_back}
 use Rattle.tz_resume.proofs.Entry.{entry_leaves}
 use Rattle.tz_resume.proofs.Return.{leaves_went}
@@ -22,7 +22,7 @@ pub entries_resume : (profile : Profile) (c : Core) (e : ExceptionsValue) (f : F
 entries_resume profile c e f back p profile' later e' g value t =
     let d = enters framed profile c e f back in
     let s = p.stacked in
-    let ends = entry_leaves profile c e f back s.secure s.basic s.additional p.given p.touched p.taken p.nonsecure in
+    let ends = entry_leaves profile c e f back s.secure s.basic s.additional p.given p.entering p.taken p.nonsecure in
     let at : left_at c d ≡ frames_at c f back = ap (λ (own : Stacks). sp_of (process_of c) own) ends.0 in
     let went = leaves_went profile' later e' g value t.touched t.resumed in
     let bytes : SameBytes (frames_at c f back) 72 (both_pushed c f back).held.bus.memory g.bus.memory =

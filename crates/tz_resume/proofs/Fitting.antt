@@ -1,5 +1,5 @@
 -- Each step keeps the number of the exception within 9 bits.
-use Rattle.std.proofs.Common.{ℕ, ◌+◌, ◌%◌, Bool, true, false, ◌&&◌, ◌||◌, not, cond, List, [], Result, Ok, Err, sym}
+use Rattle.std.proofs.Common.{ℕ, ◌+◌, ◌%◌, Bool, true, false, ◌&&◌, ◌||◌, not, cond, List, [], None, Result, Ok, Err, sym}
 use Rattle.std.specs.Prelude.{nat_lt}
 use Rattle.tz_table.specs.declared.units.Side.TheVariants.{Secure}
 use Rattle.tz_table.specs.declared.units.Code.{Code}
@@ -79,19 +79,19 @@ unfolding faults
 faults_fit s course fault k = by (faulted s.core.run.side fault s.core s.exceptions) (faulted_numbered s.core.run.side fault s.core s.exceptions k) where
   by : (r : Raised) → IsNumbered r.core → Passes (after_raise s course fault r)
   by r k' = locked r.locks where
-    locked : (t : Bool) → Passes (cond t (locks (state_of r.core r.exceptions s.bus) course.touched) (preempted (state_of (passed_by fault r.core) r.exceptions s.bus) course (goes_on_at fault s.core.registers.pc)))
+    locked : (t : Bool) → Passes (cond t (locks (state_of r.core r.exceptions s.bus) course.touched None) (preempted (state_of (passed_by fault r.core) r.exceptions s.bus) course (goes_on_at fault s.core.registers.pc)))
     locked true = k'
     locked false = entry_fits (state_of (passed_by fault r.core) r.exceptions s.bus) course (goes_on_at fault s.core.registers.pc) (passed_fits fault r.core k')
 
 return_fits : (s : State) (course : Course) (code : Code) (value : ℕ) → IsNumbered s.core → Passes (returns s course code value)
 unfolding returns
 return_fits s course code value k = by (leaves framed s.bus.board.profile s.core s.exceptions (framed_in course.negative s) value) (leaves_numbered s.bus.board.profile s.core s.exceptions (framed_in course.negative s) value k) where
-  by : (l : Leaving Framed) → IsNumbered l.core → Passes (after_return course code l)
+  by : (l : Leaving Framed) → IsNumbered l.core → Passes (after_return course code value l)
   by l k' = result l.result where
-    result : (x : Left) → Passes (left_by (state_of l.core l.exceptions l.held.bus) course code x)
+    result : (x : Left) → Passes (left_by (state_of l.core l.exceptions l.held.bus) course code value x)
     result (lefts.Resumed touched) = k'
-    result (lefts.Chained given touched) = k'
-    result (lefts.Lockup touched) = k'
+    result (lefts.Chained given refused y) = k'
+    result (lefts.Lockup refused y) = k'
 
 -- ---- exchanges
 
@@ -125,7 +125,7 @@ exchanged_fits before s past course code target ns k k' = by (is_fnc_return targ
   f : Framed
   f = framed_in course.negative s
 
-  by : (t u : Bool) → Passes (cond t (comes_back before s course code) (cond u (returns past course code target) (moves_to past course code target ns)))
+  by : (t u : Bool) → Passes (cond t (comes_back before s course code target) (cond u (returns past course code target) (moves_to past course code target ns)))
   by true u = back_fits before s (touching course) code (function_returned framed s.core f) k
       (first_fits s.core (framed f (SecureLoad (return_base s.core))).1 (framed f (SecureLoad (wrap (return_base s.core + 4)))).1)
   by false true = return_fits past course code target k'
@@ -208,7 +208,7 @@ sleep_fits Wfe s k = by (s.core.event || is_woken s) where
 ended_fits : (s : State) → IsNumbered s.core → Ends (ended s)
 unfolding ended
 ended_fits s k = by s.core.run.locked (takes_first s.exceptions s.core.masks) where
-  by : (t u : Bool) → Ends (cond t (with_stores [] (locks s true)) (cond u (takes_exception s) (by_sleep s.core.run.sleep s)))
+  by : (t u : Bool) → Ends (cond t (with_stores [] (locks s true None)) (cond u (takes_exception s) (by_sleep s.core.run.sleep s)))
   by true u = k
   by false true = entry_fits (awake s) (course_in s (is_secure s.core.run.side)) s.core.registers.pc k
   by false false = sleep_fits s.core.run.sleep s k

@@ -19,7 +19,10 @@ use Rattle.tz_state.specs.Execution.{takes_first}
 use Rattle.tz_state.specs.Escalation.{escalated}
 use Rattle.tz_frames.specs.declared.frame.StackFault.{StackFault}
 use Rattle.tz_frames.specs.declared.frame.StackFault.TheVariants.{Limit}
+use Rattle.tz_frames.specs.declared.entering.FrameFault.{FrameFault}
 use Rattle.tz_frames.specs.declared.entering.Entering.{Entering}
+use Rattle.tz_frames.specs.declared.leaving.Refusal.{Refusal}
+use Rattle.tz_frames.specs.declared.leaving.Refusal.TheVariants.{Value, Frame, Mode}
 use Rattle.tz_frames.specs.declared.leaving.Returning.{Returning}
 use Rattle.tz_frames.specs.declared.leaving.Unstacked.{Unstacked}
 use Rattle.tz_frames.specs.declared.leaving.Left.TheVariants as lefts
@@ -27,7 +30,7 @@ use Rattle.tz_frames.specs.FrameAccess.{Vector}
 use Rattle.tz_frames.specs.Machine.{Framed, framed}
 use Rattle.tz_frames.specs.Status.{Raised, raised_as, faulted, frame_faulted, with_status, status_after, frame_status, exception_of, frame_exception}
 use Rattle.tz_frames.specs.Stack.{Pushed, pushed, pushed_with, pushed_basic, pushed_additional, with_side_sp, splim_of, written}
-use Rattle.tz_frames.specs.Enter.{Work, Chosen, Done, goes_on, locked_up, with_lock, tries, chooses, choosing, choosing_from, taking, falls, stacked, stacked_by, after_raise, raised_choice, fallen, vector_touched, vectored, vectored_by, vector_failed, vector_choice, can_harden, callee_process, callee_privileged, interrupted, enters, begins}
+use Rattle.tz_frames.specs.Enter.{Work, Chosen, Done, goes_on, locked_up, with_lock, tries, chooses, choosing, choosing_from, taking, falls, stacked, stacked_by, after_raise, raised_choice, fallen, without_frame, vector_touched, vectored, vectored_by, vector_failed, vector_choice, can_harden, callee_process, callee_privileged, interrupted, enters, begins}
 use Rattle.tz_frames.specs.Leave.{chaining, chained, chained_raised, unstacked, resumed, modes_agree, resumes, goes_back, leaves_noting, leaves, exc_return_fault, freed, slot_returning, returning_by, unhandled, side_of_bit}
 use Rattle.tz_resume.specs.Number.{IsNumbered}
 
@@ -119,17 +122,17 @@ vectored_numbered profile again w given keeps small k = go (framed w.held (Vecto
   go (Ok vector) = small
   go (Err fault) = harden (can_harden x.core x.exceptions given)
 
-stacked_numbered : (profile : Profile) (again : Work Framed → Done Framed) (w : Work Framed) (given : Slot) (faulted : Bool) (o : Option StackFault) → Keeps again → given.number < 2 ^ 9 → IsNumbered w.core
-    → After again (stacked_by framed profile w given faulted o)
-stacked_numbered profile again w given false (Some fault) keeps small k = by (frame_faulted true Secure fault w.core w.exceptions) (frame_numbered true Secure fault w.core w.exceptions k) where
-  by : (r : Raised) → IsNumbered r.core → After again (after_raise w.held w.entry r)
+stacked_numbered : (profile : Profile) (again : Work Framed → Done Framed) (w : Work Framed) (given : Slot) (first : Option FrameFault) (o : Option StackFault) → Keeps again → given.number < 2 ^ 9 → IsNumbered w.core
+    → After again (stacked_by framed profile w given first o)
+stacked_numbered profile again w given None (Some fault) keeps small k = by (frame_faulted true Secure fault w.core w.exceptions) (frame_numbered true Secure fault w.core w.exceptions k) where
+  by : (r : Raised) → IsNumbered r.core → After again (after_raise w.held (without_frame w.entry true fault) r)
   by r k' = locks r.locks where
-    locks : (t : Bool) → IsNumbered (goes_on again (after_raise w.held w.entry r).work (raised_choice t)).core
+    locks : (t : Bool) → IsNumbered (goes_on again (after_raise w.held (without_frame w.entry true fault) r).work (raised_choice t)).core
     locks true = k'
-    locks false = keeps (after_raise w.held w.entry r).work k'
-stacked_numbered profile again w given true (Some fault) keeps small k = vectored_numbered profile again w given keeps small k
-stacked_numbered profile again w given true None keeps small k = vectored_numbered profile again w given keeps small k
-stacked_numbered profile again w given false None keeps small k = vectored_numbered profile again w given keeps small k
+    locks false = keeps (after_raise w.held (without_frame w.entry true fault) r).work k'
+stacked_numbered profile again w given (Some first) (Some fault) keeps small k = vectored_numbered profile again w given keeps small k
+stacked_numbered profile again w given (Some first) None keeps small k = vectored_numbered profile again w given keeps small k
+stacked_numbered profile again w given None None keeps small k = vectored_numbered profile again w given keeps small k
 
 taking_numbered : (profile : Profile) (again : Work Framed → Done Framed) (w : Work Framed) (given : Slot) → Keeps again → given.number < 2 ^ 9 → IsNumbered w.core → After again (taking framed profile w given)
 unfolding taking
@@ -142,7 +145,7 @@ taking_numbered profile again w given keeps small k = by (falls w.entry given &&
 
   by : (t : Bool) → After again (cond t (stacked framed profile w given p) (vectored framed profile w2 given))
   by true =
-      stacked_numbered profile again (record w { core = p.core; held = p.held; entry = fallen w.entry }) given w.entry.faulted p.fault keeps small
+      stacked_numbered profile again (record w { core = p.core; held = p.held; entry = fallen w.entry }) given w.entry.frame p.fault keeps small
       (additional_numbered w.core w.held (callee_process w.core w.entry) (callee_privileged w.core w.entry) k)
   by false = vectored_numbered profile again w2 given keeps small k
 
@@ -167,46 +170,43 @@ enters_numbered profile c e h back k = by (pushed_basic framed c h back).fault w
   j : IsNumbered p.core
   j = basic_numbered c h back k
 
-  x : Entering
-  x = record (interrupted c) { faulted = true }
-
-  raised : (r : Raised) → IsNumbered r.core → (t : Bool)
+  raised : (x : Entering) (r : Raised) → IsNumbered r.core → (t : Bool)
       → IsNumbered (cond t (locked_up (record { core = r.core; exceptions = r.exceptions; held = p.held; entry = x })) (chooses framed profile (record { core = r.core; exceptions = r.exceptions; held = p.held; entry = x }))).core
-  raised r k' true = k'
-  raised r k' false = tries_numbered profile 4 (record { core = r.core; exceptions = r.exceptions; held = p.held; entry = x }) k'
+  raised x r k' true = k'
+  raised x r k' false = tries_numbered profile 4 (record { core = r.core; exceptions = r.exceptions; held = p.held; entry = x }) k'
 
   by : (o : Option StackFault) → IsNumbered (begins framed profile c.run.side e (interrupted c) p.core p.held o).core
   by None = tries_numbered profile 4 (record { core = p.core; exceptions = e; held = p.held; entry = interrupted c }) j
-  by (Some fault) = raised (frame_faulted true c.run.side fault p.core e) (frame_numbered true c.run.side fault p.core e j) (frame_faulted true c.run.side fault p.core e).locks
+  by (Some fault) = raised (without_frame (interrupted c) false fault) (frame_faulted true c.run.side fault p.core e) (frame_numbered true c.run.side fault p.core e j) (frame_faulted true c.run.side fault p.core e).locks
 
 -- ---- a return
 
-chained_numbered : (profile : Profile) (r : Returning) (t : Bool) (c : Core) (e : ExceptionsValue) (h : Framed) → IsNumbered c → IsNumbered (chained framed profile r t c e h).core
+chained_numbered : (profile : Profile) (r : Returning) (refused : Option Refusal) (t : Bool) (c : Core) (e : ExceptionsValue) (h : Framed) → IsNumbered c → IsNumbered (chained framed profile r refused t c e h).core
 unfolding chained
-chained_numbered profile r t c e h k = tries_numbered profile 4 (record { core = c; exceptions = e; held = h; entry = chaining r t }) k
+chained_numbered profile r refused t c e h k = tries_numbered profile 4 (record { core = c; exceptions = e; held = h; entry = chaining r t }) k
 
-raised_numbered : (profile : Profile) (r : Returning) (t : Bool) (h : Framed) (x : Raised) → IsNumbered x.core → IsNumbered (chained_raised framed profile r t h x).core
-raised_numbered profile r t h x k = by x.locks where
-  by : (locks : Bool) → IsNumbered (cond locks (record { core = with_lock x.core; exceptions = x.exceptions; held = h; result = lefts.Lockup t }) (chained framed profile r t x.core x.exceptions h)).core
+raised_numbered : (profile : Profile) (r : Returning) (refusal : Refusal) (t : Bool) (h : Framed) (x : Raised) → IsNumbered x.core → IsNumbered (chained_raised framed profile r refusal t h x).core
+raised_numbered profile r refusal t h x k = by x.locks where
+  by : (locks : Bool) → IsNumbered (cond locks (record { core = with_lock x.core; exceptions = x.exceptions; held = h; result = lefts.Lockup (Some refusal) (chaining r t) }) (chained framed profile r (Some refusal) t x.core x.exceptions h)).core
   by true = k
-  by false = chained_numbered profile r t x.core x.exceptions h k
+  by false = chained_numbered profile r (Some refusal) t x.core x.exceptions h k
 
 resumes_numbered : (profile : Profile) (r : Returning) (c : Core) (e : ExceptionsValue) (h : Framed) (o : Result Unstacked StackFault) → IsNumbered c → IsNumbered (resumes framed profile r c e h o).core
-resumes_numbered profile r c e h (Err fault) k = raised_numbered profile r r.secure h (frame_faulted false (side_of_bit r.secure) fault c e) (frame_numbered false (side_of_bit r.secure) fault c e k)
+resumes_numbered profile r c e h (Err fault) k = raised_numbered profile r (Frame fault) r.secure h (frame_faulted false (side_of_bit r.secure) fault c e) (frame_numbered false (side_of_bit r.secure) fault c e k)
 resumes_numbered profile r c e h (Ok u) k = by (modes_agree r u.basic) where
-  by : (t : Bool) → IsNumbered (cond t (record { core = resumed r u c; exceptions = e; held = h; result = lefts.Resumed r.secure }) (chained_raised framed profile r r.secure h (faulted (side_of_bit r.secure) (InvPc (side_of_bit r.secure)) c e))).core
+  by : (t : Bool) → IsNumbered (cond t (record { core = resumed r u c; exceptions = e; held = h; result = lefts.Resumed r.secure }) (chained_raised framed profile r (Mode (side_of_bit r.secure)) r.secure h (faulted (side_of_bit r.secure) (InvPc (side_of_bit r.secure)) c e))).core
   by true = omega arith
-  by false = raised_numbered profile r r.secure h (faulted (side_of_bit r.secure) (InvPc (side_of_bit r.secure)) c e) (faulted_numbered (side_of_bit r.secure) (InvPc (side_of_bit r.secure)) c e k)
+  by false = raised_numbered profile r (Mode (side_of_bit r.secure)) r.secure h (faulted (side_of_bit r.secure) (InvPc (side_of_bit r.secure)) c e) (faulted_numbered (side_of_bit r.secure) (InvPc (side_of_bit r.secure)) c e k)
 
 back_numbered : (profile : Profile) (r : Returning) (c : Core) (e : ExceptionsValue) (h : Framed) → IsNumbered c → IsNumbered (goes_back framed profile r c e h).core
 unfolding goes_back
 back_numbered profile r c e h k = by (takes_first e c.masks) where
-  by : (t : Bool) → IsNumbered (cond t (chained framed profile r false c e h) (resumes framed profile r c e h (unstacked framed c r h))).core
-  by true = chained_numbered profile r false c e h k
+  by : (t : Bool) → IsNumbered (cond t (chained framed profile r None false c e h) (resumes framed profile r c e h (unstacked framed c r h))).core
+  by true = chained_numbered profile r None false c e h k
   by false = resumes_numbered profile r c e h (unstacked framed c r h) k
 
 noting_numbered : (profile : Profile) (side : Side) (o : Option Fault) (r : Returning) (c : Core) (e : ExceptionsValue) (h : Framed) → IsNumbered c → IsNumbered (leaves_noting framed profile side o r c e h).core
-noting_numbered profile side (Some fault) r c e h k = raised_numbered profile r false h (faulted side fault c e) (faulted_numbered side fault c e k)
+noting_numbered profile side (Some fault) r c e h k = raised_numbered profile r (Value fault) false h (faulted side fault c e) (faulted_numbered side fault c e k)
 noting_numbered profile side None r c e h k = back_numbered profile r c e h k
 
 pub leaves_numbered : (profile : Profile) (c : Core) (e : ExceptionsValue) (h : Framed) (value : ℕ) → IsNumbered c → IsNumbered (leaves framed profile c e h value).core

@@ -12,6 +12,7 @@ use Rattle.tz_state.specs.Memory.{Memory}
 use Rattle.tz_regs.specs.Registers.{sp_of, uses_process}
 use Rattle.tz_regs.specs.declared.parts.Registers.{Registers}
 use Rattle.tz_regs.specs.declared.parts.Stacks.{Stacks}
+use Rattle.tz_frames.specs.declared.entering.Entering.{Entering}
 use Rattle.tz_frames.specs.declared.entering.Entered.{Entered}
 use Rattle.tz_frames.specs.declared.entering.Entered.TheVariants as entered
 use Rattle.tz_frames.specs.declared.leaving.Left.{Left}
@@ -26,7 +27,7 @@ use Rattle.tz_sem.specs.Taking.{state_of, framed_in, goes_on_at, taken_by, preem
 use Rattle.tz_sem.specs.Step.{started, ended, step}
 use Rattle.tz_resume.specs.Words.{SameBytes}
 use Rattle.tz_resume.specs.Resumption.{process_of, basic_pushed, IsSound, IsStacked, GoesOn}
-use Rattle.tz_resume.specs.Exact.{left_at, IsPreempted, IsTakenBack}
+use Rattle.tz_resume.specs.Entries.{left_at, IsPreempted, IsTakenBack}
 use Rattle.tz_resume.specs.Number.{IsNumbered}
 use Rattle.tz_resume.specs.Steps.{Preempts, IsTyped, Entry, AtCode, BehindCall, CallsBy, behind_call, IsPreemption, left_in, TakesBack, EntersBy, ReturnsBy}
 use Rattle.tz_resume.proofs.Exactly.{entries_resume}
@@ -37,15 +38,15 @@ use Rattle.tz_resume.proofs.Staying.{typed_started, calls_stay}
 -- what an entry that took an exception left
 record Took (d : Done Framed) (p : Passed) : Type 0 where
   given : Slot
-  touched : Bool
-  result : d.result ≡ entered.Taken given touched
+  entering : Entering
+  result : d.result ≡ entered.Taken given entering
   core : p.state.core ≡ d.core
   memory : p.state.bus.memory ≡ d.held.bus.memory
 
 took : (d : Done Framed) (course : Course) (x : Entered) → d.result ≡ x → (taken_by (state_of d.core d.exceptions d.held.bus) course x).ending.cause ≡ Taken
     → Took d (taken_by (state_of d.core d.exceptions d.held.bus) course x)
-took d course (entered.Taken given touched) is cause = record { given = given; touched = touched; result = is; core = refl; memory = refl }
-took d course (entered.Lockup touched) is cause = cc
+took d course (entered.Taken given x) is cause = record { given = given; entering = x; result = is; core = refl; memory = refl }
+took d course (entered.Lockup x) is cause = cc
 
 -- and what a return after which code goes on did
 record Back (l : Leaving Framed) (p : Passed) : Type 0 where
@@ -53,11 +54,11 @@ record Back (l : Leaving Framed) (p : Passed) : Type 0 where
   result : l.result ≡ lefts.Resumed touched
   core : p.state.core ≡ l.core
 
-came_back : (l : Leaving Framed) (course : Course) (code : Code) (x : Left) → l.result ≡ x → (left_by (state_of l.core l.exceptions l.held.bus) course code x).ending.cause ≡ Resumed
-    → Back l (left_by (state_of l.core l.exceptions l.held.bus) course code x)
-came_back l course code (lefts.Resumed touched) is cause = record { touched = touched; result = is; core = refl }
-came_back l course code (lefts.Chained given touched) is cause = cc
-came_back l course code (lefts.Lockup touched) is cause = cc
+came_back : (l : Leaving Framed) (course : Course) (code : Code) (value : ℕ) (x : Left) → l.result ≡ x → (left_by (state_of l.core l.exceptions l.held.bus) course code value x).ending.cause ≡ Resumed
+    → Back l (left_by (state_of l.core l.exceptions l.held.bus) course code value x)
+came_back l course code value (lefts.Resumed touched) is cause = record { touched = touched; result = is; core = refl }
+came_back l course code value (lefts.Chained given refused y) is cause = cc
+came_back l course code value (lefts.Lockup refused y) is cause = cc
 
 pub states_resume : (s : State) (course : Course) (back : ℕ) → Preempts s course back (preempted s course back)
     → (later : State) (course' : Course) (code : Code) (value : ℕ) → TakesBack (process_of s.core) (preempted s course back).state later value (returns later course' code value)
@@ -67,11 +68,11 @@ states_resume s course back k later course' code value t =
     let d = enters framed s.bus.board.profile s.core s.exceptions (framed_in course.negative s) back in
     let l = leaves framed later.bus.board.profile later.core later.exceptions (framed_in course'.negative later) value in
     let a = took d course d.result refl k.taken in
-    let b = came_back l course' code l.result refl t.resumed in
+    let b = came_back l course' code value l.result refl t.resumed in
     let before : IsPreempted s.core (framed_in course.negative s) back d = record {
       stacked = k.stacked;
       given = a.given;
-      touched = a.touched;
+      entering = a.entering;
       taken = a.result;
       nonsecure = ap (λ (c : Core). is_nonsecure_side c.run.side) (sym a.core) ∙ k.nonsecure;
     } in

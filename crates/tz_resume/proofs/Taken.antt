@@ -54,7 +54,7 @@ use Rattle.tz_sem.specs.System.{finish_system, probe_of}
 use Rattle.tz_regs.specs.Special.{named_of}
 use Rattle.tz_model.specs.Ports.{answers}
 use Rattle.tz_sem.specs.Exchange.{through_port, exchanged, comes_back, back_with, touching, core_back, moves_to, branch_ns, calls, called_with}
-use Rattle.tz_sem.specs.Taking.{taken_by, after_entry, after_raise, passed_by, goes_on_at, framed_in, state_of, locks, preempted, faults, returns}
+use Rattle.tz_sem.specs.Taking.{with_value, with_handling, taken_by, after_entry, after_raise, passed_by, goes_on_at, framed_in, state_of, locks, preempted, faults, returns}
 use Rattle.tz_sem.specs.Step.{past, length_of, fetch_in, fetcher_in, touches_secure, unready, is_woken, without_event, runs_gateway, ended, takes_exception, by_sleep, instructs, fetches, fetched, decoded, placed, executes, concludes, exchanges, faulting, skips, awake, course_in, idles}
 use Rattle.tz_resume.specs.Words.{IsWhole}
 use Rattle.tz_resume.proofs.Held.{executed_whole, calls_whole}
@@ -113,13 +113,13 @@ raised_keeps Lockup given s c e k = record { side = k.side; registers = k.regist
 
 -- the entry for a fault that goes on where it was
 raise_tells : (s x : State) (course : Course) (r : Raised) (e : Ended) (back : ℕ) → Keeps s r.core → Holds s x → back ≡ s.core.registers.pc
-    → let p = cond r.locks (locks (state_of r.core r.exceptions x.bus) course.touched) (preempted (state_of r.core r.exceptions x.bus) course back) in
+    → let p = cond r.locks (locks (state_of r.core r.exceptions x.bus) course.touched None) (preempted (state_of r.core r.exceptions x.bus) course back) in
     e.state ≡ p.state → e.ending.cause ≡ p.ending.cause → Tells s e
 raise_tells s x course r e back k w at = by r.locks where
   from : State
   from = state_of r.core r.exceptions x.bus
 
-  by : (t : Bool) → e.state ≡ (cond t (locks from course.touched) (preempted from course back)).state → e.ending.cause ≡ (cond t (locks from course.touched) (preempted from course back)).ending.cause → Tells s e
+  by : (t : Bool) → e.state ≡ (cond t (locks from course.touched None) (preempted from course back)).state → e.ending.cause ≡ (cond t (locks from course.touched None) (preempted from course back)).ending.cause → Tells s e
   by true state cause is = cc
   by false state cause is =
       ByEntry from course s.core.registers.pc
@@ -138,17 +138,18 @@ faulted_keeps s x fault k =
     raised_keeps (escalated x.exceptions c.masks (exception_of x.exceptions x.core.run.side fault)) (exception_of x.exceptions x.core.run.side fault) s c x.exceptions
     (record { side = k.side; registers = k.registers; stacks = k.stacks })
 
--- SVC is an entry behind itself
-call_tells : (s x : State) (course : Course) (stores : List Store) → Keeps s x.core → Quiet s x → HowEnded s (with_stores stores (faults x course Call))
-call_tells s x course stores k q =
+-- an end whose state and cause are those that a fault leaves; SVC is an entry behind itself
+ends_tell : (fault : Fault) (s x : State) (course : Course) (e : Ended) → Keeps s x.core → Holds s x → CallsQuiet fault s x → e.state ≡ (faults x course fault).state → e.ending.cause ≡ (faults x course fault).ending.cause
+    → Tells s e
+unfolding faults
+ends_tell Call s x course e k w q state cause is =
     ByEntry (behind_call x) course (goes_on_at Call x.core.registers.pc)
-    (BehindCall x (record { state = refl; cause = refl; side = k.side; masks = q.masks; exceptions = q.exceptions; first = q.first }) refl refl)
+    (BehindCall x (record { state = state; cause = cause; side = k.side; masks = q.masks; exceptions = q.exceptions; first = q.first }) refl refl)
+ends_tell fault s x course e k w q state cause is =
+    raise_tells s x course (faulted x.core.run.side fault x.core x.exceptions) e x.core.registers.pc (faulted_keeps s x fault k) w (ap (λ (r : Registers). r.pc) k.registers) state cause is
 
 faults_tell : (fault : Fault) (s x : State) (course : Course) (stores : List Store) → Keeps s x.core → Holds s x → CallsQuiet fault s x → Tells s (with_stores stores (faults x course fault))
-unfolding faults
-faults_tell Call s x course stores k w q e = call_tells s x course stores k q
-faults_tell fault s x course stores k w q e =
-    raise_tells s x course (faulted x.core.run.side fault x.core x.exceptions) (with_stores stores (faults x course fault)) x.core.registers.pc (faulted_keeps s x fault k) w (ap (λ (r : Registers). r.pc) k.registers) refl refl e
+faults_tell fault s x course stores k w q e = ends_tell fault s x course (with_stores stores (faults x course fault)) k w q refl refl e
 
 -- ---- an instruction that faulted left registers and the Secure stack
 
@@ -221,10 +222,12 @@ family_quiet System s x i q = system_quiet s x i q
 
 -- ---- exchanges
 
-back_tells : (s : State) (before : Core) (x : State) (course : Course) (code : Code) (stores : List Store) (o : Result Core Fault) → Keeps s before → Holds s x → Uncalled o → Tells s (with_stores stores (back_with before x course code o))
-back_tells s before x course code stores (Ok c) k w u e = cc
-back_tells s before x course code stores (Err fault) k w u e =
-    faults_tell fault s (with_core x (core_back before x.core)) course stores (record { side = k.side; registers = k.registers; stacks = k.stacks }) w (no_call fault s (with_core x (core_back before x.core)) u) e
+back_tells : (s : State) (before : Core) (x : State) (course : Course) (code : Code) (stores : List Store) (value : ℕ) (o : Result Core Fault) → Keeps s before → Holds s x → Uncalled o
+    → Tells s (with_stores stores (with_handling (with_value value) (back_with before x course code o)))
+back_tells s before x course code stores value (Ok c) k w u e = cc
+back_tells s before x course code stores value (Err fault) k w u e =
+    let y = with_core x (core_back before x.core) in
+    ends_tell fault s y course (with_stores stores (with_handling (with_value value) (faults y course fault))) (record { side = k.side; registers = k.registers; stacks = k.stacks }) w (no_call fault s y u) refl refl e
 
 moves_tell : (s x : State) (course : Course) (code : Code) (stores : List Store) (target : ℕ) (ns : Bool) → Tells s (with_stores stores (moves_to x course code target ns))
 moves_tell s x course code stores target false e = cc
@@ -237,8 +240,8 @@ exchanged_tells : (s : State) (before : Core) (x past : State) (course : Course)
     → Tells s (with_stores stores (exchanged before x past course code target ns))
 unfolding exchanged comes_back
 exchanged_tells s before x past course code stores target ns k w = by (is_fnc_return target) (is_handler x.core.registers.ipsr && is_exc_return target) where
-  by : (t u : Bool) → Tells s (with_stores stores (cond t (comes_back before x course code) (cond u (returns past course code target) (moves_to past course code target ns))))
-  by true u e = back_tells s before x (touching course) code stores (function_returned framed x.core (framed_in course.negative x)) k w (returned_uncalled x.core (framed_in course.negative x)) e
+  by : (t u : Bool) → Tells s (with_stores stores (cond t (comes_back before x course code target) (cond u (returns past course code target) (moves_to past course code target ns))))
+  by true u e = back_tells s before x (touching course) code stores target (function_returned framed x.core (framed_in course.negative x)) k w (returned_uncalled x.core (framed_in course.negative x)) e
   by false true e = ByReturn past target (returns past course code target) (record { course = course; code = code; stores = stores; returned = refl; ends = refl })
   by false false e = moves_tell s past course code stores target ns e
 
@@ -354,7 +357,7 @@ sleep_tells s Wfe f e = by (s.core.event || is_woken s) e where
 ended_so : (s : State) → Tells s (ended s)
 unfolding ended
 ended_so s = by s.core.run.locked (takes_first s.exceptions s.core.masks) refl where
-  by : (t u : Bool) → takes_first s.exceptions s.core.masks ≡ u → Tells s (cond t (with_stores [] (locks s true)) (cond u (takes_exception s) (by_sleep s.core.run.sleep s)))
+  by : (t u : Bool) → takes_first s.exceptions s.core.masks ≡ u → Tells s (cond t (with_stores [] (locks s true None)) (cond u (takes_exception s) (by_sleep s.core.run.sleep s)))
   by true u f e = cc
   by false true f e =
       ByEntry (awake s) (course_in s (is_secure s.core.run.side)) s.core.registers.pc
@@ -384,7 +387,7 @@ call_not s course = by (faulted s.core.run.side Call s.core s.exceptions) where
 
   by : (r : Raised) → (after_raise s course Call r).ending.cause ≡ Resumed → ⊥
   by r = by_locks r.locks where
-    by_locks : (t : Bool) → (cond t (locks (state_of r.core r.exceptions s.bus) course.touched) (preempted (from r) course (goes_on_at Call s.core.registers.pc))).ending.cause ≡ Resumed → ⊥
+    by_locks : (t : Bool) → (cond t (locks (state_of r.core r.exceptions s.bus) course.touched None) (preempted (from r) course (goes_on_at Call s.core.registers.pc))).ending.cause ≡ Resumed → ⊥
     by_locks true e = cc
     by_locks false e = entry_not (from r) course (goes_on_at Call s.core.registers.pc) e
 

@@ -1,6 +1,6 @@
 pub mod Words
 pub mod Resumption
-pub mod Exact
+pub mod Entries
 pub mod Steps
 pub mod Number
 pub mod Run

@@ -22,7 +22,7 @@ use Rattle.tz_sem.specs.Step.{started, ended, step}
 use Rattle.tz_resume.specs.Words.{SameBytes, IsWhole}
 use Rattle.tz_resume.specs.Number.{IsNumbered}
 use Rattle.tz_resume.specs.Resumption.{process_of, basic_pushed, both_pushed, IsStacked, GoesOn}
-use Rattle.tz_resume.specs.Exact.{returning, leaver}
+use Rattle.tz_resume.specs.Entries.{returning, leaver}
 
 -- ---- what the machine's types say
 

@@ -6,7 +6,7 @@
 
 mod known;
 
-ghost use Rattle.tz_resume.specs.Exact.{EntriesResume};
+ghost use Rattle.tz_resume.specs.Entries.{EntriesResume};
 ghost use Rattle.tz_resume.specs.Number.{NumbersFit};
 ghost use Rattle.tz_resume.specs.Resumption.{FramesGiveBack};
 ghost use Rattle.tz_resume.specs.Run.{BootsResume, RunsResume};

@@ -1,6 +1,8 @@
 -- Each exit is its answer.
-use Rattle.std.proofs.Common.{refl}
+use Rattle.std.proofs.Common.{refl, subst, List}
+use Rattle.tz_model.specs.Outside.{Put}
 use Rattle.tz_snap.specs.StateFile.{SavedState}
+use Rattle.tz_show.specs.declared.memory.Range.{Range}
 use Rattle.tz_show.specs.Page.{page}
 use Rattle.tz_cli.specs.ShowWords.{saved_in}
 use Rattle.tz_cli.specs.Commands.{ShowSaved}
@@ -22,5 +24,8 @@ returns g c =
     let saved : SavedState = record { state = c.in-Ok.saved.machine; step = c.in-Ok.saved.step } in
     answer_task _ (ShowSaved words) (shown_files _ words) (λ x. Gives (saved_task words x)) (record { is = refl; room = refl; settles = refl })
     _ saved (saved_task words saved) refl c.in-Ok.ensures.answer refl
-    (told_put _ _ _ (g.O.Sink.space c.show.new.out) (page saved.state saved.step words.ranges) _ _ c.show.result _ c.put_status.ensures c.show.ensures.put c.show.ensures.cause)
+    (told_put _ _ _ (g.O.Sink.space c.show.new.out) (page saved.state saved.step words.ranges) _ _ c.show.result _ c.put_status.ensures
+    (subst (λ (ranges : List Range). Put (g.O.Sink.written c.args.out.now) (g.O.Sink.written c.show.new.out) (g.O.Sink.space c.args.out.now) (g.O.Sink.space c.show.new.out)
+    (page saved.state saved.step ranges) c.show.result) c.deref.ensures.value c.show.ensures.put)
+    c.show.ensures.cause)
     refl

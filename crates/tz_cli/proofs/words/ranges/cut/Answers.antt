@@ -1,4 +1,4 @@
-use Rattle.std.proofs.Common.{◌≡◌, ◌∙◌, sym, ap, Some, None}
+use Rattle.std.proofs.Common.{◌∙◌, sym, ap, Some, None}
 use Rattle.std.proofs.lemmas.Str.Pattern.{split_parts}
 use Rattle.tz_cli.specs.Ranges.{cut_at}
 use Rattle.tz_cli.proofs.Cuts.{cut_at-at, cut_at-without}

@@ -6,6 +6,7 @@ use Rattle.tz_model.specs.Words.{is_nonsecure_side}
 use Rattle.tz_regs.specs.declared.parts.Core.{Core}
 use Rattle.tz_regs.specs.Registers.{sp_of}
 use Rattle.tz_state.specs.Slots.{ExceptionsValue}
+use Rattle.tz_frames.specs.declared.entering.Entering.{Entering}
 use Rattle.tz_frames.specs.declared.entering.Entered.TheVariants as entered
 use Rattle.tz_frames.specs.declared.leaving.Left.TheVariants as lefts
 use Rattle.tz_frames.specs.declared.leaving.Returning.{Returning}
@@ -19,8 +20,8 @@ use Rattle.tz_resume.specs.Resumption.{process_of, IsStacked, GoesOn}
 pub record IsPreempted (c : Core) (f : Framed) (back : ℕ) (d : Done Framed) : Type 0 where
   pub stacked : IsStacked c f back
   pub given : Slot
-  pub touched : Bool
-  pub taken : d.result ≡ entered.Taken given touched
+  pub entering : Entering
+  pub taken : d.result ≡ entered.Taken given entering
   pub nonsecure : is_nonsecure_side d.core.run.side ≡ true
 
 -- what a return by a value counts as
