@@ -8,6 +8,7 @@ mod failing;
 mod fields;
 mod images;
 mod instructions;
+mod jobs;
 mod lines;
 mod operations;
 mod pieces;
