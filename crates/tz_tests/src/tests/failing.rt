@@ -43,20 +43,8 @@ fn failing_answer(
 /// A line, which get, which put and which put on standard error fail, the status, what went out before, and the line
 /// on standard error.
 static ANSWERS: [(&str, (u64, u64, u64), u8, &str, &str); 11] = [
-    (
-        "tzrun run @demo S N @none 4",
-        (9, 0, 0),
-        4,
-        "",
-        "",
-    ),
-    (
-        "tzrun run @demo S N @none 4",
-        (9, 1, 0),
-        4,
-        "0 S\n",
-        "",
-    ),
+    ("tzrun run @demo S N @none 4", (9, 0, 0), 4, "", ""),
+    ("tzrun run @demo S N @none 4", (9, 1, 0), 4, "0 S\n", ""),
     (
         "tzrun run @demo S N @none 4",
         (9, 2, 0),
