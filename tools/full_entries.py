@@ -214,7 +214,9 @@ class Entries:
         """The additional frame of a Non-secure exception that takes the core from Secure code."""
         core = self.core
         faulted = any(self.told[kind] for kind in ("below limit", "unwritten", "additional below limit", "additional unwritten"))
-        wanted = secure and not line.lr & 1
+        # Also where that was chosen first, and its vector couldn't be read.
+        unread = any(it.fields["side"] == NONSECURE for it in self.told["unread vector"])
+        wanted = secure and (not line.lr & 1 or unread)
         if value is not None:
             wanted = wanted and bool(bit(value, 0)) and returned_from == SECURE and bool(bit(value, 5))
         if not wanted and not (faulted and secure):

@@ -42,7 +42,9 @@ fn failing_answer(
 
 /// A line, which get, which put and which put on standard error fail, the status, what went out before, and the line
 /// on standard error.
-static ANSWERS: [(&str, (u64, u64, u64), u8, &str, &str); 7] = [
+static ANSWERS: [(&str, (u64, u64, u64), u8, &str, &str); 11] = [
+    ("tzrun run @demo S N @none 4", (9, 0, 0), 4, "", ""),
+    ("tzrun run @demo S N @none 4", (9, 1, 0), 4, "0 S\n", ""),
     (
         "tzrun run @demo S N @none 4",
         (9, 2, 0),
@@ -51,11 +53,25 @@ static ANSWERS: [(&str, (u64, u64, u64), u8, &str, &str); 7] = [
         "",
     ),
     (
+        "tzrun run @demo S N @none 4",
+        (9, 3, 0),
+        4,
+        "0 S\n1 S\n2 N 00200040 2005 movs r0, #5 r0=00000005\n",
+        "",
+    ),
+    (
         "tzrun dis @demo T s",
         (9, 1, 0),
         4,
         "10008000 2005 movs r0, #5\n",
         "",
+    ),
+    (
+        "tzrun run @demo S N @none 4",
+        (0, 9, 9),
+        3,
+        "",
+        "cannot read S\n",
     ),
     (
         "tzrun run @demo S N @none 4",
