@@ -82,6 +82,8 @@ def lists_of(path):
             if name.group(1) in lists:
                 raise Unreadable(f"{path.name}:{number}: a list that stands twice")
             rows = lists[name.group(1)] = []
+        elif line.startswith("["):
+            raise Unreadable(f"{path.name}:{number}: no name of a list")
         elif line and not line.startswith("#"):
             if rows is None:
                 raise Unreadable(f"{path.name}:{number}: a row of no list")
