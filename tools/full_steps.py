@@ -287,7 +287,7 @@ class Run(Entries):
 
     def value_facts(self, value):
         self.want("return", word=word(value), es=digit(bit(value, 0)), s=digit(bit(value, 6)), dcrs=digit(bit(value, 5)),
-                  mode="thread" if bit(value, 3) else "handler", spsel=bit(value, 2))
+                  mode="thread" if bit(value, 3) else "handler", spsel=digit(bit(value, 2)))
 
     def exception_return(self, value, after):
         """A return to code that was interrupted: the registers are those of the frames."""
