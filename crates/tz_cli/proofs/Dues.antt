@@ -17,6 +17,7 @@ due_more k t ts = by_test (t.0 == k)
   where
     rest : List Timed
     rest = filter (λ (x : Timed). x.0 == k) ts
+
     by_test : (b : Bool) → length (map (λ (x : Timed). x.1) (cond b (t ∷ rest) rest)) ≡ one_if b + length (map (λ (x : Timed). x.1) rest)
     by_test true = omega arith
     by_test false = omega arith
@@ -71,6 +72,7 @@ irqs_due (suc left) x last steps = by_test (nat_lt (last + gap x) steps) refl (i
   where
     rest : List Timed
     rest = irqs_from left (stirred x) (last + gap x) steps
+
     by_test : (b : Bool) → nat_lt (last + gap x) steps ≡ b → due_before steps rest ≡ length rest
         → due_before steps (cond b ((last + gap x, Irq 0) ∷ rest) []) ≡ length (cond b ((last + gap x, Irq 0) ∷ rest) [])
     by_test true is h =

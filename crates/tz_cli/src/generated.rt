@@ -42,12 +42,7 @@ fn push_count(text: &mut Summary, word: &str, number: u32)
 }
 
 /// The summary of a job's numbers, of what its first run shows, and of where its runs disagree.
-fn summary_text(
-    words: &GenWords,
-    events: u32,
-    tally: &Tally,
-    found: Option<(u32, What)>,
-) -> Summary
+fn summary_text(words: &GenWords, events: u32, tally: &Tally, found: Option<(u32, What)>) -> Summary
     ensures { result.bytes ≡ counts_text words.now.seed words.now.steps events tally.now ++ pair_line words.now.steps found }
 {
     let mut text = Summary::new();
