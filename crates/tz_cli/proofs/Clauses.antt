@@ -10,7 +10,7 @@ use Rattle.tz_twin.specs.Trace.{text_from}
 use Rattle.tz_run.specs.Events.{events_of}
 use Rattle.tz_twin.proofs.TwoRuns.{isolated}
 use Rattle.tz_cli.specs.Run.{RunWords}
-use Rattle.tz_cli.specs.Commands.{Command, Run, RunFull, Pair, Asm, Dis, Gates, Snap, Show, ShowSaved, Resume, command_of}
+use Rattle.tz_cli.specs.Commands.{Command, Run, RunFull, Pair, Asm, Dis, Gates, Snap, Show, ShowSaved, Resume, Gen, command_of}
 use Rattle.tz_cli.specs.Told.{Stop, BadWords, TooManySteps, Unread, TooLong, BadBoard, BadImage, BadState, BadScript, BadSource, TooFar, Told, Unknown, Stops, Gives, told_then}
 use Rattle.tz_cli.specs.Reads.{TellsOf}
 use Rattle.tz_cli.specs.Starts.{state_of}
@@ -35,6 +35,7 @@ done_below (Some (Snap s)) n h = omega arith
 done_below (Some (Show s)) n h = omega arith
 done_below (Some (ShowSaved w)) n h = omega arith
 done_below (Some (Resume w)) n h = omega arith
+done_below (Some (Gen w)) n h = omega arith
 
 stop_above : (stop : Stop) → 2 ≤ status_of stop
 stop_above BadWords = omega arith

@@ -15,14 +15,15 @@ use Rattle.tz_cli.specs.Pair.{PairWords}
 use Rattle.tz_cli.specs.PairLine.{is_agreed, pair_line, pair_status}
 use Rattle.tz_cli.specs.declared.words.start.Work.{Work}
 use Rattle.tz_cli.specs.declared.words.start.Work.TheVariants as works
-use Rattle.tz_cli.specs.Commands.{Command, Pair, Resume, command_of, command_with, longest, names_of}
+use Rattle.tz_cli.specs.declared.words.generated.GenWords.{GenWords}
+use Rattle.tz_cli.specs.Commands.{Command, Pair, Resume, Gen, command_of, command_with, longest, names_of}
 use Rattle.tz_cli.specs.declared.stops.LoadError.{LoadError}
 use Rattle.tz_cli.specs.declared.stops.LoadError.TheVariants.{Unread, Long, Board, Image, State, Script, Source, Memory}
 use Rattle.tz_cli.specs.Told.{Stop, BadWords, TooManySteps, TooLong, BadBoard, BadImage, BadState, BadScript, BadSource, TooFar, Told, Stops, Gives, told_then, step_limit}
 use Rattle.tz_cli.specs.Told as stops
-use Rattle.tz_cli.specs.Reads.{AsBoard, AsImage, AsState, AsScript, AsSource, Reading, Settled, goes_on, read_where, settling, within_limit, IsOneOf}
+use Rattle.tz_cli.specs.Reads.{AsBoard, AsImage, AsState, AsScript, AsSource, Reading, Settled, goes_on, read_where, no_files, settling, within_limit, IsOneOf}
 use Rattle.tz_cli.specs.Starts.{Start, PairStart, SavedStart, board_files, start_files, kept_files, saved_files, pair_start_files}
-use Rattle.tz_cli.specs.Tasks.{Task, pair_task, resumed_text, resume_next, work_task, told, reads_of, files_of, IsDone}
+use Rattle.tz_cli.specs.Tasks.{Task, pair_task, gen_task, resumed_text, resume_next, work_task, told, reads_of, files_of, IsDone}
 use Rattle.tz_cli.specs.Lines.{stop_line, status_of, put_status}
 use Rattle.tz_cli.specs.Answer.{Allows, AllowsStop, IsCaused, IsLine, Call, told_of, GainsFront, Exceeds, IsTold, Answer, Done, Broken, Stopped, Wanting, Silent}
 use Rattle.tz_cli.specs.Faults.{AllowsRefusal, IsFault, image_refusal, state_refusal, source_refusal, name_told, stop_of, stop_with, line_with, status_with}
@@ -272,6 +273,14 @@ state_read held w start allowed =
     let board = board_files held w.board in
     let goes : goes_on board.told ≡ true = goes_first board.told _ (allowed_goes (kept_files held w).told _ start allowed) in
     one_of_first (kept_files held w).reads _ file (one_of_second board.reads (read_where (goes_on board.told) file) file (read_here (goes_on board.told) file goes))
+
+-- ---- a job that is made from a number
+
+abbrev pub gen_next : GenWords → Told Task
+gen_next w = Gives (gen_task w)
+
+pub gen_comes : (c : Call) (w : GenWords) → c.command ≡ Some (Gen w) → c.room ≡ 64 + longest (names_of (Gen w)) → Comes c (Gen w) (within_limit w.steps (no_files w)) gen_next
+gen_comes c w is room = record { is = is; room = room; settles = refl }
 
 -- ---- the pair
 

@@ -24,8 +24,10 @@ use Rattle.tz_cli.specs.Asm.{AsmWords, asm_behind, asm_names, asm_parts, asm_wit
 use Rattle.tz_cli.specs.declared.words.asm.Form.{Form}
 use Rattle.tz_cli.specs.declared.words.start.Work.{Work}
 use Rattle.tz_cli.specs.declared.words.start.Work.TheVariants as works
+use Rattle.tz_cli.specs.GenWords.{gen_behind}
+use Rattle.tz_cli.specs.declared.words.generated.GenWords.{GenWords}
 use Rattle.tz_cli.specs.Dis.{DisWords, dis_behind, dis_names, dis_parts, dis_with, side_named}
-use Rattle.tz_cli.specs.Commands.{Command, Pair, Asm, Dis, Gates, Snap, Show, ShowSaved, Resume, command_with, run_with, run_parts, run_behind, work_of, show_with, show_next, show_parts, show_behind, command_behind, command_of, longest, names_of}
+use Rattle.tz_cli.specs.Commands.{Command, Pair, Asm, Dis, Gates, Snap, Show, ShowSaved, Resume, Gen, command_with, run_with, run_parts, run_behind, work_of, show_with, show_next, show_parts, show_behind, command_behind, command_of, longest, names_of}
 
 -- no positional word is longer than a bound
 abbrev pub Within : ℕ → Option Parts → Type 0
@@ -247,6 +249,13 @@ show_within words command e = by_parts_of (with_words words no_parts) (named_wor
     by_parts_of None h e = absurd (cc)
     by_parts_of (Some p) h e = let l = shown_next p.next p command e in omega (arith, l, h)
 
+-- a job that is made from a number has no names
+gen_within : (n : ℕ) (o : Option GenWords) (command : Command) → option_map Gen o ≡ Some command → longest (names_of command) ≤ n
+gen_within n None command e = absurd (cc)
+gen_within n (Some w) command e =
+    let same : ◌≡◌ {A = Command} (Gen w) command = cc in
+    subst (λ (x : Command). longest (names_of x) ≤ n) same (omega arith)
+
 -- ---- commands
 
 -- the command of one word or of another
@@ -271,10 +280,11 @@ names_command name words command =
     (either (bytes_eq name (codes "snap")) (option_map Snap (start_behind words)) _ command n
     (mapped_within start_names names_of n Snap (start_behind words) command (λ s. refl) (behind_within start_names [] start_parts (λ p. bare_in p.values p.positionals) words))
     (either (bytes_eq name (codes "show")) (show_behind words) _ command n (show_within words command)
-    (either (bytes_eq name (codes "resume")) (option_map Resume (resume_behind words)) None command n
+    (either (bytes_eq name (codes "resume")) (option_map Resume (resume_behind words)) _ command n
     (mapped_within resume_names names_of n Resume (resume_behind words) command (λ w. refl)
     (behind_within resume_names (codes "view") resume_parts (λ p. resume_in (view_of p.values) p.positionals) words))
-    (λ e. absurd (cc e)))))))))
+    (either (bytes_eq name (codes "gen")) (option_map Gen (gen_behind words)) None command n (gen_within n (gen_behind words) command)
+    (λ e. absurd (cc e))))))))))
 
 -- a command's names are among the words
 pub names_of-longest : (words : List Text) (command : Command) → command_of words ≡ Some command → longest (names_of command) ≤ longest words

@@ -20,3 +20,5 @@ pub mod Settling
 pub mod Reached
 pub mod Stages
 pub mod Loads
+pub mod Dues
+pub mod Summaries

@@ -12,9 +12,9 @@ use Rattle.tz_cli.specs.Resume.{ResumeWords, resume_names}
 use Rattle.tz_cli.specs.Pair.{PairWords, pair_names}
 use Rattle.tz_cli.specs.Asm.{AsmWords, asm_names}
 use Rattle.tz_cli.specs.Dis.{DisWords, dis_names}
-use Rattle.tz_cli.specs.Commands.{Command, Run, RunFull, Pair, Asm, Dis, Gates, Snap, Show, ShowSaved, Resume, longest, names_of}
+use Rattle.tz_cli.specs.Commands.{Command, Run, RunFull, Pair, Asm, Dis, Gates, Snap, Show, ShowSaved, Resume, Gen, longest, names_of}
 use Rattle.tz_cli.specs.Told.{Stop, TooManySteps, Unread, Told, Unknown, Stops, Gives, told_then, is_demo, is_none_script, board_told, board_file, image_told, state_told, script_told, script_file, source_told, step_limit}
-use Rattle.tz_cli.specs.Reads.{Reading, Settled, goes_on, read_where, one_file, and_file, settling, within_limit, IsOneOf}
+use Rattle.tz_cli.specs.Reads.{Reading, Settled, goes_on, read_where, no_files, one_file, and_file, settling, within_limit, IsOneOf}
 use Rattle.tz_cli.specs.declared.words.asm.Form.{Form as AsmForm}
 use Rattle.tz_cli.specs.Starts.{board_files, source_files, start_files, saved_files, shown_files, pair_start_files, listed_files}
 use Rattle.tz_cli.specs.Tasks.{told, reads_of, files_of}
@@ -95,6 +95,9 @@ pub record IsSure {A : Type 0} (held : List ℕ → Held) (n : ℕ) (files : Set
   pub within : (file : Reading) → IsOneOf files.reads file → length file.name ≤ n
 
 module _ (held : List ℕ → Held) (n : ℕ) where
+  sure_none : {A : Type 0} (x : A) → IsSure held n (no_files x)
+  sure_none x = record { absent = λ file read gone. absurd read; within = λ file read. absurd read }
+
   sure_one : {A : Type 0} (is_file : Bool) (file : Reading) (t : Told A) → length file.name ≤ n → (is_file ≡ true → held file.name ≡ Absent → NeverGives t)
       → IsSure held n (one_file is_file file t)
   sure_one is_file file t short never = record {
@@ -191,6 +194,7 @@ module _ (held : List ℕ → Held) where
   sure_command (Resume w) =
       let n = longest (resume_names w) in
       sure_settling held n _ _ (sure_limited held n (nat_lt step_limit w.steps) _ (sure_saved w))
+  sure_command (Gen w) = sure_settling held 0 _ _ (sure_limited held 0 (nat_lt step_limit w.steps) _ (sure_none held 0 w))
 
 -- an absent file that is read settles no task
 pub absent_task : (held : List ℕ → Held) (o : Option Command) (file : Reading) → held file.name ≡ Absent → IsOneOf (reads_of held o) file → NeverGives (told held o)

@@ -1,5 +1,5 @@
 -- What the answers of commands that run a machine say of its states.
-use Rattle.std.proofs.Common.{◌≡◌, ℕ, zero, suc, ◌+◌, Bool, true, false, cond, List, ◌++◌, append_assoc, map, Option, Some, refl, sym, ap, ◌∙◌, subst, arith}
+use Rattle.std.proofs.Common.{◌≡◌, ℕ, zero, suc, ◌+◌, Bool, true, false, cond, List, [], ◌++◌, append_assoc, map, Option, Some, refl, sym, ap, ◌∙◌, subst, arith}
 use Rattle.std.specs.Prelude.{nat_lt}
 use Rattle.std.proofs.lemmas.List.{append_cancel_left}
 use Rattle.tz_model.specs.declared.report.View.{View}
@@ -23,10 +23,13 @@ use Rattle.tz_show.specs.Page.{page}
 use Rattle.tz_cli.specs.StartWords.{StartWords}
 use Rattle.tz_cli.specs.ShowWords.{ShowWords, SavedWords}
 use Rattle.tz_cli.specs.Resume.{ResumeWords}
-use Rattle.tz_cli.specs.Commands.{Command, RunFull, Gates, Snap, Show, ShowSaved, Resume}
-use Rattle.tz_cli.specs.Told.{TooFar, Told, Stops, Gives, told_then, step_limit}
+use Rattle.tz_cli.specs.Commands.{Command, RunFull, Gates, Snap, Show, ShowSaved, Resume, Gen}
+use Rattle.tz_cli.specs.Summary.{summary}
+use Rattle.tz_cli.specs.declared.words.generated.GenWords.{GenWords}
+use Rattle.tz_cli.specs.Reads.{no_files}
+use Rattle.tz_cli.specs.Told.{TooManySteps, TooFar, Told, Stops, Gives, told_then, step_limit}
 use Rattle.tz_cli.specs.Starts.{Start, SavedStart, state_of}
-use Rattle.tz_cli.specs.Tasks.{Task, told, begin_told, counted_gates, full_task, gates_task, snap_task, page_task, saved_task, end_of, shown_told, resume_told, resume_next, resumed_text}
+use Rattle.tz_cli.specs.Tasks.{Task, told, gen_task, begin_told, counted_gates, full_task, gates_task, snap_task, page_task, saved_task, end_of, shown_told, resume_told, resume_next, resumed_text}
 use Rattle.tz_cli.specs.Answer.{Call, Answer, told_of}
 use Rattle.tz_cli.proofs.Clauses.{no_stop, task_written}
 use Rattle.tz_cli.proofs.Regions.{begun_regions}
@@ -86,6 +89,15 @@ lines_written c result a is w e start gives =
     by_limit : (past : Bool) → told_of c ≡ cond past (Stops (TooFar w.state)) (Gives (record { text = resumed_text w start; status = 0 })) → Gains c.out.old c.out.new (resumed_text w start)
     by_limit true h = absurd (no_stop c result a (omega arith) (TooFar w.state) h)
     by_limit false h = (task_written c result a (omega arith) (record { text = resumed_text w start; status = 0 }) h).1
+
+-- within the limit of steps the summary is written
+pub summary_written : (c : Call) (result : ℕ) → Answer c result → result ≡ 0 → (w : GenWords) → c.command ≡ Some (Gen w) → Gains c.out.old c.out.new (summary w.seed w.steps)
+summary_written c result a is w e = by_limit (nat_lt step_limit w.steps) (ap (told c.shelf.held) e)
+  where
+    by_limit : (past : Bool) → told_of c ≡ told_then (cond past (record { told = Stops TooManySteps; reads = [] }) (no_files w)).told (λ words. Gives (gen_task words))
+        → Gains c.out.old c.out.new (summary w.seed w.steps)
+    by_limit true h = absurd (no_stop c result a (omega arith) TooManySteps h)
+    by_limit false h = (task_written c result a (omega arith) (gen_task w) h).1
 
 -- the trace of steps is that of the first of them, and that of the others from the state that these lead to
 trace_parts : (view : View) (events : Events) (n m k : ℕ) (s : State)

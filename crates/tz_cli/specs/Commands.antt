@@ -12,6 +12,8 @@ use Rattle.tz_cli.specs.Resume.{ResumeWords, resume_behind, resume_in, resume_na
 use Rattle.tz_cli.specs.Pair.{PairWords, pair_behind, pair_in, pair_names}
 use Rattle.tz_cli.specs.Asm.{AsmWords, asm_behind, asm_in, asm_names}
 use Rattle.tz_cli.specs.Dis.{DisWords, dis_behind, dis_in, dis_names}
+use Rattle.tz_cli.specs.GenWords.{gen_behind}
+use Rattle.tz_cli.specs.declared.words.generated.GenWords.{GenWords}
 use Rattle.tz_cli.specs.declared.words.show.Next.{Next}
 use Rattle.tz_cli.specs.declared.words.show.Next.TheVariants.{ItsValue}
 use Rattle.tz_cli.specs.declared.words.start.Work.{Work}
@@ -31,6 +33,7 @@ pub data Command : Type 0 where
   Show : ShowWords → Command
   ShowSaved : SavedWords → Command
   Resume : ResumeWords → Command
+  Gen : GenWords → Command
 
 -- what is done with what begins a run
 abbrev pub command_with : StartWords → Work → Command
@@ -48,6 +51,7 @@ command_in (read.Asm words) = Asm (asm_in words)
 command_in (read.Dis words) = Dis (dis_in words)
 command_in (read.ShowSaved words) = ShowSaved (saved_in words)
 command_in (read.Resume words) = Resume (resume_in words)
+command_in (read.Gen words) = Gen words
 
 -- what is done with a run, by what it shows
 abbrev pub shown_works : List (Text × Work)
@@ -103,6 +107,7 @@ command_behind command words =
     else if bytes_eq command (codes "snap") then option_map Snap (start_behind words)
     else if bytes_eq command (codes "show") then show_behind words
     else if bytes_eq command (codes "resume") then option_map Resume (resume_behind words)
+    else if bytes_eq command (codes "gen") then option_map Gen (gen_behind words)
     else None
 
 -- the words of a command line: the program's name, which may be any text, a command's word, and the words behind it
@@ -122,6 +127,7 @@ names_of (Snap s) = start_names s
 names_of (Show s) = show_names s
 names_of (ShowSaved w) = saved_names w
 names_of (Resume w) = resume_names w
+names_of (Gen w) = []
 
 -- the length of the longest word
 abbrev pub longest : List Text → ℕ

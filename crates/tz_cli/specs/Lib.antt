@@ -11,8 +11,10 @@ pub mod Resume
 pub mod Pair
 pub mod Asm
 pub mod Dis
+pub mod GenWords
 pub mod Commands
 pub mod PairLine
+pub mod Summary
 pub mod Told
 pub mod Reads
 pub mod Starts

@@ -31,6 +31,10 @@ abbrev pub read_where : Bool → Reading → List Reading
 read_where false file = []
 read_where true file = file ∷ []
 
+-- a value that no file settles
+abbrev pub no_files : {A : Type 0} → A → Settled A
+no_files x = record { told = Gives x; reads = [] }
+
 -- one file; a name that stands for no file isn't read
 abbrev pub one_file : {A : Type 0} → Bool → Reading → Told A → Settled A
 one_file is_file file told = record { told = told; reads = read_where is_file file }

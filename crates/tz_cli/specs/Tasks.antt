@@ -21,9 +21,11 @@ use Rattle.tz_cli.specs.Resume.{ResumeWords}
 use Rattle.tz_cli.specs.Run.{RunWords, run_of, start_of}
 use Rattle.tz_cli.specs.Pair.{PairWords}
 use Rattle.tz_cli.specs.PairLine.{pair_line, pair_status}
-use Rattle.tz_cli.specs.Commands.{Command, Run, RunFull, Pair, Asm, Dis, Gates, Snap, Show, ShowSaved, Resume}
+use Rattle.tz_cli.specs.Summary.{summary}
+use Rattle.tz_cli.specs.declared.words.generated.GenWords.{GenWords}
+use Rattle.tz_cli.specs.Commands.{Command, Run, RunFull, Pair, Asm, Dis, Gates, Snap, Show, ShowSaved, Resume, Gen}
 use Rattle.tz_cli.specs.Told.{BadWords, TooFar, Told, Stops, Gives, step_limit}
-use Rattle.tz_cli.specs.Reads.{Reading, Settled, settling, within_limit}
+use Rattle.tz_cli.specs.Reads.{Reading, Settled, no_files, settling, within_limit}
 use Rattle.tz_cli.specs.Starts.{Start, PairStart, SavedStart, start_files, state_of, pair_start_files, first_state, second_state, saved_files, shown_files, source_files, listed_files}
 use Rattle.tz_cli.specs.declared.words.start.Work.{Work}
 use Rattle.tz_cli.specs.declared.words.start.Work.TheVariants as works
@@ -136,6 +138,10 @@ resumed_text w start = text_from w.view (events_of start.script) start.step star
 abbrev pub resume_next : ResumeWords → SavedStart → Told Task
 resume_next w start = if nat_lt step_limit (start.step + w.steps) then Stops (TooFar w.state) else Gives (record { text = resumed_text w start; status = 0 })
 
+-- the summary of a job that is made from a number, whether or not its runs agree
+abbrev pub gen_task : GenWords → Task
+gen_task w = record { text = summary w.seed w.steps; status = 0 }
+
 -- what is done with what begins a run
 abbrev pub work_task : Work → StartWords → Start → Task
 work_task (works.Trace view) words start = run_task (record { words = run_of words view; start = start })
@@ -159,6 +165,7 @@ files_of held (Some (Snap s)) = settling (λ start. Gives (snap_task s start)) (
 files_of held (Some (Show s)) = settling (λ start. Gives (page_task s start)) (begin_files held s.start)
 files_of held (Some (ShowSaved w)) = settling (λ saved. Gives (saved_task w saved)) (shown_files held w)
 files_of held (Some (Resume w)) = settling (resume_next w) (resume_files held w)
+files_of held (Some (Gen w)) = settling (λ words. Gives (gen_task words)) (within_limit w.steps (no_files w))
 
 -- what is settled of a command, or of words that are refused
 abbrev pub told : (List ℕ → Held) → Option Command → Told Task
@@ -181,3 +188,4 @@ IsDone (Some (Snap s)) status = status ≡ 0
 IsDone (Some (Show s)) status = status ≡ 0
 IsDone (Some (ShowSaved w)) status = status ≡ 0
 IsDone (Some (Resume w)) status = status ≡ 0
+IsDone (Some (Gen w)) status = status ≡ 0

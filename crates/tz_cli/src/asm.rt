@@ -1,46 +1,16 @@
 //! The command `asm`: its source, the image in its form or the listing, and the status.
 
-ghost use Rattle.std.specs.Prelude.{◌≡◌, ◌<◌, ◌≤◌, Err, length};
+ghost use Rattle.std.specs.Prelude.{◌≡◌, Err};
 ghost use Rattle.tz_model.specs.Outside.{HasCause, Put};
 ghost use Rattle.tz_cli.specs.Asm.{asm_in};
 ghost use Rattle.tz_cli.specs.Commands.{Asm};
 ghost use Rattle.tz_cli.specs.Answer.{CommandAnswer, shelved, sunk};
 
 use crate::files::load_assembled;
-use crate::lines::{put_status, refuse_fault};
+use crate::lines::{put_lines, put_status, refuse_fault};
 use crate::words::{AsmWords, Form};
 use std::alloc::Global;
 use tz_model::{Shelf, Sink, SinkError};
-
-/// How many bytes the first line of a text has, with its line feed.
-fn line_length(text: &[u8]) -> usize
-    requires { 0 < length text.now }
-    ensures some { 0 < result }
-    ensures within { result ≤ length text.now }
-{
-    for (place, byte) in text.iter().enumerate() {
-        if *byte == b'\n' {
-            return place + 1;
-        }
-    }
-    text.len()
-}
-
-/// Writes a text, each line with its line feed as one put.
-fn put_lines<O: Sink>(text: &[u8], out: &mut O) -> Result<(), SinkError>
-    ensures put { Put (O.written out.old) (O.written out.new) (O.space out.old) (O.space out.new) text.now result }
-    ensures cause { HasCause (O.faults out.old) (O.faults out.new) (result ≡ Err SinkError.Failed) }
-{
-    let mut rest = text;
-    'lines: while !rest.is_empty() {
-        let (line, behind) = rest.split_at(line_length(rest));
-        if let Err(error) = out.put(line) {
-            return Err(error);
-        }
-        rest = behind;
-    }
-    Ok(())
-}
 
 /// Writes a file: a plain image and a listing line by line, and an ELF file as one put.
 fn put_file<O: Sink>(form: Form, file: &[u8], out: &mut O) -> Result<(), SinkError>

@@ -38,8 +38,8 @@ fn kind_word(kind: CrossKind) -> &'static str
 }
 
 /// Appends in what two runs differ.
-fn push_what(text: &mut Line, what: What)
-    requires { array_string_len text.old + 15 ≤ 64 }
+fn push_what<const N: usize>(text: &mut ArrayString<N>, what: What)
+    requires { array_string_len text.old + 15 ≤ N }
     ensures bytes { text.new.bytes ≡ text.old.bytes ++ what_words what }
     ensures len { array_string_len text.new ≤ array_string_len text.old + 15 }
 {
@@ -73,8 +73,12 @@ fn push_what(text: &mut Line, what: What)
 }
 
 /// Appends the line of two runs of so many steps.
-fn push_pair_line(text: &mut Line, steps: u32, found: Option<(u32, What)>)
-    requires { array_string_len text.old + 34 ≤ 64 }
+pub fn push_pair_line<const N: usize>(
+    text: &mut ArrayString<N>,
+    steps: u32,
+    found: Option<(u32, What)>,
+)
+    requires { array_string_len text.old + 34 ≤ N }
     ensures { text.new.bytes ≡ text.old.bytes ++ pair_line steps found }
 {
     match found {
@@ -118,6 +122,15 @@ fn first_difference<L: Ledger>(
     None
 }
 
+/// The first of `steps` steps at which the runs of a pair disagree, and in what.
+pub fn find_difference(pair: &mut Pair, script: &Script, steps: u32) -> Option<(u32, What)>
+    requires fresh { pair.old.steps ≡ 0 }
+    requires agreeing { pair.old.found ≡ None }
+    ensures { result ≡ difference (events_of script.now) 0 pair.old.first pair.old.second steps }
+{
+    first_difference::<Brand>(Blank::new(1), pair, script, steps)
+}
+
 /// Runs both machines of a pair side by side for `steps` steps, at each of which its events of the script are
 /// due, and writes whether the runs agree: whenever one crosses out of Secure state so does the other, in the
 /// same way, with the same registers handed over and the same public state. It tells it, too; the steps end
@@ -137,7 +150,7 @@ pub fn pair_run<O: Sink>(
     ensures agreed { IfOk result (λ agreed. agreed ≡ is_agreed (difference (events_of script.now) 0 pair.old.first pair.old.second steps)) }
     ensures cause { HasCause (O.faults out.old) (O.faults out.new) (result ≡ Err SinkError.Failed) }
 {
-    let found = first_difference::<Brand>(Blank::new(1), pair, script, steps);
+    let found = find_difference(pair, script, steps);
     let mut text = Line::new();
     push_pair_line(&mut text, steps, found);
     match out.put(text.as_str().as_bytes()) {

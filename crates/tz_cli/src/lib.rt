@@ -14,6 +14,7 @@ mod asm;
 mod comparison;
 mod dis;
 mod files;
+mod generated;
 mod lines;
 mod output;
 mod page;
@@ -32,6 +33,6 @@ pub use process::run_process;
 pub use program::top;
 pub use shelf::{FileShelf, read_to_limit};
 pub use words::{
-    AsmWords, Command, DisWords, Form, PairWords, ResumeWords, SavedWords, StartWords, Work,
-    command_words,
+    AsmWords, Command, DisWords, Form, GenWords, PairWords, ResumeWords, SavedWords, StartWords,
+    Work, command_words,
 };

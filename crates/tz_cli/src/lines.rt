@@ -1,8 +1,9 @@
-//! The lines on standard error.
+//! The lines on standard error, and texts that go out line by line.
 //!
 //! A line is built whole and goes out as one put. Its text is exactly the definition's.
 
-ghost use Rattle.std.specs.Prelude.{◌≡◌, ◌⊎◌, ◌≤◌, ◌+◌, ◌++◌, IfOk, OnOk, IsSome, codes, decimal, length, vec_len};
+ghost use Rattle.std.specs.Prelude.{◌≡◌, ◌⊎◌, ◌<◌, ◌≤◌, ◌+◌, ◌++◌, Err, IfOk, OnOk, IsSome, codes, decimal, length, vec_len};
+ghost use Rattle.tz_model.specs.Outside.{HasCause, Put};
 ghost use Rattle.tz_elf.specs.Images.{Refusal};
 ghost use Rattle.tz_board.specs.BoardErrors.{refusal_of, place_of};
 ghost use Rattle.tz_board.specs.ScriptErrors.{script_refusal_of};
@@ -244,6 +245,36 @@ pub fn put_status(outcome: Result<(), SinkError>) -> u8
         Ok(()) => 0,
         Err(_) => 4,
     }
+}
+
+/// How many bytes the first line of a text has, with its line feed.
+fn line_length(text: &[u8]) -> usize
+    requires { 0 < length text.now }
+    ensures some { 0 < result }
+    ensures within { result ≤ length text.now }
+{
+    for (place, byte) in text.iter().enumerate() {
+        if *byte == b'\n' {
+            return place + 1;
+        }
+    }
+    text.len()
+}
+
+/// Writes a text, each line with its line feed as one put.
+pub fn put_lines<O: Sink>(text: &[u8], out: &mut O) -> Result<(), SinkError>
+    ensures put { Put (O.written out.old) (O.written out.new) (O.space out.old) (O.space out.new) text.now result }
+    ensures cause { HasCause (O.faults out.old) (O.faults out.new) (result ≡ Err SinkError.Failed) }
+{
+    let mut rest = text;
+    'lines: while !rest.is_empty() {
+        let (line, behind) = rest.split_at(line_length(rest));
+        if let Err(error) = out.put(line) {
+            return Err(error);
+        }
+        rest = behind;
+    }
+    Ok(())
 }
 
 /// Puts a line on standard error. The answer is the status that is given, but 4 where the put fails.

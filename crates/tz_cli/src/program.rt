@@ -28,10 +28,12 @@ ghost use Rattle.tz_cli.specs.Run.{RunWords};
 ghost use Rattle.tz_iso.specs.declared.answer.What.{What};
 ghost use Rattle.tz_cli.specs.Pair.{PairWords};
 ghost use Rattle.tz_cli.specs.PairLine.{FirstApart, agree_line, differ_line};
-ghost use Rattle.tz_cli.specs.Commands.{Run, RunFull, Pair, Gates, Snap, Show, ShowSaved, Resume, command_of};
+ghost use Rattle.tz_cli.specs.Commands.{Run, RunFull, Pair, Gates, Snap, Show, ShowSaved, Resume, Gen, command_of};
 ghost use Rattle.tz_cli.specs.StartWords.{StartWords};
 ghost use Rattle.tz_cli.specs.ShowWords.{ShowWords, SavedWords};
 ghost use Rattle.tz_cli.specs.Resume.{ResumeWords};
+ghost use Rattle.tz_cli.specs.Summary.{summary};
+ghost use Rattle.tz_cli.specs.declared.words.generated.GenWords.{GenWords};
 ghost use Rattle.tz_cli.specs.Told.{Stop, Stops, Gives};
 ghost use Rattle.tz_cli.specs.Starts.{Start, SavedStart, state_of, first_state, second_state};
 ghost use Rattle.tz_cli.specs.Tasks.{Job, Task, IsDone, told, reads_of, begin_told, job_told, trace_of, end_of, counted_gates, shown_told, resume_told, resumed_text, PairJob, pair_told};
@@ -40,6 +42,7 @@ ghost use Rattle.tz_cli.specs.Answer.{Answer, shelved, sunk, CutsLine, Excused, 
 
 use crate::asm::asm_files;
 use crate::dis::dis_files;
+use crate::generated::gen_answer;
 use crate::lines::refuse;
 use crate::page::page_files;
 use crate::pair::pair_files;
@@ -143,6 +146,10 @@ pub fn top<H: Shelf, O: Sink, E: Sink>(
         (s : State) (rest : List ℕ) → state_after (events_of start.script) 0 s start.step ≡ start.state →
         text_from w.view (events_of start.script) 0 s (start.step + w.steps) ≡ text_from w.view (events_of start.script) 0 s start.step ++ rest →
         Gains (O.written out.old) (O.written out.new) rest }
+
+    // At status 0 of `gen` the summary of the job of its number is written, whether or not the job's runs agree.
+    ensures generated { result ≡ 0 → (w : GenWords) → command_of (map string_bytes words.now) ≡ Some (Gen w) →
+        Gains (O.written out.old) (O.written out.new) (summary w.seed w.steps) }
 {
     answer(alloc, words, shelf, out, err)
 }
@@ -175,5 +182,6 @@ fn answer<H: Shelf, O: Sink, E: Sink>(
         Command::Dis(words) => dis_files(alloc, &words, shelf, out, err),
         Command::ShowSaved(words) => page_files(alloc, &words, shelf, out, err),
         Command::Resume(words) => resume_answer(alloc, &words, shelf, out, err),
+        Command::Gen(words) => gen_answer(alloc, &words, shelf, out, err),
     }
 }

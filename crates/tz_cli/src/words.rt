@@ -10,6 +10,7 @@ ghost use Rattle.tz_cli.specs.Commands.{command_in, command_of};
 mod asm;
 mod counts;
 mod dis;
+mod generated;
 mod leaf;
 mod pair;
 mod ranges;
@@ -21,6 +22,7 @@ mod views;
 
 use crate::words::asm::asm_command;
 use crate::words::dis::dis_command;
+use crate::words::generated::gen_command;
 use crate::words::pair::pair_command;
 use crate::words::resume::resume_command;
 use crate::words::run::run_command;
@@ -28,6 +30,7 @@ use crate::words::show::show_command;
 use crate::words::start::start_command;
 pub use asm::{AsmWords, Form};
 pub use dis::DisWords;
+pub use generated::GenWords;
 pub use pair::PairWords;
 pub use resume::ResumeWords;
 pub use show::SavedWords;
@@ -49,6 +52,8 @@ pub enum Command<'a> {
     ShowSaved(SavedWords<'a>),
     /// A run that goes on from a state's file.
     Resume(ResumeWords<'a>),
+    /// The summary of a job that is made from a number.
+    Gen(GenWords),
 }
 
 /// The command of a command line, which begins with the program's name; `None` where the words are
@@ -69,6 +74,7 @@ pub fn command_words<'a>(
             "snap" => start_command(alloc, Work::Save, rest),
             "show" => show_command(alloc, rest),
             "resume" => resume_command(alloc, rest),
+            "gen" => gen_command(alloc, rest),
             _ => Ok(None),
         },
         _ => Ok(None),

@@ -1,7 +1,7 @@
 -- Each exit is its answer.
 use Rattle.std.proofs.Common.{refl, sym, arith, map, Global}
 use Rattle.std.specs.String.{string_bytes}
-use Rattle.tz_cli.specs.Commands.{Pair, Asm, Dis, ShowSaved, Resume, command_with}
+use Rattle.tz_cli.specs.Commands.{Pair, Asm, Dis, ShowSaved, Resume, Gen, command_with}
 use Rattle.tz_cli.specs.StartWords.{start_in}
 use Rattle.tz_cli.specs.ShowWords.{saved_in}
 use Rattle.tz_cli.specs.Resume.{resume_in}
@@ -46,3 +46,8 @@ pub returns-in-Resume : goal.returns-in-Resume
 returns-in-Resume g c =
     let says = rw c.in-Resume.is at (rw c.in-Ok-Some.field-0-is at c.in-Ok-Some.ensures) in
     answer_command _ _ (map (string_bytes {Z = Global}) c.args.words.now) (Resume (resume_in c.in-Resume.words)) refl refl (sym says) c.resume_answer.ensures
+
+pub returns-in-Gen : goal.returns-in-Gen
+returns-in-Gen g c =
+    let says = rw c.in-Gen.is at (rw c.in-Ok-Some.field-0-is at c.in-Ok-Some.ensures) in
+    answer_command _ _ (map (string_bytes {Z = Global}) c.args.words.now) (Gen c.in-Gen.words) refl refl (sym says) c.gen_answer.ensures

@@ -1,6 +1,6 @@
 use Rattle.std.proofs.Common.{◌≤◌, length}
 use Rattle.tz_text.proofs.Sending.{Sent}
-use Rattle.tz_cli.proofs.asm.put_lines.Given as goal
+use Rattle.tz_cli.proofs.lines.put_lines.Given as goal
 
 abbrev pub invariant-lines : goal.invariant-lines
 invariant-lines g l = record {

@@ -1,7 +1,7 @@
 use Rattle.std.proofs.lemmas.Grind.{common_steps}
 use Rattle.std.proofs.Common.{arith, sym}
 use Rattle.tz_text.proofs.Sending.{sent_failed, sent_line}
-use Rattle.tz_cli.proofs.asm.put_lines.Goals as goal
+use Rattle.tz_cli.proofs.lines.put_lines.Goals as goal
 
 pub returns-in-Err-clause-put : goal.returns-in-Err-clause-put
 returns-in-Err-clause-put g c = sent_failed _ _ _ _ _ _ _ _ _ _ c.in-Err.error c.lines.invariant.sent (sym c.split_at.ensures.by_index.0) c.in-Err.ensures.put
