@@ -65,7 +65,7 @@ class Page {
     tell() {
         const parts = this.traces.map((trace) => {
             const unread = trace.unread ? `, ${plural(trace.unread, 'line')} not of a trace passed over` : '';
-            const view = trace.showsAll ? 'all' : 'ns';
+            const view = trace.hasFurther ? 'full' : trace.showsAll ? 'all' : 'ns';
             return `${trace.name}: ${plural(trace.lastStep - trace.steps[0] + 1, 'step')}, view ${view}${unread}`;
         });
         if (this.traces.length === 2) parts.push(this.tellOfDifference());

@@ -58,6 +58,7 @@ class Reader {
         if (from === end) return;
         if (this.trace.bytes[from] === SPACE) {
             if (trace.count) trace.ends[trace.count - 1] = end;
+            trace.hasFurther = true;
             return;
         }
         this.readStep(from, end);

@@ -42,6 +42,7 @@ class Trace {
         this.lastStep = -1;
         this.unread = 0;
         this.showsAll = false;
+        this.hasFurther = false;
     }
 
     addTaken(row, number, link, isTail, outer) {
