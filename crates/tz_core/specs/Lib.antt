@@ -1,3 +1,4 @@
+pub mod Closing
 pub mod Fields
 pub mod StateWords
 pub mod ReadWords

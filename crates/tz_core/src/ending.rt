@@ -4,12 +4,35 @@ ghost use Rattle.std.specs.Prelude.{◌≡◌};
 ghost use Rattle.arrayvec.specs.ArrayVec.{array_vec_len};
 ghost use Rattle.tz_sem.specs.Ended.{kind_of_entry, kind_of, lr_of, kind_without};
 ghost use Rattle.tz_twin.specs.Writing.{changes_handler};
+ghost use Rattle.tz_core.specs.Closing.{ending_of};
 
 use crate::changes::tell_changes;
 use crate::running::Machine;
-use tz_model::{CrossKind, Report, Side, StepKind, Way};
+use tz_model::{Code, CrossKind, Report, Side, StepKind, Way};
 use tz_regs::{Before, Core};
-use tz_sem::{Cause, Ending};
+use tz_sem::{Cause, Ending, Handling};
+
+/// How a step ended, but for how exceptions came into it. That is noted beside it, since few steps have anything of it.
+#[derive(Clone, Copy)]
+pub struct Close {
+    /// Whether the step touched Secure state.
+    pub touched: bool,
+    pub cause: Cause,
+    /// The code of the instruction that ran, where one did.
+    pub ran: Option<Code>,
+}
+
+/// The ending, with what was noted of exceptions.
+pub(crate) fn ending_of(close: &Close, noted: Option<Handling>) -> Ending
+    ensures { result ≡ ending_of close.now noted }
+{
+    Ending {
+        touched: close.touched,
+        cause: close.cause,
+        ran: close.ran,
+        handling: noted,
+    }
+}
 
 /// What is told of a step that has no report: its way out of Secure state, where it crossed out, and whether an
 /// exception was taken or returned or the machine is locked.
@@ -85,38 +108,38 @@ impl Machine {
     ghost use Rattle.tz_sem.specs.Ended.{crosses, way_by, report_of};
 
     /// How a step that started on a side crossed out of Secure state, where it did.
-    pub(crate) fn way(&self, start: Side, ending: &Ending) -> Option<Way>
-        ensures { result ≡ if crosses (record { state = self.now; stores = []; ending = ending.now }) then way_by self.now ending.now.cause (kind_of start ending.now.cause self.now.core.registers.lr) else None }
+    pub(crate) fn way(&self, start: Side, close: &Close) -> Option<Way>
+        ensures { result ≡ if crosses (record { state = self.now; stores = []; ending = ending_of close.now None }) then way_by self.now close.now.cause (kind_of start close.now.cause self.now.core.registers.lr) else None }
     {
-        if !ending.touched || self.side() == Side::Secure {
+        if !close.touched || self.side() == Side::Secure {
             return None;
         }
         let lr = self.core.registers.lr;
-        match kind_of(start, ending.cause, lr) {
+        match kind_of(start, close.cause, lr) {
             Some(kind) => Some(Way {
                 kind,
                 number: self.core.registers.ipsr,
-                lr: lr_of(ending.cause, lr),
+                lr: lr_of(close.cause, lr),
             }),
             None => None,
         }
     }
 
     /// Fills in the report of a step that ended so, over the stores that it has.
-    pub(crate) fn tell(&self, before: &Before, ending: &Ending, report: &mut Report)
+    pub(crate) fn tell(&self, before: &Before, close: &Close, report: &mut Report)
         requires { array_vec_len report.old.changes ≡ 0 }
-        ensures { report.new ≡ report_of before.now (record { state = self.now; stores = report.old.stores.items; ending = ending.now }) }
+        ensures { report.new ≡ report_of before.now (record { state = self.now; stores = report.old.stores.items; ending = ending_of close.now None }) }
     {
         report.start = before.side;
         report.end = self.side();
-        report.touched = ending.touched;
-        report.way = self.way(before.side, ending);
+        report.touched = close.touched;
+        report.way = self.way(before.side, close);
         if self.core.run.locked {
             report.kind = StepKind::Locked;
             report.stores.clear();
             return;
         }
-        match ending.ran {
+        match close.ran {
             Some(code) => {
                 report.kind = StepKind::Ran {
                     pc: before.registers.pc,
@@ -125,7 +148,7 @@ impl Machine {
                 tell_changes(&mut report.changes, before, &self.core);
             }
             None => {
-                report.kind = kind_without(&self.core, ending.cause);
+                report.kind = kind_without(&self.core, close.cause);
                 report.stores.clear();
             }
         }

@@ -6,6 +6,7 @@ ghost use Rattle.tz_sem.specs.Exchange.{core_back, touching};
 ghost use Rattle.tz_sem.specs.Step.{is_call};
 
 use crate::changes::Stores;
+use crate::ending::Close;
 use crate::noting::note_value;
 use crate::port::port_over;
 use crate::running::{Machine, next_of};
@@ -14,17 +15,16 @@ use tz_excret::is_exc_return;
 use tz_gate::{branch_ns, call_ns, function_return, is_fnc_return};
 use tz_model::{Code, Insn};
 use tz_regs::Core;
-use tz_sem::{Cause, Course, Ending};
+use tz_sem::{Cause, Course, Handling};
 
 /// An instruction ran, and did this to the side that runs.
-pub(crate) fn ran_by(cause: Cause, course: Course, code: &Code) -> Ending
-    ensures { result ≡ record { touched = course.touched; cause = cause; ran = Some code.now; handling = None } }
+pub(crate) fn ran_by(cause: Cause, course: Course, code: &Code) -> Close
+    ensures { result ≡ record { touched = course.touched; cause = cause; ran = Some code.now } }
 {
-    Ending {
+    Close {
         touched: course.touched,
         cause,
         ran: Some(*code),
-        handling: None,
     }
 }
 
@@ -60,10 +60,11 @@ pub(crate) fn is_call(insn: &Insn) -> bool
 impl Machine {
     ghost use Rattle.tz_sem.specs.Exchange.{branch_ns as branches_ns, moves_to, comes_back, exchanged, calls};
     ghost use Rattle.tz_sem.specs.Step.{past, length_of};
+    ghost use Rattle.tz_core.specs.Closing.{ending_of};
 
     /// BXNS in Secure state.
-    fn branch_ns(&mut self, course: Course, code: &Code, target: u32) -> Ending
-        ensures { branches_ns self.old course code.now target ≡ record { state = self.new; ending = result } }
+    fn branch_ns(&mut self, course: Course, code: &Code, target: u32) -> Close
+        ensures { branches_ns self.old course code.now target ≡ record { state = self.new; ending = ending_of result None } }
     {
         branch_ns(&mut self.core, target);
         if target % 2 == 0 {
@@ -74,8 +75,8 @@ impl Machine {
     }
 
     /// Moves to a target of an exchange.
-    fn move_to(&mut self, course: Course, code: &Code, target: u32, ns: bool) -> Ending
-        ensures { moves_to self.old course code.now target ns ≡ record { state = self.new; ending = result } }
+    fn move_to(&mut self, course: Course, code: &Code, target: u32, ns: bool) -> Close
+        ensures { moves_to self.old course code.now target ns ≡ record { state = self.new; ending = ending_of result None } }
     {
         if ns {
             return self.branch_ns(course, code, target);
@@ -88,18 +89,27 @@ impl Machine {
 
     /// FNC_RETURN by a value; where it faults the core is what it was before the instruction.
     #[tactic(auto, unfolding(tz_sem::specs::Exchange::comes_back))]
-    fn come_back(&mut self, before: &Core, course: Course, code: &Code, value: u32) -> Ending
-        ensures { comes_back before.now self.old course code.now value ≡ record { state = self.new; ending = result } }
+    fn come_back(
+        &mut self,
+        before: &Core,
+        course: Course,
+        code: &Code,
+        value: u32,
+        noted: &mut Option<Handling>,
+    ) -> Close
+        requires unnoted { noted.old ≡ None }
+        ensures { comes_back before.now self.old course code.now value ≡ record { state = self.new; ending = ending_of result noted.new } }
     {
         let mut frames = frames_over(&mut self.bus, &self.core, course.negative);
-        let ending = match function_return(&mut self.core, &mut frames) {
+        let close = match function_return(&mut self.core, &mut frames) {
             Ok(()) => ran_by(Cause::CameBack, touching(course), code),
             Err(fault) => {
                 take_back(&mut self.core, before);
-                self.fault(touching(course), fault)
+                self.fault(touching(course), fault, noted)
             }
         };
-        note_value(ending, value)
+        note_value(noted, value);
+        close
     }
 
     /// Exchanges to a target: BX, BXNS and loads of PC.
@@ -112,15 +122,17 @@ impl Machine {
         code: &Code,
         target: u32,
         ns: bool,
-    ) -> Ending
-        ensures { exchanged before.now self.old (past insn.now self.old) course code.now target ns ≡ record { state = self.new; ending = result } }
+        noted: &mut Option<Handling>,
+    ) -> Close
+        requires unnoted { noted.old ≡ None }
+        ensures { exchanged before.now self.old (past insn.now self.old) course code.now target ns ≡ record { state = self.new; ending = ending_of result noted.new } }
     {
         if is_fnc_return(target) {
-            return self.come_back(before, course, code, target);
+            return self.come_back(before, course, code, target, noted);
         }
         self.pass(insn);
         if self.core.handler() && is_exc_return(target) {
-            return self.return_by(course, code, target);
+            return self.return_by(course, code, target, noted);
         }
         self.move_to(course, code, target, ns)
     }
@@ -134,8 +146,10 @@ impl Machine {
         code: &Code,
         target: u32,
         stores: &mut Stores,
-    ) -> Ending
-        ensures { calls (past insn.now) self.old course code.now target (wrap (self.old.core.registers.pc + length_of code.now)) ≡ record { state = self.new; stores = stores.new.items; ending = result } }
+        noted: &mut Option<Handling>,
+    ) -> Close
+        requires unnoted { noted.old ≡ None }
+        ensures { calls (past insn.now) self.old course code.now target (wrap (self.old.core.registers.pc + length_of code.now)) ≡ record { state = self.new; stores = stores.new.items; ending = ending_of result noted.new } }
     {
         stores.clear();
         let next = next_of(self.core.registers.pc, code);
@@ -154,7 +168,7 @@ impl Machine {
                 self.pass(insn);
                 ran_by(Cause::Called, course, code)
             }
-            Err(fault) => self.fault(course, fault),
+            Err(fault) => self.fault(course, fault, noted),
         }
     }
 }

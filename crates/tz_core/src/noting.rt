@@ -6,7 +6,7 @@ ghost use Rattle.tz_sem.specs.Taking.{unnoted, handling_of, with_fault, with_val
 
 use tz_frames::{Entering, Refusal};
 use tz_model::Fault;
-use tz_sem::{Ending, Handling};
+use tz_sem::Handling;
 use tz_state::Timer;
 use tz_state::systick_bits::SYST_CSR_TICKINT;
 
@@ -51,28 +51,22 @@ pub(crate) fn by_value(value: u32, refused: Option<Refusal>, entry: Option<Enter
     }
 }
 
-/// How a step ended that began with a fault of its instruction or of its fetch.
-pub(crate) fn note_fault(ending: Ending, fault: Fault) -> Ending
-    ensures { result ≡ record ending { handling = Some (with_fault fault (handling_of ending.handling)) } }
+/// Notes the fault with which the handling of exceptions began, of the instruction or of its fetch.
+pub(crate) fn note_fault(noted: &mut Option<Handling>, fault: Fault)
+    ensures { noted.new ≡ Some (with_fault fault (handling_of noted.old)) }
 {
-    let mut handling = handling_of(&ending.handling);
+    let mut handling = handling_of(noted);
     handling.fault = Some(fault);
-    Ending {
-        handling: Some(handling),
-        ..ending
-    }
+    *noted = Some(handling);
 }
 
-/// How a step ended in which code returned by a value, or tried to.
-pub(crate) fn note_value(ending: Ending, value: u32) -> Ending
-    ensures { result ≡ record ending { handling = Some (with_value value (handling_of ending.handling)) } }
+/// Notes the value by which code returned, or tried to.
+pub(crate) fn note_value(noted: &mut Option<Handling>, value: u32)
+    ensures { noted.new ≡ Some (with_value value (handling_of noted.old)) }
 {
-    let mut handling = handling_of(&ending.handling);
+    let mut handling = handling_of(noted);
     handling.value = Some(value);
-    Ending {
-        handling: Some(handling),
-        ..ending
-    }
+    *noted = Some(handling);
 }
 
 /// Whether the next count of a timer takes it from 1 to 0, so that its SysTick pends.

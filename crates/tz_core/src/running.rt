@@ -7,7 +7,7 @@ ghost use Rattle.tz_model.specs.Codes.{second_of};
 ghost use Rattle.tz_sem.specs.Step.{length_of, sleep_of};
 
 use crate::changes::Stores;
-use crate::ending::{Passage, changes_handler};
+use crate::ending::{Close, Passage, changes_handler, ending_of};
 use crate::exchange::{is_call, ran_by};
 use crate::it_rules::{ignores_condition, is_misplaced, is_passed_over};
 use crate::noting::pends_next;
@@ -20,7 +20,7 @@ use tz_model::{Board, Code, Fault, Insn, Outcome, Report, ScriptEvent, Side, Sle
 use tz_nvic::Exceptions;
 use tz_prio::is_negative;
 use tz_regs::Core;
-use tz_sem::{Account, Cause, Course, Ending};
+use tz_sem::{Account, Cause, Course, Handling};
 
 /// The machine: the core, the exceptions, and memory with the units that guard it.
 #[derive(Drop)]
@@ -68,12 +68,13 @@ fn sleep_of(event: bool) -> Sleep
 }
 
 impl Machine {
-    ghost use Rattle.std.specs.Prelude.{[], true, if◌then◌else◌};
+    ghost use Rattle.std.specs.Prelude.{[], None, true, if◌then◌else◌};
     ghost use Rattle.tz_state.specs.State.{side_of};
     ghost use Rattle.tz_sem.specs.Exec.{executed};
     ghost use Rattle.tz_model.specs.Codes.{meaning_of};
     ghost use Rattle.tz_sem.specs.Step.{past, goes_next, skips, goes_on, concludes, executes, faulting, placed, decoded, runs_gateway, touches_secure, unready, course_in, instructs, idles, by_sleep, takes_exception, started, ended, step};
     ghost use Rattle.tz_sem.specs.Account.{account};
+    ghost use Rattle.tz_core.specs.Closing.{ending_of};
     ghost use Rattle.tz_twin.specs.Integrity.{LeavesSecure, EntersSecure};
     ghost use Rattle.tz_twin.specs.Ways.{TellsWay};
     ghost use Rattle.tz_twin.specs.Writing.{is_exceptional};
@@ -129,8 +130,8 @@ impl Machine {
     }
 
     /// Goes on to the next instruction.
-    fn go_next(&mut self, course: Course, code: &Code) -> Ending
-        ensures { goes_next self.old course code.now ≡ record { state = self.new; ending = result } }
+    fn go_next(&mut self, course: Course, code: &Code) -> Close
+        ensures { goes_next self.old course code.now ≡ record { state = self.new; ending = ending_of result None } }
     {
         self.core.registers.pc = next_of(self.core.registers.pc, code);
         ran_by(Cause::Went, course, code)
@@ -145,8 +146,10 @@ impl Machine {
         code: &Code,
         outcome: Outcome,
         stores: &mut Stores,
-    ) -> Ending
-        ensures { goes_on before.now insn.now self.old course code.now stores.old.items outcome ≡ record { state = self.new; stores = stores.new.items; ending = result } }
+        noted: &mut Option<Handling>,
+    ) -> Close
+        requires unnoted { noted.old ≡ None }
+        ensures { goes_on before.now insn.now self.old course code.now stores.old.items outcome ≡ record { state = self.new; stores = stores.new.items; ending = ending_of result noted.new } }
     {
         match outcome {
             Outcome::Next => {
@@ -165,9 +168,9 @@ impl Machine {
             }
             Outcome::Exchange { target, ns } => {
                 if is_call(insn) {
-                    return self.call(insn, course, code, target, stores);
+                    return self.call(insn, course, code, target, stores, noted);
                 }
-                self.exchange(insn, before, course, code, target, ns)
+                self.exchange(insn, before, course, code, target, ns, noted)
             }
         }
     }
@@ -181,26 +184,28 @@ impl Machine {
         code: &Code,
         outcome: Result<Outcome, Fault>,
         stores: &mut Stores,
-    ) -> Ending
-        ensures { concludes before.now insn.now self.old course code.now stores.old.items outcome ≡ record { state = self.new; stores = stores.new.items; ending = result } }
+        noted: &mut Option<Handling>,
+    ) -> Close
+        requires unnoted { noted.old ≡ None }
+        ensures { concludes before.now insn.now self.old course code.now stores.old.items outcome ≡ record { state = self.new; stores = stores.new.items; ending = ending_of result noted.new } }
     {
         match outcome {
-            Ok(outcome) => self.go_on(insn, before, course, code, outcome, stores),
-            Err(fault) => self.fault(course, fault),
+            Ok(outcome) => self.go_on(insn, before, course, code, outcome, stores, noted),
+            Err(fault) => self.fault(course, fault, noted),
         }
     }
 
     /// SG, reached from Non-secure state.
-    fn run_gateway(&mut self, course: Course, code: &Code) -> Ending
-        ensures { runs_gateway self.old course code.now ≡ record { state = self.new; stores = []; ending = result } }
+    fn run_gateway(&mut self, course: Course, code: &Code) -> Close
+        ensures { runs_gateway self.old course code.now ≡ record { state = self.new; stores = []; ending = ending_of result None } }
     {
         secure_gateway(&mut self.core);
         ran_by(Cause::Went, course, code)
     }
 
     /// Skips an instruction whose condition fails.
-    fn skip(&mut self, course: Course, code: &Code) -> Ending
-        ensures { skips self.old course code.now ≡ record { state = self.new; stores = []; ending = result } }
+    fn skip(&mut self, course: Course, code: &Code) -> Close
+        ensures { skips self.old course code.now ≡ record { state = self.new; stores = []; ending = ending_of result None } }
     {
         self.core.registers.advance_it();
         self.go_next(course, code)
@@ -208,44 +213,67 @@ impl Machine {
 
     /// Runs an instruction whose place and condition let it run. It is always inlined, as `make_step` is.
     #[inline(always)]
-    fn run_here(&mut self, insn: &Insn, code: &Code, course: Course, stores: &mut Stores) -> Ending
-        requires { array_vec_len stores.old ≡ 0 }
-        ensures { executes self.old.core course code.now insn.now (executed self.old insn.now) ≡ record { state = self.new; stores = stores.new.items; ending = result } }
+    fn run_here(
+        &mut self,
+        insn: &Insn,
+        code: &Code,
+        course: Course,
+        stores: &mut Stores,
+        noted: &mut Option<Handling>,
+    ) -> Close
+        requires empty { array_vec_len stores.old ≡ 0 }
+        requires unnoted { noted.old ≡ None }
+        ensures { executes self.old.core course code.now insn.now (executed self.old insn.now) ≡ record { state = self.new; stores = stores.new.items; ending = ending_of result noted.new } }
     {
         let before = self.core;
         let outcome = self.execute(insn, stores);
-        self.conclude(insn, &before, course, code, outcome, stores)
+        self.conclude(insn, &before, course, code, outcome, stores, noted)
     }
 
     /// Runs an instruction, unless it may not stand where it does, or its condition fails.
-    fn run(&mut self, insn: &Insn, code: &Code, course: Course, stores: &mut Stores) -> Ending
-        requires { array_vec_len stores.old ≡ 0 }
-        ensures { placed self.old course code.now insn.now ≡ record { state = self.new; stores = stores.new.items; ending = result } }
+    fn run(
+        &mut self,
+        insn: &Insn,
+        code: &Code,
+        course: Course,
+        stores: &mut Stores,
+        noted: &mut Option<Handling>,
+    ) -> Close
+        requires empty { array_vec_len stores.old ≡ 0 }
+        requires unnoted { noted.old ≡ None }
+        ensures { placed self.old course code.now insn.now ≡ record { state = self.new; stores = stores.new.items; ending = ending_of result noted.new } }
     {
         if is_misplaced(insn, &self.core.registers) {
-            return self.fault(course, Fault::Undef);
+            return self.fault(course, Fault::Undef, noted);
         }
         if is_passed_over(&self.core.registers) && !ignores_condition(self.core.run.side, insn) {
             return self.skip(course, code);
         }
-        self.run_here(insn, code, course, stores)
+        self.run_here(insn, code, course, stores, noted)
     }
 
     /// Runs the instruction that a code means.
-    fn run_code(&mut self, code: &Code, course: Course, stores: &mut Stores) -> Ending
-        requires { array_vec_len stores.old ≡ 0 }
-        ensures { decoded self.old course code.now (meaning_of code.now) ≡ record { state = self.new; stores = stores.new.items; ending = result } }
+    fn run_code(
+        &mut self,
+        code: &Code,
+        course: Course,
+        stores: &mut Stores,
+        noted: &mut Option<Handling>,
+    ) -> Close
+        requires empty { array_vec_len stores.old ≡ 0 }
+        requires unnoted { noted.old ≡ None }
+        ensures { decoded self.old course code.now (meaning_of code.now) ≡ record { state = self.new; stores = stores.new.items; ending = ending_of result noted.new } }
     {
         match decode(code.first, second_of(code)) {
-            Decoded::One(insn, _) => self.run(&insn, code, course, stores),
+            Decoded::One(insn, _) => self.run(&insn, code, course, stores, noted),
             Decoded::NoCoprocessor => {
                 if is_passed_over(&self.core.registers) {
                     self.skip(course, code)
                 } else {
-                    self.fault(course, Fault::NoCp)
+                    self.fault(course, Fault::NoCp, noted)
                 }
             }
-            Decoded::Undefined(_) => self.fault(course, Fault::Undef),
+            Decoded::Undefined(_) => self.fault(course, Fault::Undef, noted),
         }
     }
 
@@ -284,22 +312,24 @@ impl Machine {
     }
 
     /// Faults before anything is fetched, since T is 0.
-    fn fault_unready(&mut self) -> Ending
-        ensures { faulting self.old (course_in self.old (touches_secure self.old.core.run.side self.old)) (unready (touches_secure self.old.core.run.side self.old) self.old.core.run.side) ≡ record { state = self.new; stores = []; ending = result } }
+    fn fault_unready(&mut self, noted: &mut Option<Handling>) -> Close
+        requires unnoted { noted.old ≡ None }
+        ensures { faulting self.old (course_in self.old (touches_secure self.old.core.run.side self.old)) (unready (touches_secure self.old.core.run.side self.old) self.old.core.run.side) ≡ record { state = self.new; stores = []; ending = ending_of result noted.new } }
     {
         let touched = self.touches_secure();
         let fault = self.unready(touched);
         let course = self.course(touched);
-        self.fault(course, fault)
+        self.fault(course, fault, noted)
     }
 
     /// Runs an instruction; where T is 0 it faults before anything is fetched.
-    fn instruct(&mut self, stores: &mut Stores) -> Ending
-        requires { array_vec_len stores.old ≡ 0 }
-        ensures { instructs self.old ≡ record { state = self.new; stores = stores.new.items; ending = result } }
+    fn instruct(&mut self, stores: &mut Stores, noted: &mut Option<Handling>) -> Close
+        requires empty { array_vec_len stores.old ≡ 0 }
+        requires unnoted { noted.old ≡ None }
+        ensures { instructs self.old ≡ record { state = self.new; stores = stores.new.items; ending = ending_of result noted.new } }
     {
         if !self.core.registers.t {
-            return self.fault_unready();
+            return self.fault_unready(noted);
         }
         let fetcher = self.fetcher();
         let found = self.bus.fetch_told(self.core.registers.pc, &fetcher);
@@ -308,26 +338,25 @@ impl Machine {
             negative: fetcher.negative,
         };
         match found.answer {
-            Err(fault) => self.fault(course, fault),
+            Err(fault) => self.fault(course, fault, noted),
             Ok(fetched) => {
                 if fetched.gateway {
                     self.run_gateway(course, &fetched.code)
                 } else {
-                    self.run_code(&fetched.code, course, stores)
+                    self.run_code(&fetched.code, course, stores, noted)
                 }
             }
         }
     }
 
     /// Sleeps on.
-    fn idle(&self) -> Ending
-        ensures { idles self.now ≡ record { state = self.now; stores = []; ending = result } }
+    fn idle(&self) -> Close
+        ensures { idles self.now ≡ record { state = self.now; stores = []; ending = ending_of result None } }
     {
-        Ending {
+        Close {
             touched: self.core.run.side == Side::Secure,
             cause: Cause::Went,
             ran: None,
-            handling: None,
         }
     }
 
@@ -358,56 +387,64 @@ impl Machine {
     }
 
     /// Goes on, or sleeps on, by what the core waits for.
-    fn go_by_sleep(&mut self, stores: &mut Stores) -> Ending
-        requires { array_vec_len stores.old ≡ 0 }
-        ensures { by_sleep self.old.core.run.sleep self.old ≡ record { state = self.new; stores = stores.new.items; ending = result } }
+    fn go_by_sleep(&mut self, stores: &mut Stores, noted: &mut Option<Handling>) -> Close
+        requires empty { array_vec_len stores.old ≡ 0 }
+        requires unnoted { noted.old ≡ None }
+        ensures { by_sleep self.old.core.run.sleep self.old ≡ record { state = self.new; stores = stores.new.items; ending = ending_of result noted.new } }
     {
         if self.rouse() {
-            self.instruct(stores)
+            self.instruct(stores, noted)
         } else {
             self.idle()
         }
     }
 
     /// Takes the exception that comes first before an instruction, which ends a sleep.
-    fn take(&mut self) -> Ending
-        ensures { takes_exception self.old ≡ record { state = self.new; stores = []; ending = result } }
+    fn take(&mut self, noted: &mut Option<Handling>) -> Close
+        ensures { takes_exception self.old ≡ record { state = self.new; stores = []; ending = ending_of result noted.new } }
     {
         let course = self.course(self.core.run.side == Side::Secure);
         let back = self.core.registers.pc;
         self.wake();
-        self.preempt(course, back)
+        self.preempt(course, back, noted)
     }
 
     /// Makes one step after what it begins with, but for its report: notes the stores, and tells how it ended. Each of
     /// its two callers has a copy of its own, since what a call hands back and forth would cost each step some 50 instructions.
     #[inline(always)]
     #[tactic(auto, unfolding(tz_sem::specs::Step::ended))]
-    fn make_step(&mut self, stores: &mut Stores) -> Ending
-        requires { array_vec_len stores.old ≡ 0 }
-        ensures { ended self.old ≡ record { state = self.new; stores = stores.new.items; ending = result } }
+    fn make_step(&mut self, stores: &mut Stores, noted: &mut Option<Handling>) -> Close
+        requires empty { array_vec_len stores.old ≡ 0 }
+        requires unnoted { noted.old ≡ None }
+        ensures { ended self.old ≡ record { state = self.new; stores = stores.new.items; ending = ending_of result noted.new } }
     {
         if self.core.run.locked {
-            return self.lock(true, None);
+            return self.lock(true);
         }
         if takes_first_uncounted(&self.core, &mut self.exceptions) {
-            return self.take();
+            return self.take(noted);
         }
-        self.go_by_sleep(stores)
+        self.go_by_sleep(stores, noted)
     }
 
     /// Makes one step with its report, and tells how it ended.
-    fn report_step(&mut self, due: &[ScriptEvent], report: &mut Report) -> Ending
+    fn report_step(
+        &mut self,
+        due: &[ScriptEvent],
+        report: &mut Report,
+        noted: &mut Option<Handling>,
+    ) -> Close
+        requires unnoted { noted.old ≡ None }
         ensures step { step self.old due.now ≡ record { state = self.new; report = report.new } }
-        ensures ending { (ended (started self.old due.now)).ending ≡ result }
+        ensures ending { (ended (started self.old due.now)).ending ≡ ending_of result noted.new }
     {
         let before = self.core.before();
         report.changes.clear();
         report.stores.clear();
         self.start(due);
-        let ending = self.make_step(&mut report.stores);
-        self.tell(&before, &ending, report);
-        ending
+        let close = self.make_step(&mut report.stores, noted);
+        self.tell(&before, &close, report);
+        close
     }
 
     /// Makes one step at which these events are due, and tells of it the way out of Secure state, and whether it was
@@ -421,10 +458,11 @@ impl Machine {
         let start = self.core.running_side();
         stores.clear();
         self.start(due);
-        let ending = self.make_step(stores);
+        let mut noted = None;
+        let close = self.make_step(stores, &mut noted);
         Passage {
-            way: self.way(start, &ending),
-            exceptional: self.core.run.locked || changes_handler(ending.cause),
+            way: self.way(start, &close),
+            exceptional: self.core.run.locked || changes_handler(close.cause),
         }
     }
 
@@ -435,7 +473,8 @@ impl Machine {
         ensures enters_secure { EntersSecure self.old due.now (record { state = self.new; report = report.new }) }
         ensures tells_way { TellsWay (record { state = self.new; report = report.new }) }
     {
-        self.report_step(due, report);
+        let mut noted = None;
+        self.report_step(due, report, &mut noted);
     }
 
     /// Makes one step at which these events are due, and tells in `report` what it did, and beside that what neither
@@ -448,12 +487,13 @@ impl Machine {
         let core = self.core;
         let ticked_s = pends_next(&self.exceptions.timer(Side::Secure));
         let ticked_ns = pends_next(&self.exceptions.timer(Side::NonSecure));
-        let ending = self.report_step(due, report);
+        let mut noted = None;
+        let close = self.report_step(due, report, &mut noted);
         Account {
             core,
             ticked_s,
             ticked_ns,
-            ending,
+            ending: ending_of(&close, noted),
         }
     }
 

@@ -5,13 +5,14 @@ ghost use Rattle.tz_table.specs.declared.units.Side.TheVariants.{Secure};
 ghost use Rattle.tz_state.specs.State.{is_privileged_in};
 ghost use Rattle.tz_sem.specs.Taking.{goes_on_at, passed_by};
 
+use crate::ending::Close;
 use crate::noting::{by_entry, by_value, note_fault};
 use crate::running::Machine;
 use tz_access::{Bus, BusFrames};
 use tz_excret::{Entered, Left, enter, leave, raise_fault};
 use tz_model::{Code, Fault, Side};
 use tz_regs::Core;
-use tz_sem::{Cause, Course, Ending, Handling};
+use tz_sem::{Cause, Course, Handling};
 
 /// Where code goes on that faulted: at the instruction, and behind SVC, which has two bytes.
 fn goes_on_at(fault: Fault, pc: u32) -> u32
@@ -58,38 +59,44 @@ impl Machine {
     ghost use Rattle.std.specs.Prelude.{Some, None, true};
     ghost use Rattle.tz_sem.specs.declared.ending.Cause.TheVariants.{Resumed};
     ghost use Rattle.tz_sem.specs.Exec.{released};
-    ghost use Rattle.tz_sem.specs.Taking.{by_value, locks, taken, preempted, faults, returns};
+    ghost use Rattle.tz_sem.specs.Taking.{locks, taken, preempted, faults, returns};
+    ghost use Rattle.tz_core.specs.Closing.{ending_of};
 
     /// Locks the machine, by a fault or because it was locked.
-    pub(crate) fn lock(&mut self, touched: bool, handling: Option<Handling>) -> Ending
-        ensures { locks self.old touched handling ≡ record { state = self.new; ending = result } }
+    pub(crate) fn lock(&mut self, touched: bool) -> Close
+        ensures state { self.new ≡ (locks self.old touched None).state }
+        ensures close { ending_of result None ≡ (locks self.old touched None).ending }
     {
         self.core.run.locked = true;
-        Ending {
+        Close {
             touched,
             cause: Cause::Went,
             ran: None,
-            handling,
         }
     }
 
     /// Ends a step in which an exception was taken, which clears the monitor.
-    fn end_taken(&mut self, touched: bool, handling: Handling) -> Ending
-        ensures { taken self.old touched (Some handling) ≡ record { state = self.new; ending = result } }
+    fn end_taken(&mut self, touched: bool) -> Close
+        ensures state { self.new ≡ (taken self.old touched None).state }
+        ensures close { ending_of result None ≡ (taken self.old touched None).ending }
     {
         self.bus.monitor_clear();
-        Ending {
+        Close {
             touched,
             cause: Cause::Taken,
             ran: None,
-            handling: Some(handling),
         }
     }
 
     /// Takes the exception that comes first, from the code that runs, which goes on at `back` later.
     #[tactic(auto, unfolding(tz_sem::specs::Taking::preempted))]
-    pub(crate) fn preempt(&mut self, course: Course, back: u32) -> Ending
-        ensures { preempted self.old course back ≡ record { state = self.new; ending = result } }
+    pub(crate) fn preempt(
+        &mut self,
+        course: Course,
+        back: u32,
+        noted: &mut Option<Handling>,
+    ) -> Close
+        ensures { preempted self.old course back ≡ record { state = self.new; ending = ending_of result noted.new } }
     {
         let profile = self.bus.board().profile;
         let mut frames = frames_over(&mut self.bus, &self.core, course.negative);
@@ -101,10 +108,12 @@ impl Machine {
             profile,
         ) {
             Entered::Taken { entry, .. } => {
-                self.end_taken(course.touched | entry.touched, by_entry(entry))
+                *noted = Some(by_entry(entry));
+                self.end_taken(course.touched | entry.touched)
             }
             Entered::Lockup { entry } => {
-                self.lock(course.touched | entry.touched, Some(by_entry(entry)))
+                *noted = Some(by_entry(entry));
+                self.lock(course.touched | entry.touched)
             }
         }
     }
@@ -112,38 +121,49 @@ impl Machine {
     /// Ends a step with a fault of the code that runs: its status bits are set, its exception pends, and an exception
     /// is taken.
     #[tactic(auto, unfolding(tz_sem::specs::Taking::faults))]
-    pub(crate) fn fault(&mut self, course: Course, fault: Fault) -> Ending
-        ensures { faults self.old course fault ≡ record { state = self.new; ending = result } }
+    pub(crate) fn fault(
+        &mut self,
+        course: Course,
+        fault: Fault,
+        noted: &mut Option<Handling>,
+    ) -> Close
+        requires unnoted { noted.old ≡ None }
+        ensures { faults self.old course fault ≡ record { state = self.new; ending = ending_of result noted.new } }
     {
         let back = goes_on_at(fault, self.core.registers.pc);
-        let ending = if raise_fault(&mut self.core, &mut self.exceptions, fault) {
-            self.lock(course.touched, None)
+        let close = if raise_fault(&mut self.core, &mut self.exceptions, fault) {
+            self.lock(course.touched)
         } else {
             pass_by(&mut self.core, fault);
-            self.preempt(course, back)
+            self.preempt(course, back, noted)
         };
-        note_fault(ending, fault)
+        note_fault(noted, fault);
+        close
     }
 
-    /// Ends a step in which an exception returned, by a value, to the code that it had interrupted, which clears the
-    /// monitor.
-    fn end_resumed(&mut self, touched: bool, code: &Code, value: u32) -> Ending
+    /// Ends a step in which an exception returned to the code that it had interrupted, which clears the monitor.
+    fn end_resumed(&mut self, touched: bool, code: &Code) -> Close
         ensures state { self.new ≡ released self.old }
-        ensures ending { result ≡ record { touched = touched; cause = Resumed; ran = Some code.now; handling = Some (by_value value None None) } }
+        ensures close { result ≡ record { touched = touched; cause = Resumed; ran = Some code.now } }
     {
         self.bus.monitor_clear();
-        Ending {
+        Close {
             touched,
             cause: Cause::Resumed,
             ran: Some(*code),
-            handling: Some(by_value(value, None, None)),
         }
     }
 
     /// Returns from the exception that runs, by a value.
     #[tactic(auto, unfolding(tz_sem::specs::Taking::returns))]
-    pub(crate) fn return_by(&mut self, course: Course, code: &Code, value: u32) -> Ending
-        ensures { returns self.old course code.now value ≡ record { state = self.new; ending = result } }
+    pub(crate) fn return_by(
+        &mut self,
+        course: Course,
+        code: &Code,
+        value: u32,
+        noted: &mut Option<Handling>,
+    ) -> Close
+        ensures { returns self.old course code.now value ≡ record { state = self.new; ending = ending_of result noted.new } }
     {
         let profile = self.bus.board().profile;
         let mut frames = frames_over(&mut self.bus, &self.core, course.negative);
@@ -154,15 +174,18 @@ impl Machine {
             value,
             profile,
         ) {
-            Left::Resumed { touched } => self.end_resumed(course.touched | touched, code, value),
-            Left::Chained { refused, entry, .. } => self.end_taken(
-                course.touched | entry.touched,
-                by_value(value, refused, Some(entry)),
-            ),
-            Left::Lockup { refused, entry } => self.lock(
-                course.touched | entry.touched,
-                Some(by_value(value, refused, Some(entry))),
-            ),
+            Left::Resumed { touched } => {
+                *noted = Some(by_value(value, None, None));
+                self.end_resumed(course.touched | touched, code)
+            }
+            Left::Chained { refused, entry, .. } => {
+                *noted = Some(by_value(value, refused, Some(entry)));
+                self.end_taken(course.touched | entry.touched)
+            }
+            Left::Lockup { refused, entry } => {
+                *noted = Some(by_value(value, refused, Some(entry)));
+                self.lock(course.touched | entry.touched)
+            }
         }
     }
 }
