@@ -114,13 +114,13 @@ impl Machine {
     {
         let exceptions = Exceptions::new(alloc, board.interrupts)?;
         let mut bus = Bus::new(alloc, board)?;
-        let codes = Codes::new(alloc)?;
+        let kept = Codes::new(alloc)?;
         put_memory(alloc, &mut bus, &board.regions, memory)?;
         Ok(Machine {
             core: Core::reset(0, 0, 0, 0, false),
             exceptions,
             bus,
-            codes,
+            kept,
         })
     }
 

@@ -30,7 +30,7 @@ pub struct Machine {
     pub(crate) core: Core,
     pub(crate) exceptions: Exceptions,
     pub(crate) bus: Bus,
-    pub(crate) codes: Codes,
+    pub(crate) kept: Codes,
 }
 
 impl Model for Machine {
@@ -239,7 +239,7 @@ impl Machine {
         requires { array_vec_len stores.old ≡ 0 }
         ensures { decoded self.old course code.now (meaning_of code.now) ≡ record { state = self.new; stores = stores.new.items; ending = result } }
     {
-        match self.codes.decode(code.first, second_of(code)) {
+        match self.kept.decode(code.first, second_of(code)) {
             Decoded::One(insn, _) => self.run(&insn, code, course, stores),
             Decoded::NoCoprocessor => {
                 if is_passed_over(&self.core.registers) {

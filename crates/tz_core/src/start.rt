@@ -67,14 +67,14 @@ impl Machine {
     {
         let exceptions = Exceptions::new(alloc, board.interrupts)?;
         let mut bus = Bus::new(alloc, board)?;
-        let codes = Codes::new(alloc)?;
+        let kept = Codes::new(alloc)?;
         put_segments(&mut bus, &secure.segments);
         put_segments(&mut bus, &nonsecure.segments);
         Ok(Machine {
             core: start_core(&bus),
             exceptions,
             bus,
-            codes,
+            kept,
         })
     }
 }
