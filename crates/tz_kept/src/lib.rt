@@ -11,7 +11,7 @@ ghost use Rattle.tz_table.specs.Table.{decode_of};
 
 mod entry;
 
-use crate::entry::Entry;
+use crate::entry::{Entry, key_of};
 use std::alloc::{AllocError, Global};
 use std::marker::Model;
 use tz_decode::Decoded;
@@ -25,25 +25,22 @@ const SPREAD: u32 = 0x9e37_79b1;
 /// Decoded instructions, kept under their halfwords.
 #[derive(Drop)]
 pub struct Codes {
-    entries: Vec<Entry>,
+    entries: Box<[Entry; PLACES]>,
 }
 
 impl Model for Codes {
-    ghost use Rattle.std.specs.Prelude.{◌≡◌, length, ⊤};
+    ghost use Rattle.std.specs.Prelude.{⊤};
 
     ghost Value = { ⊤ };
 
     ghost view = { λ c. tt };
-
-    ghost invariant = { λ c. length c.entries.items ≡ 512 };
 }
 
-/// The place of a code: the highest bits of its product.
-fn place_of(first: u16, second: u16) -> usize
+/// The place of a code: the highest bits of a product.
+fn place_of(key: u32) -> usize
     ensures { result < 512 }
 {
-    let code = u32::from(second) << 16 | u32::from(first);
-    (code.wrapping_mul(SPREAD) >> 23) as usize % PLACES
+    (key.wrapping_mul(SPREAD) >> 23) as usize % PLACES
 }
 
 impl Codes {
@@ -53,7 +50,7 @@ impl Codes {
     ///
     /// `AllocError` where memory runs out.
     pub fn new(alloc: Global) -> Result<Codes, AllocError> {
-        let entries = vec![in alloc; Entry::of(0, 0); PLACES]?;
+        let entries = Box::new(alloc, [Entry::of(0, 0); PLACES])?;
         Ok(Codes { entries })
     }
 
@@ -62,9 +59,10 @@ impl Codes {
     pub fn decode(&mut self, first: u16, second: u16) -> Decoded
         ensures { result ≡ decode_of first second }
     {
-        let place = place_of(first, second);
-        let kept = self.entries[place];
-        if kept.first == first && kept.second == second {
+        let key = key_of(first, second);
+        let place = place_of(key);
+        let kept = &self.entries[place];
+        if kept.key == key {
             return kept.meaning;
         }
         let entry = Entry::of(first, second);
