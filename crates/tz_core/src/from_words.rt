@@ -14,6 +14,7 @@ use crate::words::{field_at, field_count, slot_count, slot_place};
 use std::alloc::{AllocError, Global};
 use thiserror::Error;
 use tz_access::Bus;
+use tz_kept::Codes;
 use tz_model::{Board, Region, Segment};
 use tz_nvic::Exceptions;
 use tz_regs::Core;
@@ -113,11 +114,13 @@ impl Machine {
     {
         let exceptions = Exceptions::new(alloc, board.interrupts)?;
         let mut bus = Bus::new(alloc, board)?;
+        let kept = Codes::new(alloc)?;
         put_memory(alloc, &mut bus, &board.regions, memory)?;
         Ok(Machine {
             core: Core::reset(0, 0, 0, 0, false),
             exceptions,
             bus,
+            kept,
         })
     }
 

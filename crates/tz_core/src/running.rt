@@ -13,21 +13,24 @@ use crate::it_rules::{ignores_condition, is_misplaced, is_passed_over};
 use crate::noting::pends_next;
 use std::marker::Model;
 use tz_access::Bus;
-use tz_decode::{Decoded, decode};
+use tz_decode::Decoded;
 use tz_excret::takes_first_uncounted;
 use tz_gate::secure_gateway;
+use tz_kept::Codes;
 use tz_model::{Board, Code, Fault, Insn, Outcome, Report, ScriptEvent, Side, Sleep};
 use tz_nvic::Exceptions;
 use tz_prio::is_negative;
 use tz_regs::Core;
 use tz_sem::{Account, Cause, Course, Handling};
 
-/// The machine: the core, the exceptions, and memory with the units that guard it.
+/// The machine: the core, the exceptions, and memory with the units that guard it; beside that, which is no part of
+/// its state, the instructions that it decoded last.
 #[derive(Drop)]
 pub struct Machine {
     pub(crate) core: Core,
     pub(crate) exceptions: Exceptions,
     pub(crate) bus: Bus,
+    pub(crate) kept: Codes,
 }
 
 impl Model for Machine {
@@ -264,7 +267,7 @@ impl Machine {
         requires unnoted { noted.old ≡ None }
         ensures { decoded self.old course code.now (meaning_of code.now) ≡ record { state = self.new; stores = stores.new.items; ending = ending_of result noted.new } }
     {
-        match decode(code.first, second_of(code)) {
+        match self.kept.decode(code.first, second_of(code)) {
             Decoded::One(insn, _) => self.run(&insn, code, course, stores, noted),
             Decoded::NoCoprocessor => {
                 if is_passed_over(&self.core.registers) {

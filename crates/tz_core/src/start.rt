@@ -13,6 +13,7 @@ ghost use Rattle.tz_sem.specs.Boot.{with_segments, start_from, boot};
 use crate::running::Machine;
 use std::alloc::{AllocError, Global};
 use tz_access::Bus;
+use tz_kept::Codes;
 use tz_model::{Board, Image, Segment, Size};
 use tz_nvic::Exceptions;
 use tz_regs::Core;
@@ -66,12 +67,14 @@ impl Machine {
     {
         let exceptions = Exceptions::new(alloc, board.interrupts)?;
         let mut bus = Bus::new(alloc, board)?;
+        let kept = Codes::new(alloc)?;
         put_segments(&mut bus, &secure.segments);
         put_segments(&mut bus, &nonsecure.segments);
         Ok(Machine {
             core: start_core(&bus),
             exceptions,
             bus,
+            kept,
         })
     }
 }
