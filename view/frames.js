@@ -20,6 +20,14 @@ function framesOf(trace, row) {
     return words ? [{ caption: WORKED_OUT, words }] : [];
 }
 
+// What the view `full` tells of an entry for the registers behind it: whether R0 to R3, R12 and the flags are zero, and
+// where the frames begin, or -1. Of another view it is null.
+function toldOfEntry(further) {
+    if (!ENTRY_LINE.test(further)) return null;
+    const frame = toldFrame(further, '', '');
+    return { clearsScratch: /^ +cleared r0-r/m.test(further), base: frame ? parseInt(frame.words[0].address, 16) : -1 };
+}
+
 function toldFrame(further, from, what) {
     const words = [];
     let stack = '';
