@@ -62,8 +62,8 @@ class Registers {
         }
     }
 
-    // The stack pointers: frames lie below that of the interrupted code, where the trace may have told it, and the handler
-    // runs on MSP of its side.
+    // The stack pointers: frames lie below that of the interrupted code, at a place that the trace may have told, and
+    // the handler runs on MSP of its side.
     takeStacks(parts, isTail, row, told) {
         const background = SP + (parts.secureFrame ? SECURE : NONSECURE);
         const handler = SP + (parts.secureHandler ? SECURE : NONSECURE);
