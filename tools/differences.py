@@ -48,10 +48,11 @@ ALONE = {
 SCRATCH = Told(
     "Non-secure code has it at its next instruction",
     "a register that Secure code has worked with isn't cleared. Where it is the answer (R0 to R3), the answer itself "
-    "depends on the secret",
+    "depends on the secret, or Secure code has read for its caller what the caller may not read",
     "C: give the function the attribute cmse_nonsecure_entry and compile it by -mcmse. Assembly: clear R0 to R3 and "
     "R12, as far as they aren't the answer, before bxns. Where it is the answer, compare two secrets that have the "
-    "same one",
+    "same one; where each secret has its own, as of a cipher, build both images with 0 in its place. Read an address "
+    "of the caller's once, and look at it before it is used",
 )
 KEPT = Told(
     "Non-secure code has it at its next instruction",
@@ -87,7 +88,8 @@ WHATS = {
         "Secure code stores to its caller's memory what depends on the secret, often a struct that is copied whole; "
         "or the SAU has made memory Non-secure in which a secret still stands",
         "store field by field what the caller is to have, and nothing else; clear memory before it becomes "
-        "Non-secure",
+        "Non-secure. Where the answer is stored there and each secret has its own, build both images with 0 in its "
+        "place",
     ),
     "sp": Told(
         "MSP_NS or PSP_NS differs",

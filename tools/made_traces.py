@@ -13,6 +13,19 @@ FURTHER = """\
 5 s N 10000100 e7fe b 0x10000100
 """
 
+# A frame that can't be written, as the view `full` tells it: the stack pointer leads nowhere.
+FRAMELESS = """\
+0 s N 10000040 4800 ldr r0, [pc, #0] r0=00200040 sp=00000000
+1 s X 3 fffffff9
+    fault PRECISERR fffffff8
+    HardFault S for BusFault S (FORCED): BusFault is not enabled
+    interrupted 10000042 S thread
+    frame not written: STKERR ffffffe0
+    takes 3 HardFault S, priority -1, DCRS 1
+    vector 1000000c 10000101
+2 s N 10000100 e7fe b 0x10000100
+"""
+
 # Interrupt 2 is interrupted by interrupt 3, whose return ends in the entry of interrupt 4. That this is a tail-chain is
 # told only by the return of interrupt 4, to where interrupt 2 was left.
 CHAINED = """\

@@ -5,6 +5,7 @@ A line is bytes, as `tzrun run` writes it. Of the lines no more is kept than wha
 
 import collections
 import contextlib
+import itertools
 import pathlib
 import re
 import subprocess
@@ -25,6 +26,8 @@ MOST_TOLD, MOST_KEPT = 6, 200_000
 SECURE = b"s"
 EXC_RETURN = 0xFF
 FAULTS = (b"3", b"4", b"5", b"6", b"7")
+# Which lines of the view full say why an exception is taken.
+CAUSES = (b"    fault ", b"    HardFault ", b"    refused: ", b"    interrupted ")
 REGISTER = re.compile(rb" (r\d+|lr|apsr)=([0-9a-f]{8})")
 STORE = re.compile(rb" (\[([0-9a-f]{8})\]\.([124])=([0-9a-f]{8}))")
 BRANCH = re.compile(rb" (blxns|bxns) (r\d+|lr)\b")
@@ -76,6 +79,15 @@ def kind_of_line(line):
 def is_fault(line):
     """Whether an exception is taken that is a fault: 3 to 7."""
     return b" X " in line and kind_of_line(line) == b"X" and line.split()[3] in FAULTS
+
+
+def causes_below(line, board, secure, nonsecure, script):
+    """Why the exception of a line of a run is taken: what the view full has below the line, without what it leaves."""
+    step = int(line.split()[0])
+    with traces((board, secure, nonsecure, script, step + 1, "full")) as (streams, _):
+        below = itertools.dropwhile(lambda its: its != line, streams[0])
+        next(below, None)
+        return [its for its in itertools.takewhile(lambda its: its[:1] == b" ", below) if its.startswith(CAUSES)]
 
 
 def place_of(line):

@@ -101,61 +101,6 @@ function linkOf(link) {
     return meanings.map(([name, isOne, meaning]) => ({ name, value: isOne ? '1' : '0', meaning }));
 }
 
-const INTEGRITY_SIGNATURE = 0xfefa125b;
-
-// The frame of an entry, from what was known before it: words that the trace doesn't list, worked out by the rules.
-function frameOf(trace, row) {
-    const taken = trace.takenAt(trace.takenAtRow(row));
-    if (taken.isTail) return null;
-    const parts = exceptionReturn(taken.link);
-    const before = row ? trace.registersAfter(row - 1) : new Registers();
-    const place = SP + (parts.secureFrame ? SECURE : NONSECURE);
-    const stack = before.isKnown(place) ? before.values[place] : -1;
-    const base = stack < 0 ? -1 : (stack - 0x20 & ~4) >>> 0;
-    const words = basicWords(trace, taken, before, stack);
-    const hasMore = parts.secureFrame && !parts.secureHandler;
-    if (hasMore) words.unshift(...additionalWords(before));
-    const first = hasMore ? -0x28 : 0;
-    return words.map((word, at) => ({
-        address: base < 0 ? '' : hex(base + first + 4 * at), value: word.value, what: word.what,
-    }));
-}
-
-function wordOf(registers, register, what) {
-    const isKnown = registers.sure[register] !== SURE.UNKNOWN;
-    return { value: isKnown ? hex(registers.values[register]) : '', what };
-}
-
-function additionalWords(before) {
-    const words = [
-        { value: hex(INTEGRITY_SIGNATURE), what: 'integrity signature' }, { value: '00000000', what: 'nothing' },
-    ];
-    for (let register = 4; register <= 11; register++) words.push(wordOf(before, register, `R${register}`));
-    return words;
-}
-
-function basicWords(trace, taken, before, stack) {
-    const words = [0, 1, 2, 3, 12].map((register) => wordOf(before, register, `R${register}`));
-    words.push(wordOf(before, LR, 'LR'), returnWord(trace, taken), statusWord(trace, taken, before, stack));
-    return words;
-}
-
-// The return address isn't in the trace, but where the code went on after the return is.
-function returnWord(trace, taken) {
-    const next = taken.end + 1;
-    const isSeen = taken.end >= 0 && next < trace.count && trace.kinds[next] === KIND.RAN
-        && trace.ways[taken.end] === WAY.EXCEPTION_RETURN;
-    if (!isSeen) return { value: '', what: 'return address: no return is seen' };
-    return { value: hex(trace.pcs[next]), what: `return address: where the code went on at step ${trace.steps[next]}` };
-}
-
-function statusWord(trace, taken, before, stack) {
-    if (!before.isKnown(APSR) || stack < 0) return { value: '', what: 'RETPSR' };
-    const number = taken.outer < 0 ? 0 : trace.takenNumbers[taken.outer];
-    const value = before.values[APSR] | 1 << 24 | (stack & 4 ? 1 << 9 : 0) | number;
-    return { value: hex(value), what: 'RETPSR, outside of an IT block' };
-}
-
 function placeOf(trace, row, { code, text }, symbols) {
     return { address: hex(trace.pcs[row]), code, text, name: symbols.nameOf(trace.pcs[row]) };
 }
@@ -174,7 +119,8 @@ function describe(trace, row, symbols) {
         where: ran ? placeOf(trace, row, ran, symbols) : null,
         changes: ran ? changesOf(trace, row, ran.listed) : [],
         stores: ran ? ran.stores : [],
-        entry: entry ? { ...entry, bits: linkOf(entry.link), frame: frameOf(trace, row) } : null,
+        entry: entry ? { ...entry, bits: linkOf(entry.link) } : null,
+        frames: framesOf(trace, row),
         registers: registersOf(trace, row),
         further: trace.further(row),
     };

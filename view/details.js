@@ -2,7 +2,6 @@
 'use strict';
 
 const REGISTERS_CAPTION = 'Registers after this step, as far as the trace tells';
-const FRAME_CAPTION = 'The frame, worked out from what the trace tells: it lists no words of frames';
 const FRAME_OF_TAIL_CHAIN = 'The words that the first entry wrote stay. At most R4 to R11 are written below them.';
 
 class Details {
@@ -25,8 +24,8 @@ class Details {
         const name = this.page.axis.tracks.length > 1 ? element('p', { class: 'name' }, trace.name) : null;
         if (!facts) return element('section', {}, name, element('p', {}, 'This trace has no line here.'));
         return element('section', {}, name, heading(facts), element('p', { class: 'sentence' }, facts.sentence),
-            placeTable(facts), changesTable(facts), storesTable(facts), this.entryParts(trace, facts),
-            furtherLines(facts), this.registersTable(facts));
+            placeTable(facts), furtherLines(facts), changesTable(facts), storesTable(facts),
+            this.entryParts(trace, facts), ...facts.frames.map(frameTable), this.registersTable(facts));
     }
 
     stepLink(step) {
@@ -54,7 +53,7 @@ class Details {
         const bits = table(`LR in the handler: ${hex(entry.link)} (EXC_RETURN)`, ['Bit', 'Value', 'Meaning'],
             entry.bits.map(({ name, value, meaning }) => [name, value, meaning]));
         const told = element('p', {}, `Exception ${entry.number} `, ...[end].flat(), '.');
-        return element('div', {}, told, bits, frameTable(entry));
+        return element('div', {}, told, bits, entry.isTail ? element('p', {}, FRAME_OF_TAIL_CHAIN) : null);
     }
 }
 
@@ -107,13 +106,15 @@ function storesTable(facts) {
         element('code', {}, hex(address)), String(size), element('code', {}, hex(value))]));
 }
 
-function frameTable(entry) {
-    if (!entry.frame) return element('p', {}, FRAME_OF_TAIL_CHAIN);
-    const rows = entry.frame.map(({ address, value, what }) => [
+function frameTable({ caption, words }) {
+    const rows = words.map(({ address, value, what }) => [
         element('code', {}, address || '—'), element('code', {}, value || '—'), what]);
-    return table(FRAME_CAPTION, ['Address', 'Word', 'What'], rows);
+    return table(caption, ['Address', 'Word', 'What'], rows);
 }
 
+// A line that is broken goes on further in.
 function furtherLines(facts) {
-    return facts.further ? element('pre', { class: 'further' }, facts.further) : null;
+    if (!facts.further) return null;
+    const lines = facts.further.split('\n').filter(Boolean);
+    return element('div', { class: 'further' }, ...lines.map((line) => element('p', {}, line.trim())));
 }

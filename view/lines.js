@@ -111,9 +111,11 @@ function lineParts(trace, row) {
     if (trace.kinds[row] === KIND.TAKEN) {
         const taken = trace.takenAt(trace.takenAtRow(row));
         const name = `exception ${taken.number}, ${exceptionName(taken.number)}`;
-        return [element('b', {}, name), ` LR ${hex(taken.link)}`];
+        return [element('b', {}, name), ` LR ${hex(taken.link)} `, faultOf(trace, row)];
     }
-    if (trace.kinds[row] !== KIND.RAN) return [element('i', {}, KIND_LABELS[trace.kinds[row]])];
+    if (trace.kinds[row] !== KIND.RAN) {
+        return [element('i', {}, KIND_LABELS[trace.kinds[row]]), ' ', faultOf(trace, row)];
+    }
     const { text, listed, stores } = trace.instruction(row);
     const nameOf = (register) => (register === SP ? 'sp' : REGISTER_NAMES[register]);
     const changes = listed.map(({ register, value }) => `${nameOf(register)}=${hex(value)}`);
@@ -121,6 +123,12 @@ function lineParts(trace, row) {
     const effects = [...changes, ...written].join(' ');
     const words = `${hex(trace.pcs[row])} ${text} `;
     return effects ? [words, element('span', { class: 'effects' }, `${effects} `)] : [words];
+}
+
+// The first fault that a row's further lines have, as those of the view `full`.
+function faultOf(trace, row) {
+    const found = /^ +(fault .+)$/m.exec(trace.further(row));
+    return found ? element('span', { class: 'effects' }, found[1]) : null;
 }
 
 // Tells `move` the vertical pixels of a drag by touch or pen; a mouse has its wheel.

@@ -48,12 +48,13 @@ class Registers {
     }
 
     // The handler's R0 to R12 and flags. A Non-secure handler finds zeros, in R4 to R11 where Secure code was
-    // interrupted. A Secure one finds them as they were on a board of v8.0, and zeros on v8.1. A return that ended in
-    // this entry may have loaded R4 to R11 before.
-    takeGeneral(parts, isTail, row) {
+    // interrupted. A Secure one finds them as they were on a board of v8.0, and zeros on v8.1; which of both the trace
+    // may have told. A return that ended in this entry may have loaded R4 to R11 before.
+    takeGeneral(parts, isTail, row, told) {
+        const isCleared = told ? told.clearsScratch : !parts.secureHandler;
         for (const register of [0, 1, 2, 3, 12, APSR]) {
-            if (parts.secureHandler) this.doubt(register, row);
-            else this.set(register, 0, row, SURE.BY_RULE);
+            if (isCleared) this.set(register, 0, row, SURE.BY_RULE);
+            else if (!told) this.doubt(register, row);
         }
         for (let register = 4; register <= 11; register++) {
             if (!parts.secureHandler && parts.secureFrame) this.set(register, 0, row, SURE.BY_RULE);
@@ -61,8 +62,9 @@ class Registers {
         }
     }
 
-    // The stack pointers: frames lie below that of the interrupted code, and the handler runs on MSP of its side.
-    takeStacks(parts, isTail, row) {
+    // The stack pointers: frames lie below that of the interrupted code, at a place that the trace may have told, and
+    // the handler runs on MSP of its side.
+    takeStacks(parts, isTail, row, told) {
         const background = SP + (parts.secureFrame ? SECURE : NONSECURE);
         const handler = SP + (parts.secureHandler ? SECURE : NONSECURE);
         if (isTail) {
@@ -70,17 +72,20 @@ class Registers {
             this.forget(handler, row);
             return;
         }
-        if (this.isKnown(background)) {
+        if (told && told.base >= 0) {
+            this.set(background, told.base, row, SURE.BY_RULE);
+        } else if (this.isKnown(background)) {
             const more = parts.secureFrame && !parts.secureHandler ? 0x28 : 0;
             this.set(background, ((this.values[background] - 0x20 & ~4) - more) >>> 0, row, SURE.BY_RULE);
         }
         if (parts.processStack) this.forget(handler, row);
     }
 
-    take(linkValue, isTail, row) {
+    // `told` is what lines of the view `full` tell of the entry, or null.
+    take(linkValue, isTail, row, told) {
         const parts = exceptionReturn(linkValue);
-        this.takeGeneral(parts, isTail, row);
-        this.takeStacks(parts, isTail, row);
+        this.takeGeneral(parts, isTail, row, told);
+        this.takeStacks(parts, isTail, row, told);
         this.set(LR, linkValue, row, SURE.LISTED);
     }
 

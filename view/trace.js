@@ -137,7 +137,7 @@ class Trace {
             registers.forgetBehindClosed(row);
         } else if (this.kinds[row] === KIND.TAKEN) {
             const taken = this.takenAtRow(row);
-            registers.take(this.takenLinks[taken], this.takenTails[taken], row);
+            registers.take(this.takenLinks[taken], this.takenTails[taken], row, toldOfEntry(this.further(row)));
         } else if (this.kinds[row] === KIND.RAN) {
             this.followListed(registers, row);
         }
