@@ -1,24 +1,14 @@
 -- The line that `pair` writes, and what goes with it.
 use Rattle.std.specs.Prelude.{◌≡◌, ◌≢◌, ℕ, ◌<◌, Bool, true, false, List, ◌++◌, codes, decimal, Option, Some, None, Result, Ok, Err}
 use Rattle.tz_model.specs.declared.outside.SinkError.{SinkError}
-use Rattle.tz_model.specs.declared.report.CrossKind.{CrossKind}
-use Rattle.tz_model.specs.declared.report.CrossKind.TheVariants.{Return, Call, ExcReturn, Chain, Preempt, Refused}
 use Rattle.tz_state.specs.State.{State}
 use Rattle.tz_sem.specs.Step.{step}
 use Rattle.tz_sem.specs.Run.{Events, state_after}
 use Rattle.tz_twin.specs.Seen.{crossing, Agree}
+use Rattle.tz_full.specs.CrossingLine.{kind_word}
 use Rattle.tz_iso.specs.Runs.{what_at}
 use Rattle.tz_iso.specs.declared.answer.What.{What}
 use Rattle.tz_iso.specs.declared.answer.What.TheVariants.{Alone, Way, R, Lr, Apsr, Pc, Bytes, Sp, Limit, Control, Mask, Sau, Mpu, Vtor, Ccr, Fault, Exceptions, Systick, Sleep}
-
--- the word of a kind of crossing
-abbrev pub kind_word : CrossKind → List ℕ
-kind_word Return = codes "return"
-kind_word Call = codes "call"
-kind_word ExcReturn = codes "excreturn"
-kind_word Chain = codes "chain"
-kind_word Preempt = codes "preempt"
-kind_word Refused = codes "refused"
 
 -- in what two runs differ, as words
 abbrev pub what_words : What → List ℕ

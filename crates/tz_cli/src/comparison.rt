@@ -8,34 +8,20 @@ ghost use Rattle.arrayvec.specs.ArrayString.{array_string_len};
 ghost use Rattle.tz_model.specs.Outside.{HasCause, Put};
 ghost use Rattle.tz_iso.specs.Runs.{difference};
 ghost use Rattle.tz_run.specs.Events.{events_of};
-ghost use Rattle.tz_cli.specs.PairLine.{is_agreed, pair_line, put_of, what_words, kind_word};
+ghost use Rattle.tz_cli.specs.PairLine.{is_agreed, pair_line, put_of, what_words};
 
 use arrayvec::ArrayString;
 use std::marker::Brand;
 use std::sync::ledger::{Blank, Ledger};
 use tz_board::Script;
+use tz_full::kind_word;
 use tz_iso::{Pair, PairStep, What};
-use tz_model::{CrossKind, Sink, SinkError};
+use tz_model::{Sink, SinkError};
 use tz_ready::Steps;
 use tz_syntax::push_decimal;
 
 /// A line of a pair. The longest has 34 bytes.
 type Line = ArrayString<64>;
-
-/// The word of a kind of crossing.
-fn kind_word(kind: CrossKind) -> &'static str
-    ensures word { result.now ≡ kind_word kind }
-    ensures short { length result.now ≤ 9 }
-{
-    match kind {
-        CrossKind::Return => "return",
-        CrossKind::Call => "call",
-        CrossKind::ExcReturn => "excreturn",
-        CrossKind::Chain => "chain",
-        CrossKind::Preempt => "preempt",
-        CrossKind::Refused => "refused",
-    }
-}
 
 /// Appends in what two runs differ.
 fn push_what<const N: usize>(text: &mut ArrayString<N>, what: What)

@@ -86,7 +86,7 @@ pub fn ignores_condition(side: Side, insn: &Insn) -> bool
     }
 }
 
-/// Whether the condition of an IT block fails.
+/// Whether registers stand in an IT block whose condition fails, so that the instruction is skipped.
 pub fn is_passed_over(registers: &Registers) -> bool
     ensures { result ≡ is_passed_over registers.now }
 {

@@ -27,6 +27,7 @@ mod words;
 pub use changes::Stores;
 pub use ending::Passage;
 pub use from_words::WordsError;
+pub use it_rules::is_passed_over;
 pub use laws::words_are_counted;
 pub use running::Machine;
 pub use words::word_count;

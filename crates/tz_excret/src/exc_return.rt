@@ -22,8 +22,8 @@ pub fn is_exc_return(target: u32) -> bool
     target / EXC_RETURN_PREFIX == 0xFF
 }
 
-/// The bits of an EXC_RETURN value by which code of a side returns.
-pub(crate) fn returning_by(side: Side, value: u32) -> Returning
+/// The bits of an EXC_RETURN value by which code of a side returns. ES counts as 0 where that is Non-secure code.
+pub fn returning_by(side: Side, value: u32) -> Returning
     ensures { result ≡ returning_by side value }
 {
     Returning {
@@ -45,8 +45,8 @@ pub(crate) fn slot_returning(core: &Core, returning: &Returning) -> Slot
     }
 }
 
-/// Whether bits 23 to 7 and FType are ones, and bit 1 is zero.
-fn is_well_formed(value: u32) -> bool
+/// Whether bits 23 to 7 and FType of an EXC_RETURN value are ones, and bit 1 is zero.
+pub fn is_well_formed(value: u32) -> bool
     ensures { result ≡ is_well_formed value }
 {
     value / 0x80 % 0x2_0000 == 0x1_FFFF && value / 0x2 % 2 == 0 && value / EXC_RETURN_FTYPE % 2 == 1

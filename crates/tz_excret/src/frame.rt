@@ -16,7 +16,7 @@ use tz_regs::{Apsr, Core, Registers};
 use tz_stack::{StackFault, pop_additional, pop_basic, set_side_sp};
 
 /// Whether the additional frame was written: Secure code was interrupted, by a Non-secure exception first or last.
-fn has_callee(returning: &Returning) -> bool
+pub fn has_callee(returning: &Returning) -> bool
     ensures { result ≡ has_callee returning.now }
 {
     returning.secure && (!returning.es || !returning.dcrs)

@@ -26,9 +26,11 @@ mod work;
 
 pub use choice::takes_first_uncounted;
 pub use entering::enter;
-pub use exc_return::is_exc_return;
+pub use exc_return::{is_exc_return, is_well_formed, returning_by};
+pub use frame::has_callee;
 pub use leaving::leave;
-pub use raise::raise_fault;
+pub use raise::{exception_of, frame_exception, raise_fault};
+pub use sides::side_of_bit;
 pub use tz_frames::{Entered, Left};
 
 /// The bound of the choices of an entry or a tail-chain bounds nothing: with each bound from three on they end alike. So no

@@ -30,8 +30,8 @@ fn exception_slot(exceptions: &Exceptions, side: Side, exception: FaultException
     Slot { number, side }
 }
 
-/// The exception of a fault of code of a side.
-fn exception_of(exceptions: &Exceptions, side: Side, fault: Fault) -> Slot
+/// The exception of a fault of code of a side. It exists.
+pub fn exception_of(exceptions: &Exceptions, side: Side, fault: Fault) -> Slot
     ensures is { result ≡ exception_of exceptions.now side fault }
     ensures exists { exists exceptions.now result ≡ true }
 {
@@ -39,8 +39,8 @@ fn exception_of(exceptions: &Exceptions, side: Side, fault: Fault) -> Slot
     exception_slot(exceptions, effect.side, effect.exception)
 }
 
-/// The exception of a frame of the stack of a side that isn't written or read.
-fn frame_exception(exceptions: &Exceptions, side: Side, fault: StackFault) -> Slot
+/// The exception of a frame of the stack of a side that isn't written or read. It exists.
+pub fn frame_exception(exceptions: &Exceptions, side: Side, fault: StackFault) -> Slot
     ensures is { result ≡ frame_exception exceptions.now side fault }
     ensures exists { exists exceptions.now result ≡ true }
 {

@@ -18,8 +18,8 @@ pub(crate) fn is_secure(side: Side) -> bool
     }
 }
 
-/// The side that a bit of an EXC_RETURN value tells.
-pub(crate) fn side_of_bit(secure: bool) -> Side
+/// The side that a bit of an EXC_RETURN value tells: the Secure one where it is set.
+pub fn side_of_bit(secure: bool) -> Side
     ensures { result ≡ side_of_bit secure }
 {
     if secure {

@@ -1,5 +1,5 @@
 pub mod Before
 pub mod EventLines
-pub mod Listing
+pub mod Handing
 pub mod LoadLines
 pub mod Told

@@ -71,7 +71,7 @@ basic_unwritten c fault = codes "    frame not written: " ++ basic_why c fault +
 
 unfoldable pub basic_faulted : Core → State → ℕ → StackFault → List ℕ
 basic_faulted c s taken fault =
-    basic_unwritten c fault ++ raised_text s.exceptions s.core.masks taken (frame_exception s.exceptions c.run.side fault)
+    basic_unwritten c fault ++ raised_text s taken (frame_exception s.exceptions c.run.side fault)
 
 -- of the core before the step, which was interrupted
 abbrev pub basic_lines : Core → State → ℕ → Option FrameFault → List ℕ
@@ -102,7 +102,7 @@ additional_unwritten c process fault = codes "    additional frame not written: 
 
 unfoldable pub additional_faulted : State → Bool → ℕ → StackFault → List ℕ
 additional_faulted s process taken fault =
-    additional_unwritten s.core process fault ++ raised_text s.exceptions s.core.masks taken (frame_exception s.exceptions Secure fault)
+    additional_unwritten s.core process fault ++ raised_text s taken (frame_exception s.exceptions Secure fault)
 
 -- behind a frame that has faulted a fault of this one changes nothing
 unfoldable pub additional_uncounted : Bool → ℕ → List ℕ

@@ -9,6 +9,7 @@ use Rattle.tz_regs.specs.declared.parts.Masks.{Masks}
 use Rattle.tz_state.specs.declared.taken.Taken.{Taken}
 use Rattle.tz_state.specs.declared.taken.Taken.TheVariants.{AsIs, Hard, Lockup}
 use Rattle.tz_state.specs.ExceptionNumbers.{hard_fault}
+use Rattle.tz_state.specs.State.{State}
 use Rattle.tz_state.specs.Slots.{ExceptionsValue, places, index_of, side_at, slot_at, is_enabled}
 use Rattle.tz_state.specs.Priority.{priority_of, hard_priority}
 use Rattle.tz_state.specs.Execution.{idle_priority, is_active, side_priority, manual_priority}
@@ -74,5 +75,5 @@ unfoldable pub raised_at : ExceptionsValue → ℕ → ℕ → List ℕ
 raised_at e execution i = became_text (escalated_at e execution i) (slot_at e i) (is_enabled e i) execution
 
 -- an exception that a fault raised, in a step that took the one at a place
-unfoldable pub raised_text : ExceptionsValue → Masks → ℕ → Slot → List ℕ
-raised_text e m taken slot = raised_at e (execution_before e m taken) (index_of slot)
+unfoldable pub raised_text : State → ℕ → Slot → List ℕ
+raised_text s taken slot = raised_at s.exceptions (execution_before s.exceptions s.core.masks taken) (index_of slot)

@@ -5,12 +5,12 @@ use Rattle.tz_model.specs.Words.{is_nonsecure_side}
 use Rattle.tz_regs.specs.declared.parts.Core.{Core}
 use Rattle.tz_regs.specs.Banks.{stacks_of}
 use Rattle.tz_regs.specs.Registers.{sp_of}
-use Rattle.tz_state.specs.Difference.{is_same_flag}
 use Rattle.tz_frames.specs.declared.frame.StackFault.{StackFault}
 use Rattle.tz_frames.specs.declared.frame.StackFault.TheVariants.{Limit, Access, Signature}
 use Rattle.tz_frames.specs.declared.leaving.Returning.{Returning}
 use Rattle.tz_frames.specs.ReturnBits.{exc_return_es, exc_return_spsel, exc_return_mode, exc_return_ftype, exc_return_dcrs, exc_return_s}
 use Rattle.tz_frames.specs.Leave.{is_set, returning_by, side_of_bit}
+use Rattle.tz_show.specs.Frames.{frame_uses_process}
 use Rattle.tz_syntax.specs.Digits.{hex_word}
 use Rattle.tz_full.specs.Words.{side_text, mode_text}
 use Rattle.tz_full.specs.FaultNames.{fault_name, word_text}
@@ -52,14 +52,9 @@ check_text c value =
 
 -- ---- the frame
 
--- the stack pointer from which the return takes the frame: SPSEL of the value counts where the exception and the frame
--- are of one side, else CONTROL.SPSEL of the frame's
-abbrev pub takes_process : Core → Returning → Bool
-takes_process c r = r.thread && (if is_same_flag r.es r.secure then r.process else (stacks_of (side_of_bit r.secure) c).spsel)
-
 -- a refused frame stands where its stack pointer still is
 abbrev pub frame_at : Core → Core → Returning → ℕ
-frame_at before after r = sp_of (takes_process before r) (stacks_of (side_of_bit r.secure) after)
+frame_at before after r = sp_of (frame_uses_process before r) (stacks_of (side_of_bit r.secure) after)
 
 unfoldable pub unread_word : Fault → List ℕ
 unread_word fault = codes "word of the frame, " ++ word_text false fault

@@ -1,5 +1,5 @@
 -- The names of the system registers (DDI0553, chapter D1.2), and what an address in the private space is called.
-use Rattle.std.specs.Prelude.{ℕ, ◌==◌, if◌then◌else◌, List, [], ◌++◌, codes, decimal, Option, Some, None, option_map}
+use Rattle.std.specs.Prelude.{ℕ, ◌==◌, if◌then◌else◌, List, [], ◌++◌, codes, decimal, Option, Some, None}
 use Rattle.tz_model.specs.AddressMap.{scs_first, scs_last, scs_ns_first, scs_ns_last}
 use Rattle.tz_model.specs.Board.{within}
 use Rattle.tz_state.specs.declared.register.Register.{Register}
@@ -83,14 +83,10 @@ register_name (Fault r) = fault_name r
 register_name (Mpu r) = mpu_name r
 register_name (Sau r) = sau_name r
 
--- a name, and what stands behind it
-abbrev pub name_or_reserved : Option (List ℕ) → List ℕ → List ℕ
-name_or_reserved None suffix = codes "reserved"
-name_or_reserved (Some name) suffix = name ++ suffix
-
--- a register by its name
+-- a register by its name, and what stands behind it
 abbrev pub named : Option Register → List ℕ → List ℕ
-named register suffix = name_or_reserved (option_map register_name register) suffix
+named None suffix = codes "reserved"
+named (Some register) suffix = register_name register ++ suffix
 
 -- the register whose word holds an address, with _NS where the alias of the Non-secure view has it
 unfoldable pub name_at : ℕ → List ℕ

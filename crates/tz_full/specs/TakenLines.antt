@@ -23,12 +23,13 @@ use Rattle.tz_frames.specs.ReturnBits.{exc_return_dcrs}
 use Rattle.tz_frames.specs.Status.{exception_of, frame_exception}
 use Rattle.tz_frames.specs.Leave.{is_set, is_exc_return, returning_by, side_of_bit}
 use Rattle.tz_sem.specs.declared.ending.Cause.{Cause}
-use Rattle.tz_sem.specs.declared.ending.Cause.TheVariants.{Resumed, Taken}
+use Rattle.tz_sem.specs.declared.ending.Cause.TheVariants.{Taken}
 use Rattle.tz_syntax.specs.Digits.{hex_word}
 use Rattle.tz_full.specs.FaultNames.{fault_text}
 use Rattle.tz_full.specs.ExceptionNames.{slot_text}
 use Rattle.tz_full.specs.Escalation.{raised_text}
 use Rattle.tz_full.specs.FrameLines.{known_word}
+use Rattle.tz_full.specs.LoadLines.{is_resumed}
 use Rattle.tz_full.specs.RefusalLines.{flag_digit, exc_return_line, refused_line}
 use Rattle.tz_full.specs.EntryFrames.{interrupted_line, chain_line, basic_lines, has_additional, additional_process, additional_lines}
 use Rattle.tz_sem.specs.declared.account.Account.{Account}
@@ -42,10 +43,6 @@ use Rattle.tz_frames.specs.declared.leaving.Refusal.TheVariants.{Value, Frame, M
 abbrev pub is_taken : Cause → Bool
 is_taken Taken = true
 is_taken cause = false
-
-abbrev pub is_resumed : Cause → Bool
-is_resumed Resumed = true
-is_resumed cause = false
 
 -- an exception that is taken is handled after the step
 abbrev pub slot_handled : Core → Slot
@@ -70,7 +67,7 @@ fault_line b pc fault = codes "    fault " ++ fault_text fault ++ codes "\n"
 -- of the core before the step, whose code faulted
 unfoldable pub fault_lines : Core → State → ℕ → Fault → List ℕ
 fault_lines c s taken fault =
-    fault_line s.bus c.registers.pc fault ++ raised_text s.exceptions s.core.masks taken (exception_of s.exceptions c.run.side fault)
+    fault_line s.bus c.registers.pc fault ++ raised_text s taken (exception_of s.exceptions c.run.side fault)
 
 abbrev pub fault_part : Core → State → ℕ → Option Fault → List ℕ
 fault_part c s taken None = []
@@ -86,7 +83,7 @@ refusal_exception e c value (Mode side) = exception_of e side (InvPc side)
 
 unfoldable pub refusal_lines : Core → State → ℕ → ℕ → Refusal → List ℕ
 refusal_lines c s taken value refusal =
-    refused_line c s.core value refusal ++ raised_text s.exceptions s.core.masks taken (refusal_exception s.exceptions c value refusal)
+    refused_line c s.core value refusal ++ raised_text s taken (refusal_exception s.exceptions c value refusal)
 
 abbrev pub refusal_part : Core → State → ℕ → ℕ → Option Refusal → List ℕ
 refusal_part c s taken value None = []
@@ -112,19 +109,19 @@ vector_address c slot = wrap ((status_of slot.side c).vtor + 4 * slot.number)
 unfoldable pub unread_vector : Core → Slot → List ℕ
 unread_vector c slot = codes "vector of " ++ slot_text slot ++ codes " at " ++ hex_word (vector_address c slot) ++ codes " not read"
 
-unfoldable pub missing_line : Core → Slot → List ℕ
-missing_line c slot = codes "    " ++ unread_vector c slot ++ codes " (VECTTBL)\n"
+-- in a line of its own
+unfoldable pub unread_line : List ℕ → Core → Slot → List ℕ → List ℕ
+unread_line head c slot tail = head ++ unread_vector c slot ++ tail
 
+-- an exception became HardFault by it
 abbrev pub missing_part : Core → Option Slot → List ℕ
 missing_part c None = []
-missing_part c (Some slot) = missing_line c slot
+missing_part c (Some slot) = unread_line (codes "    ") c slot (codes " (VECTTBL)\n")
 
-unfoldable pub last_line : Core → Slot → List ℕ
-last_line c slot = codes "    lockup: " ++ unread_vector c slot ++ codes "\n"
-
+-- the core locks by it
 abbrev pub last_part : Core → Option Slot → List ℕ
 last_part c None = []
-last_part c (Some slot) = last_line c slot
+last_part c (Some slot) = unread_line (codes "    lockup: ") c slot (codes "\n")
 
 -- ---- the exception is taken
 

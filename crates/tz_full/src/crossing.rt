@@ -1,27 +1,28 @@
 //! The way out of Secure state, and what Secure code hands over by it.
 
-ghost use Rattle.std.specs.Prelude.{◌≡◌, ◌≤◌, ◌+◌, ◌++◌};
+ghost use Rattle.std.specs.Prelude.{◌≡◌, ◌≤◌, ◌+◌, ◌++◌, length};
 ghost use Rattle.arrayvec.specs.ArrayString.{array_string_len};
 ghost use Rattle.tz_frames.specs.Registers.{saved_of};
-ghost use Rattle.tz_full.specs.CrossingLine.{kind_text, flags_text, all_text, called_with_text, handed_text, way_text, crossing_text};
+ghost use Rattle.tz_twin.specs.Seen.{handed_by};
+ghost use Rattle.tz_full.specs.CrossingLine.{kind_word, flags_text, all_text, called_with_text, handed_text, way_text, crossing_text};
 
 use crate::text::{Text, push_register, push_registers};
 use tz_model::{CrossKind, Way};
 use tz_regs::Registers;
 use tz_syntax::{push_decimal, push_hex_byte, push_hex_word};
 
-fn push_kind(text: &mut Text, kind: CrossKind)
-    requires { array_string_len text.old + 9 ≤ 4096 }
-    ensures bytes { text.new.bytes ≡ text.old.bytes ++ kind_text kind }
-    ensures len { array_string_len text.new ≤ array_string_len text.old + 9 }
+/// The word of a kind of crossing, at most 9 bytes.
+pub fn kind_word(kind: CrossKind) -> &'static str
+    ensures word { result.now ≡ kind_word kind }
+    ensures short { length result.now ≤ 9 }
 {
     match kind {
-        CrossKind::Return => text.push_str("return"),
-        CrossKind::Call => text.push_str("call"),
-        CrossKind::ExcReturn => text.push_str("excreturn"),
-        CrossKind::Chain => text.push_str("chain"),
-        CrossKind::Preempt => text.push_str("preempt"),
-        CrossKind::Refused => text.push_str("refused"),
+        CrossKind::Return => "return",
+        CrossKind::Call => "call",
+        CrossKind::ExcReturn => "excreturn",
+        CrossKind::Chain => "chain",
+        CrossKind::Preempt => "preempt",
+        CrossKind::Refused => "refused",
     }
 }
 
@@ -80,9 +81,10 @@ fn saved(general: &[u32; 13]) -> [u32; 8]
 }
 
 /// What a crossing of a kind hands over.
+#[tactic(auto, using(crate::proofs::Handing::lr_untold))]
 fn push_handed(text: &mut Text, kind: CrossKind, registers: &Registers)
     requires { array_string_len text.old + 228 ≤ 4096 }
-    ensures bytes { text.new.bytes ≡ text.old.bytes ++ handed_text kind registers.now }
+    ensures bytes { text.new.bytes ≡ text.old.bytes ++ handed_text kind (handed_by kind registers.now) }
     ensures len { array_string_len text.new ≤ array_string_len text.old + 228 }
 {
     match kind {
@@ -103,7 +105,7 @@ fn push_way(text: &mut Text, way: &Way, registers: &Registers)
     ensures len { array_string_len text.new ≤ array_string_len text.old + 264 }
 {
     text.push_str("    crossing ");
-    push_kind(text, way.kind);
+    text.push_str(kind_word(way.kind));
     text.push_str(", hands over");
     push_handed(text, way.kind, registers);
     text.push_str("\n");

@@ -2,19 +2,18 @@
 
 ghost use Rattle.std.specs.Prelude.{◌≡◌, ◌≤◌, ◌+◌, ◌++◌, length};
 ghost use Rattle.arrayvec.specs.ArrayString.{array_string_len};
-ghost use Rattle.tz_regs.specs.Banks.{stacks_of};
-ghost use Rattle.tz_frames.specs.Stack.{splim_of, basic_base};
 ghost use Rattle.tz_full.specs.EntryFrames.{back_of, interrupted_line, chain_line, limit_name, limit_text, basic_process, basic_written, basic_limit, basic_why, basic_unwritten, basic_faulted, basic_lines, has_additional, additional_process, additional_written, additional_why, additional_unwritten, additional_faulted, additional_uncounted, additional_lines};
 
 use crate::escalation::push_raised;
-use crate::faults::{frame_exception, push_word_fault};
+use crate::faults::push_word_fault;
 use crate::frames::{push_additional, push_frame};
-use crate::refusals::side_of_bit;
 use crate::text::{Text, push_mode, push_place, push_side, push_stack};
 use tz_core::Machine;
-use tz_frames::{BASIC_FRAME_SIZE, Entering, FrameFault, Returning, StackFault};
+use tz_excret::{frame_exception, side_of_bit};
+use tz_frames::{Entering, FrameFault, Returning, StackFault};
 use tz_model::{Fault, Side};
 use tz_regs::Core;
+use tz_stack::{basic_base, splim_of};
 use tz_syntax::push_hex_word;
 
 /// The address at which the code that is interrupted goes on.
@@ -70,18 +69,6 @@ fn limit_name(side: Side, process: bool) -> &'static str
     }
 }
 
-/// The limit of a stack.
-fn splim_of(core: &Core, side: Side, process: bool) -> u32
-    ensures { result ≡ splim_of process (stacks_of side core.now) }
-{
-    let stacks = core.stacks(side);
-    if process {
-        stacks.psplim
-    } else {
-        stacks.msplim
-    }
-}
-
 /// The limit of a stack, with its name.
 #[tactic(auto, unfolding(crate::specs::EntryFrames::limit_text))]
 fn push_limit(text: &mut Text, core: &Core, side: Side, process: bool)
@@ -99,14 +86,6 @@ fn basic_process(core: &Core) -> bool
     ensures { result ≡ basic_process core.now }
 {
     core.stacks(core.run.side).uses_process(core.registers.ipsr)
-}
-
-/// Where a basic frame begins below a stack pointer.
-fn basic_base(sp: u32) -> u32
-    ensures { result ≡ basic_base sp }
-{
-    let low = sp.wrapping_sub(BASIC_FRAME_SIZE);
-    low / 8 * 8 + low % 4
 }
 
 /// The basic frame that was written.
@@ -184,13 +163,7 @@ fn push_basic_faulted(
 {
     push_basic_unwritten(text, core, fault);
     let slot = frame_exception(machine.exceptions(), core.run.side, fault);
-    push_raised(
-        text,
-        machine.exceptions(),
-        &machine.core().masks,
-        taken,
-        slot,
-    );
+    push_raised(text, machine, taken, slot);
 }
 
 /// The basic frame of the core before the step, which was interrupted.
@@ -295,13 +268,7 @@ fn push_additional_faulted(
 {
     push_additional_unwritten(text, machine.core(), process, fault);
     let slot = frame_exception(machine.exceptions(), Side::Secure, fault);
-    push_raised(
-        text,
-        machine.exceptions(),
-        &machine.core().masks,
-        taken,
-        slot,
-    );
+    push_raised(text, machine, taken, slot);
 }
 
 /// That an additional frame was tried behind a frame that has faulted.

@@ -4,16 +4,16 @@ ghost use Rattle.std.specs.Prelude.{◌≡◌, ◌≤◌, ◌<◌, ◌+◌, ◌+
 ghost use Rattle.arrayvec.specs.ArrayString.{array_string_len};
 ghost use Rattle.tz_state.specs.Slots.{exists, places};
 ghost use Rattle.tz_state.specs.Priority.{priority_of};
-ghost use Rattle.tz_state.specs.Execution.{basepri_priority, primask_priority, faultmask_priority, side_priority};
 ghost use Rattle.tz_full.specs.Escalation.{was_active, active_before, execution_before, hardened_at, escalated_at, why_text, forced_line, nor_text, lockup_line, became_text, raised_at, raised_text};
 
 use crate::names::{push_exception_name, push_priority, push_slot};
 use crate::text::{Text, push_side};
+use tz_core::Machine;
 use tz_model::{Side, Slot};
 use tz_nvic::{Exceptions, PLACES};
-use tz_prio::{Taken, hard_side};
-use tz_regs::{Masks, SideMasks};
-use tz_state::exception::{HARD_FAULT, IDLE_PRIORITY, ZERO_PRIORITY};
+use tz_prio::{Taken, hard_side, side_priority};
+use tz_regs::Masks;
+use tz_state::exception::{HARD_FAULT, IDLE_PRIORITY};
 
 /// Whether a slot stands at a place that was active before the exception at another one was taken.
 fn was_active(exceptions: &Exceptions, taken: usize, index: usize) -> bool
@@ -48,60 +48,6 @@ fn active_before(exceptions: &Exceptions, taken: usize) -> u32
         least = least_with(exceptions, taken, index, least);
     }
     least
-}
-
-/// The priority of BASEPRI of a side.
-fn basepri(exceptions: &Exceptions, side: Side, byte: u8) -> u32
-    ensures is { result ≡ basepri_priority exceptions.now side byte }
-    ensures few { result ≤ 260 }
-{
-    if byte == 0 {
-        IDLE_PRIORITY
-    } else {
-        ZERO_PRIORITY + exceptions.restricted_priority(side, exceptions.group_of(side, byte))
-    }
-}
-
-/// The priority of PRIMASK of a side.
-fn primask(exceptions: &Exceptions, side: Side, set: bool) -> u32
-    ensures is { result ≡ primask_priority exceptions.now side set }
-    ensures few { result ≤ 260 }
-{
-    if set {
-        ZERO_PRIORITY + exceptions.restricted_priority(side, 0)
-    } else {
-        IDLE_PRIORITY
-    }
-}
-
-/// The priority of FAULTMASK of a side.
-fn faultmask(exceptions: &Exceptions, side: Side, set: bool) -> u32
-    ensures is { result ≡ faultmask_priority exceptions.now side set }
-    ensures few { result ≤ 260 }
-{
-    if !set {
-        return IDLE_PRIORITY;
-    }
-    match side {
-        Side::Secure => exceptions.hard_priority(Side::Secure),
-        Side::NonSecure => {
-            if exceptions.fault_side() {
-                exceptions.hard_priority(Side::NonSecure)
-            } else {
-                ZERO_PRIORITY + exceptions.restricted_priority(Side::NonSecure, 0)
-            }
-        }
-    }
-}
-
-/// The priority of the masks of a side.
-fn side_priority(exceptions: &Exceptions, side: Side, masks: &SideMasks) -> u32
-    ensures is { result ≡ side_priority exceptions.now side masks.now }
-    ensures few { result ≤ 260 }
-{
-    let base = basepri(exceptions, side, masks.basepri);
-    let prime = primask(exceptions, side, masks.primask);
-    base.min(prime.min(faultmask(exceptions, side, masks.faultmask)))
 }
 
 /// The execution priority before the exception at a place was taken.
@@ -227,18 +173,13 @@ fn push_raised_at(text: &mut Text, exceptions: &Exceptions, execution: u32, inde
 
 /// What an exception that a fault raised became, in a step that took the one at a place.
 #[tactic(auto, unfolding(crate::specs::Escalation::raised_text))]
-pub fn push_raised(
-    text: &mut Text,
-    exceptions: &Exceptions,
-    masks: &Masks,
-    taken: usize,
-    slot: Slot,
-)
-    requires exists { exists exceptions.now slot ≡ true }
+pub fn push_raised(text: &mut Text, machine: &Machine, taken: usize, slot: Slot)
+    requires exists { exists machine.now.exceptions slot ≡ true }
     requires room { array_string_len text.old + 104 ≤ 4096 }
-    ensures bytes { text.new.bytes ≡ text.old.bytes ++ raised_text exceptions.now masks.now taken slot }
+    ensures bytes { text.new.bytes ≡ text.old.bytes ++ raised_text machine.now taken slot }
     ensures len { array_string_len text.new ≤ array_string_len text.old + 104 }
 {
-    let execution = execution_before(exceptions, masks, taken);
+    let exceptions = machine.exceptions();
+    let execution = execution_before(exceptions, &machine.core().masks, taken);
     push_raised_at(text, exceptions, execution, exceptions.place_of(slot));
 }

@@ -1,17 +1,11 @@
-//! Faults by name, and the exceptions that they raise (DDI0553, `CreateException`).
+//! Faults by name.
 
-ghost use Rattle.std.specs.Prelude.{◌≡◌, ◌≤◌, ◌+◌, ◌++◌, length, true};
+ghost use Rattle.std.specs.Prelude.{◌≡◌, ◌≤◌, ◌+◌, ◌++◌, length};
 ghost use Rattle.arrayvec.specs.ArrayString.{array_string_len};
-ghost use Rattle.tz_state.specs.Slots.{exists};
-ghost use Rattle.tz_frames.specs.Status as status;
 ghost use Rattle.tz_full.specs.FaultNames.{fault_name, word_name, of_text, at_text, where_text, fault_text, word_text};
 
 use crate::text::{Text, push_side};
-use tz_frames::StackFault;
-use tz_model::{Fault, Side, Slot};
-use tz_nvic::Exceptions;
-use tz_prio::hard_side;
-use tz_state::exception::{BUS_FAULT, HARD_FAULT, MEM_MANAGE, SECURE_FAULT, SV_CALL, USAGE_FAULT};
+use tz_model::{Fault, Side};
 use tz_syntax::push_hex_word;
 
 /// The name of a fault, which is that of its status bit.
@@ -116,44 +110,4 @@ pub fn push_word_fault(text: &mut Text, stacking: bool, fault: Fault)
 {
     text.push_str(word_name(stacking, fault));
     push_where(text, fault);
-}
-
-/// The exception of a fault of code of a side.
-pub fn exception_of(exceptions: &Exceptions, side: Side, fault: Fault) -> Slot
-    ensures is { result ≡ status.exception_of exceptions.now side fault }
-    ensures exists { exists exceptions.now result ≡ true }
-{
-    let (number, side) = match fault {
-        Fault::Exec(of) => (MEM_MANAGE, of),
-        Fault::DataAccess(_, of) => (MEM_MANAGE, of),
-        Fault::ExecBus => (BUS_FAULT, side),
-        Fault::Precise(_) => (BUS_FAULT, side),
-        Fault::Undef => (USAGE_FAULT, side),
-        Fault::InvState => (USAGE_FAULT, side),
-        Fault::InvPc(of) => (USAGE_FAULT, of),
-        Fault::NoCp => (USAGE_FAULT, side),
-        Fault::StackLimit(of) => (USAGE_FAULT, of),
-        Fault::Unaligned => (USAGE_FAULT, side),
-        Fault::DivZero => (USAGE_FAULT, side),
-        Fault::Breakpoint => (HARD_FAULT, hard_side(exceptions, side)),
-        Fault::EntryPoint => (SECURE_FAULT, side),
-        Fault::Signature => (SECURE_FAULT, side),
-        Fault::ExcReturn => (SECURE_FAULT, side),
-        Fault::Violation(_) => (SECURE_FAULT, side),
-        Fault::Transition => (SECURE_FAULT, side),
-        Fault::Call => (SV_CALL, side),
-    };
-    Slot { number, side }
-}
-
-/// The exception of a frame of the stack of a side that isn't written or read.
-pub fn frame_exception(exceptions: &Exceptions, side: Side, fault: StackFault) -> Slot
-    ensures is { result ≡ status.frame_exception exceptions.now side fault }
-    ensures exists { exists exceptions.now result ≡ true }
-{
-    match fault {
-        StackFault::Limit(of) => exception_of(exceptions, side, Fault::StackLimit(of)),
-        StackFault::Access(fault) => exception_of(exceptions, side, fault),
-        StackFault::Signature => exception_of(exceptions, side, Fault::Signature),
-    }
 }

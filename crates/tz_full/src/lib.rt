@@ -22,4 +22,5 @@ mod taken;
 mod text;
 mod ways;
 
+pub use crossing::kind_word;
 pub use run::run_full;

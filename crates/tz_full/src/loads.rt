@@ -12,13 +12,14 @@ ghost use Rattle.tz_sem.specs.Local.{local_of, reg};
 ghost use Rattle.tz_table.specs.declared.instruction.Insn.TheVariants.{TableBranch};
 ghost use Rattle.tz_full.specs.LoadLines.{value_in, word_to_pc, is_resumed, told_of, entry_word, size_text, known_text, held_text, read_text, load_line, loads_text, loads_of, loads_by, store_line, store_lines};
 
-use crate::instruction::{at_offset, filled_of, lowest, place, reg};
+use crate::instruction::filled_of;
 use crate::register_names::push_name_at;
 use crate::text::Text;
 use tz_access::Bus;
 use tz_core::Machine;
+use tz_loadstore::{at_offset, lowest, place, reg};
 use tz_model::address_map::{PRIVATE_FIRST, PRIVATE_LAST};
-use tz_model::{Insn, Size, Store};
+use tz_model::{Insn, Size, Store, cut_to};
 use tz_regs::{Core, Registers};
 use tz_sem::{Account, Cause, Handling};
 use tz_syntax::push_hex_word;
@@ -46,7 +47,7 @@ fn word_to_pc(value: Option<u32>, registers: &Registers) -> u32
 }
 
 /// Whether an exception has returned.
-fn is_resumed(cause: Cause) -> bool
+pub fn is_resumed(cause: Cause) -> bool
     ensures { result ≡ is_resumed cause }
 {
     matches!(cause, Cause::Resumed)
@@ -86,17 +87,6 @@ fn push_size(text: &mut Text, size: Size)
         Size::Byte => text.push_str(" byte "),
         Size::Half => text.push_str(" half "),
         Size::Word => text.push_str(" word "),
-    }
-}
-
-/// A number without the bits that a size doesn't have.
-fn cut_to(size: Size, value: u32) -> u32
-    ensures { result ≡ cut_to size value }
-{
-    match size {
-        Size::Byte => value % 256,
-        Size::Half => value % 65536,
-        Size::Word => value,
     }
 }
 

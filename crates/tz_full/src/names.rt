@@ -1,39 +1,17 @@
 //! Exceptions by the manual's names, and priorities as it counts them.
 
-ghost use Rattle.std.specs.Prelude.{◌≡◌, ◌≤◌, ◌+◌, ◌++◌, length};
+ghost use Rattle.std.specs.Prelude.{◌≡◌, ◌≤◌, ◌+◌, ◌++◌};
 ghost use Rattle.std.specs.Fmt.{signed_decimal};
 ghost use Rattle.arrayvec.specs.ArrayString.{array_string_len};
 ghost use Rattle.tz_state.specs.Execution.{manual_priority};
-ghost use Rattle.tz_full.specs.ExceptionNames.{system_name, exception_name, slot_text};
+ghost use Rattle.tz_full.specs.ExceptionNames.{exception_name, slot_text};
 
 use crate::text::{Text, push_side};
 use itoa::Buffer;
 use tz_model::Slot;
-use tz_state::exception::{
-    BUS_FAULT, FIRST_INTERRUPT, HARD_FAULT, MEM_MANAGE, NMI, PEND_SV, SECURE_FAULT, SV_CALL,
-    SYS_TICK, USAGE_FAULT, ZERO_PRIORITY,
-};
+use tz_show::system_name;
+use tz_state::exception::{FIRST_INTERRUPT, ZERO_PRIORITY};
 use tz_syntax::push_decimal;
-
-/// The name of a number of the system.
-#[tactic(auto, unfolding(crate::specs::ExceptionNames::system_name))]
-fn system_name(number: u16) -> &'static str
-    ensures name { result.now ≡ system_name number }
-    ensures short { length result.now ≤ 11 }
-{
-    match number {
-        NMI => "NMI",
-        HARD_FAULT => "HardFault",
-        MEM_MANAGE => "MemManage",
-        BUS_FAULT => "BusFault",
-        USAGE_FAULT => "UsageFault",
-        SECURE_FAULT => "SecureFault",
-        SV_CALL => "SVCall",
-        PEND_SV => "PendSV",
-        SYS_TICK => "SysTick",
-        _ => "reserved",
-    }
-}
 
 /// The name of an exception; external interrupts count from 0.
 #[tactic(auto, unfolding(crate::specs::ExceptionNames::exception_name))]

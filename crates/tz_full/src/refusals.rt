@@ -1,52 +1,22 @@
 //! The value by which an exception returns, and why it is refused (DDI0553, EXC_RETURN, `ValidateExceptionReturn`).
 
-ghost use Rattle.std.specs.Prelude.{◌≡◌, ◌≤◌, ◌+◌, ◌/◌, ◌%◌, ◌^◌, ◌==◌, ◌++◌, length};
+ghost use Rattle.std.specs.Prelude.{◌≡◌, ◌≤◌, ◌+◌, ◌++◌, length};
 ghost use Rattle.arrayvec.specs.ArrayString.{array_string_len};
 ghost use Rattle.tz_model.specs.Words.{is_nonsecure_side};
-ghost use Rattle.tz_frames.specs.Leave as leave;
-ghost use Rattle.tz_full.specs.RefusalLines.{flag_digit, bits_text, exc_return_line, inactive_text, check_text, takes_process, frame_at, unread_word, unsigned_text, unread_text, reason_text, refused_line};
+ghost use Rattle.tz_full.specs.RefusalLines.{flag_digit, bits_text, exc_return_line, inactive_text, check_text, frame_at, unread_word, unsigned_text, unread_text, reason_text, refused_line};
 
 use crate::faults::{fault_name, push_word_fault};
 use crate::text::{Text, push_mode, push_side};
+use tz_excret::{returning_by, side_of_bit};
 use tz_frames::return_bits::{
-    EXC_RETURN_DCRS, EXC_RETURN_ES, EXC_RETURN_FTYPE, EXC_RETURN_MODE, EXC_RETURN_PREFIX,
-    EXC_RETURN_S, EXC_RETURN_SPSEL,
+    EXC_RETURN_DCRS, EXC_RETURN_ES, EXC_RETURN_FTYPE, EXC_RETURN_MODE, EXC_RETURN_S,
+    EXC_RETURN_SPSEL,
 };
 use tz_frames::{Refusal, Returning, StackFault};
 use tz_model::{Fault, Side};
 use tz_regs::Core;
+use tz_show::frame_uses_process;
 use tz_syntax::{push_decimal, push_hex_word};
-
-/// Whether a value of a branch in Handler mode is one of EXC_RETURN.
-pub fn is_exc_return(value: u32) -> bool
-    ensures { result ≡ leave.is_exc_return value }
-{
-    value / EXC_RETURN_PREFIX == 0xff
-}
-
-/// The bits of an EXC_RETURN value by which code of a side returns.
-pub fn returning_by(side: Side, value: u32) -> Returning
-    ensures { result ≡ leave.returning_by side value }
-{
-    Returning {
-        es: side == Side::Secure && value / EXC_RETURN_ES % 2 == 1,
-        process: value / EXC_RETURN_SPSEL % 2 == 1,
-        thread: value / EXC_RETURN_MODE % 2 == 1,
-        dcrs: value / EXC_RETURN_DCRS % 2 == 1,
-        secure: value / EXC_RETURN_S % 2 == 1,
-    }
-}
-
-/// The side that a bit of the value tells.
-pub fn side_of_bit(secure: bool) -> Side
-    ensures { result ≡ leave.side_of_bit secure }
-{
-    if secure {
-        Side::Secure
-    } else {
-        Side::NonSecure
-    }
-}
 
 /// Whether a side is the Non-secure one.
 fn is_nonsecure(side: Side) -> bool
@@ -136,25 +106,13 @@ fn push_check(text: &mut Text, core: &Core, value: u32)
     }
 }
 
-/// Whether a return takes the frame from PSP.
-fn takes_process(core: &Core, returning: &Returning) -> bool
-    ensures { result ≡ takes_process core.now returning.now }
-{
-    let process = if returning.es == returning.secure {
-        returning.process
-    } else {
-        core.stacks(side_of_bit(returning.secure)).spsel
-    };
-    returning.thread && process
-}
-
 /// Where a frame stands that was refused.
 fn frame_at(before: &Core, after: &Core, returning: &Returning) -> u32
     ensures { result ≡ frame_at before.now after.now returning.now }
 {
     after.sp(
         side_of_bit(returning.secure),
-        takes_process(before, returning),
+        frame_uses_process(before, returning),
     )
 }
 

@@ -2,7 +2,7 @@
 
 ghost use Rattle.std.specs.Prelude.{◌≡◌, ◌≤◌, ◌+◌, ◌++◌, length, unwrap_or};
 ghost use Rattle.arrayvec.specs.ArrayString.{array_string_len};
-ghost use Rattle.tz_full.specs.TakenLines.{is_taken, is_resumed, slot_handled, place_taken, known_byte, fault_line, fault_lines, fault_part, refusal_exception, refusal_lines, refusal_part, is_return, return_lines, return_part, vector_address, unread_vector, missing_line, missing_part, last_line, last_part, priority_text, takes_line, vector_line, cleared_text, taken_lines, taken_part, chain_part, running_lines, begin_part, returning_of, additional_part, frame_lines, entry_lines, entry_part, handled_lines, handled_part, taken_text};
+ghost use Rattle.tz_full.specs.TakenLines.{is_taken, slot_handled, place_taken, known_byte, fault_line, fault_lines, fault_part, refusal_exception, refusal_lines, refusal_part, is_return, return_lines, return_part, vector_address, unread_vector, unread_line, missing_part, last_part, priority_text, takes_line, vector_line, cleared_text, taken_lines, taken_part, chain_part, running_lines, begin_part, returning_of, additional_part, frame_lines, entry_lines, entry_part, handled_lines, handled_part, taken_text};
 ghost use Rattle.std.specs.Prelude.{true};
 ghost use Rattle.tz_state.specs.Slots.{exists};
 
@@ -11,15 +11,15 @@ use crate::entry::{
     push_interrupted,
 };
 use crate::escalation::push_raised;
-use crate::faults::{exception_of, frame_exception, push_fault};
+use crate::faults::push_fault;
 use crate::frames::known_word;
+use crate::loads::is_resumed;
 use crate::names::{push_priority, push_slot};
-use crate::refusals::{
-    flag_digit, is_exc_return, push_exc_return, push_refused, returning_by, side_of_bit,
-};
+use crate::refusals::{flag_digit, push_exc_return, push_refused};
 use crate::text::Text;
 use tz_access::Bus;
 use tz_core::Machine;
+use tz_excret::{exception_of, frame_exception, is_exc_return, returning_by, side_of_bit};
 use tz_frames::return_bits::EXC_RETURN_DCRS;
 use tz_frames::{Entering, Refusal, Returning};
 use tz_model::{Fault, Profile, Side, Size, Slot};
@@ -32,12 +32,6 @@ fn is_taken(cause: Cause) -> bool
     ensures { result ≡ is_taken cause }
 {
     cause == Cause::Taken
-}
-
-fn is_resumed(cause: Cause) -> bool
-    ensures { result ≡ is_resumed cause }
-{
-    cause == Cause::Resumed
 }
 
 /// The exception that is handled.
@@ -103,13 +97,7 @@ fn push_fault_lines(text: &mut Text, core: &Core, machine: &Machine, taken: usiz
 {
     push_fault_line(text, machine.bus(), core.registers.pc, fault);
     let slot = exception_of(machine.exceptions(), core.run.side, fault);
-    push_raised(
-        text,
-        machine.exceptions(),
-        &machine.core().masks,
-        taken,
-        slot,
-    );
+    push_raised(text, machine, taken, slot);
 }
 
 fn push_fault_part(
@@ -160,13 +148,7 @@ fn push_refusal_lines(
 {
     push_refused(text, core, machine.core(), value, refusal);
     let slot = refusal_exception(machine.exceptions(), core, value, refusal);
-    push_raised(
-        text,
-        machine.exceptions(),
-        &machine.core().masks,
-        taken,
-        slot,
-    );
+    push_raised(text, machine, taken, slot);
 }
 
 fn push_refusal_part(
@@ -261,49 +243,37 @@ fn push_unread_vector(text: &mut Text, core: &Core, slot: Slot)
     text.push_str(" not read");
 }
 
-/// The vector of an exception that became HardFault by it.
-#[tactic(auto, unfolding(crate::specs::TakenLines::missing_line))]
-fn push_missing_line(text: &mut Text, core: &Core, slot: Slot)
-    requires { array_string_len text.old + 69 ≤ 4096 }
-    ensures bytes { text.new.bytes ≡ text.old.bytes ++ missing_line core.now slot }
-    ensures len { array_string_len text.new ≤ array_string_len text.old + 69 }
+/// The line of a vector that can't be read, with what stands before and behind.
+#[tactic(auto, unfolding(crate::specs::TakenLines::unread_line))]
+fn push_unread_line(text: &mut Text, head: &str, core: &Core, slot: Slot, tail: &str)
+    requires { array_string_len text.old + length head.now + 54 + length tail.now ≤ 4096 }
+    ensures bytes { text.new.bytes ≡ text.old.bytes ++ unread_line head.now core.now slot tail.now }
+    ensures len { array_string_len text.new ≤ array_string_len text.old + length head.now + 54 + length tail.now }
 {
-    text.push_str("    ");
+    text.push_str(head);
     push_unread_vector(text, core, slot);
-    text.push_str(" (VECTTBL)\n");
+    text.push_str(tail);
 }
 
+/// The vector of an exception that became HardFault by it.
 fn push_missing_part(text: &mut Text, core: &Core, slot: Option<Slot>)
     requires { array_string_len text.old + 69 ≤ 4096 }
     ensures bytes { text.new.bytes ≡ text.old.bytes ++ missing_part core.now slot }
     ensures len { array_string_len text.new ≤ array_string_len text.old + 69 }
 {
-    match slot {
-        None => {}
-        Some(slot) => push_missing_line(text, core, slot),
+    if let Some(slot) = slot {
+        push_unread_line(text, "    ", core, slot, " (VECTTBL)\n");
     }
 }
 
 /// The vector of NMI or HardFault by which the core locks.
-#[tactic(auto, unfolding(crate::specs::TakenLines::last_line))]
-fn push_last_line(text: &mut Text, core: &Core, slot: Slot)
-    requires { array_string_len text.old + 67 ≤ 4096 }
-    ensures bytes { text.new.bytes ≡ text.old.bytes ++ last_line core.now slot }
-    ensures len { array_string_len text.new ≤ array_string_len text.old + 67 }
-{
-    text.push_str("    lockup: ");
-    push_unread_vector(text, core, slot);
-    text.push_str("\n");
-}
-
 fn push_last_part(text: &mut Text, core: &Core, slot: Option<Slot>)
     requires { array_string_len text.old + 67 ≤ 4096 }
     ensures bytes { text.new.bytes ≡ text.old.bytes ++ last_part core.now slot }
     ensures len { array_string_len text.new ≤ array_string_len text.old + 67 }
 {
-    match slot {
-        None => {}
-        Some(slot) => push_last_line(text, core, slot),
+    if let Some(slot) = slot {
+        push_unread_line(text, "    lockup: ", core, slot, "\n");
     }
 }
 

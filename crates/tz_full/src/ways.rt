@@ -2,7 +2,6 @@
 
 ghost use Rattle.std.specs.Prelude.{◌≡◌, ◌≤◌, ◌+◌, ◌++◌};
 ghost use Rattle.arrayvec.specs.ArrayString.{array_string_len};
-ghost use Rattle.tz_frames.specs.Gate.{return_base};
 ghost use Rattle.tz_full.specs.LoadLines.{value_in};
 ghost use Rattle.tz_full.specs.Instruction.{returning_core};
 ghost use Rattle.tz_full.specs.WayLines.{gateway_text, entered_by, number_text, call_frame_text, called_text, came_from, from_call_text, fnc_text, fnc_by, basic_from_text, additional_from_text, frames_from, frames_read, goes_on_text, resumed_with, resumed_by, resumed_at, resumed_text, went_by, ways_text};
@@ -14,12 +13,13 @@ use crate::refusals::push_exc_return;
 use crate::text::{Text, push_place};
 use tz_access::Bus;
 use tz_core::Machine;
+use tz_excret::{has_callee, returning_by, side_of_bit};
 use tz_frames::{ADDITIONAL_FRAME_SIZE, Returning};
-use tz_gate::is_fnc_return;
+use tz_gate::{is_fnc_return, return_base};
 use tz_model::{Report, Side, Size, StepKind};
 use tz_regs::Core;
 use tz_sem::{Account, Cause};
-use tz_show::{frame_pointer, frame_uses_process, has_callee, returning_by};
+use tz_show::{frame_pointer, frame_uses_process};
 use tz_syntax::{push_decimal, push_hex_word};
 
 // ---- SG
@@ -105,13 +105,6 @@ fn returning_core(account: &Account, report: &Report) -> Core
     ensures { result ≡ returning_core account.now report.now }
 {
     popped_by(&account.core, &done_by(&account.core, &report.kind))
-}
-
-/// The Secure stack pointer of the mode.
-fn return_base(core: &Core) -> u32
-    ensures { result ≡ return_base core.now }
-{
-    core.stacks(Side::Secure).pointer(core.registers.ipsr)
 }
 
 /// The frame from which code came back, or would have.
@@ -232,15 +225,10 @@ fn push_frames_read(text: &mut Text, bus: &Bus, core: &Core, returning: &Returni
     ensures bytes { text.new.bytes ≡ text.old.bytes ++ frames_read bus.now core.now returning.now }
     ensures len { array_string_len text.new ≤ array_string_len text.old + 340 }
 {
-    let side = if returning.secure {
-        Side::Secure
-    } else {
-        Side::NonSecure
-    };
     push_frames_from(
         text,
         bus,
-        side,
+        side_of_bit(returning.secure),
         frame_uses_process(core, returning),
         frame_pointer(core, returning),
         has_callee(returning),

@@ -10,4 +10,4 @@ mod returning;
 
 pub use branch::{branch_ns, secure_gateway};
 pub use call::call_ns;
-pub use returning::{function_return, is_fnc_return};
+pub use returning::{function_return, is_fnc_return, return_base};

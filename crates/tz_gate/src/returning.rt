@@ -18,8 +18,8 @@ pub fn is_fnc_return(target: u32) -> bool
     target == FNC_RETURN_EVEN || target == FNC_RETURN
 }
 
-/// The stack pointer of the Secure side in use.
-fn return_base(core: &Core) -> u32
+/// The stack pointer of the Secure side in use, where the frame of a call stands.
+pub fn return_base(core: &Core) -> u32
     ensures { result ≡ return_base core.now }
 {
     core.stacks_s.pointer(core.registers.ipsr)

@@ -8,8 +8,8 @@ use tz_bits::shift_c;
 use tz_model::{Address, Fault, Shift};
 use tz_regs::Core;
 
-/// A register of the running code.
-pub(crate) fn reg(core: &Core, index: u8) -> u32
+/// A register of the running code by its number: R0 to R12, SP, LR, and PC as the address of the instruction plus 4.
+pub fn reg(core: &Core, index: u8) -> u32
     ensures { result ≡ reg (local_of core.now) index }
 {
     core.registers.reg(core.stacks(core.run.side), index)
@@ -23,15 +23,15 @@ fn literal(core: &Core, offset: i32) -> u32
     base.wrapping_add(offset.cast_unsigned())
 }
 
-/// A register plus an offset.
-pub(crate) fn at_offset(core: &Core, rn: u8, offset: i32) -> u32
+/// A register of the running code plus an offset, past the end of the address space from 0 on.
+pub fn at_offset(core: &Core, rn: u8, offset: i32) -> u32
     ensures { result ≡ offset_at (local_of core.now) rn offset }
 {
     reg(core, rn).wrapping_add(offset.cast_unsigned())
 }
 
-/// Where an access goes.
-pub(crate) fn place(core: &Core, address: &Address) -> u32
+/// The address that an access of the running code goes to.
+pub fn place(core: &Core, address: &Address) -> u32
     ensures { result ≡ place_of address.now (local_of core.now) }
 {
     match *address {

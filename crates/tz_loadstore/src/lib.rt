@@ -17,10 +17,13 @@ mod pairs;
 mod results;
 mod single;
 
-use crate::addresses::{at_offset, reg};
 use crate::many::{load_many, store_many};
 use crate::pairs::{load_pair, store_pair};
 use crate::single::{load, load_aligned, store, store_exclusive, store_release};
+pub use addresses::{at_offset, place, reg};
+pub use lists::{is_listed, listed};
+pub use many::{lowest, past_words, write_back_past};
+pub use results::write_back;
 use tz_model::{Fault, Insn, Outcome, Port};
 use tz_regs::Core;
 

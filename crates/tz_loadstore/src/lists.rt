@@ -9,9 +9,9 @@ use arrayvec::ArrayVec;
 /// The registers that a list may name beside PC: R0 to R12 and LR.
 static GENERAL: [u8; 14] = [0, 1, 2, 3, 4, 5, 6, 7, 8, 9, 10, 11, 12, 14];
 
-/// Whether a list names a register.
+/// Whether a list, a bit for each of R0 to PC, names a register by its number.
 #[tactic(auto, using(crate::proofs::Listing::unlisted))]
-pub(crate) fn is_listed(list: u16, index: u8) -> bool
+pub fn is_listed(list: u16, index: u8) -> bool
     ensures { result ≡ is_listed list index }
 {
     match list.checked_shr(u32::from(index)) {
@@ -36,9 +36,9 @@ fn listed_among(list: u16, some: &[u8]) -> ArrayVec<u8, 14>
     registers
 }
 
-/// The registers of a list beside PC, the lowest first.
+/// The numbers of the registers that a list names, the lowest first, without SP and PC.
 #[tactic(auto, unfolding(tz_sem::specs::LoadStore::listed))]
-pub(crate) fn listed(list: u16) -> ArrayVec<u8, 14>
+pub fn listed(list: u16) -> ArrayVec<u8, 14>
     ensures items { result.items ≡ listed list }
     ensures few { array_vec_len result ≤ 14 }
 {

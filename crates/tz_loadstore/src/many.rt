@@ -15,8 +15,8 @@ use arrayvec::ArrayVec;
 use tz_model::{ALWAYS_ALIGNED, AS_RUNNING, Fault, Outcome, Port, Size};
 use tz_regs::Core;
 
-/// A base past so many words, above it or below.
-fn past_words(down: bool, base: u32, count: u32) -> u32
+/// A base past so many words, above it, or below it with `down`.
+pub fn past_words(down: bool, base: u32, count: u32) -> u32
     requires { count ≤ 15 }
     ensures { result ≡ past_words down base count }
 {
@@ -27,8 +27,8 @@ fn past_words(down: bool, base: u32, count: u32) -> u32
     }
 }
 
-/// The lowest of the addresses.
-fn lowest(down: bool, base: u32, count: u32) -> u32
+/// The lowest address of so many words above a base, or below it with `down`.
+pub fn lowest(down: bool, base: u32, count: u32) -> u32
     requires { count ≤ 15 }
     ensures { result ≡ lowest down base count }
 {
@@ -50,9 +50,9 @@ fn refusal_past(core: &Core, back: bool, rn: u8, value: u32) -> Option<Fault>
     }
 }
 
-/// Gives the base its new value where it is written back.
+/// Gives the base its new value where it is written back, as `back` says.
 #[tactic(auto, using(tz_sem::proofs::Local::core_kept))]
-fn write_back_past(core: &mut Core, back: bool, rn: u8, value: u32)
+pub fn write_back_past(core: &mut Core, back: bool, rn: u8, value: u32)
     ensures { core.new ≡ with_local core.old (based_past back rn value (local_of core.old)) }
 {
     if back {

@@ -29,9 +29,9 @@ fn move_base(core: &mut Core, rn: u8, offset: i32)
     put(core, rn, value);
 }
 
-/// Gives the base its new value.
+/// Gives the base of an access its new value, where it gets one.
 #[tactic(auto, using(tz_sem::proofs::Local::core_kept))]
-pub(crate) fn write_back(core: &mut Core, address: &Address)
+pub fn write_back(core: &mut Core, address: &Address)
     ensures { core.new ≡ with_local core.old (based address.now (local_of core.old)) }
 {
     match *address {

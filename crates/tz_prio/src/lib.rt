@@ -11,6 +11,6 @@ mod negative;
 
 pub use escalation::{escalate, hard_side};
 pub use execution::{can_take, execution_priority, raw_priority, takes_first, wakes};
-pub use masks::{basepri_priority, faultmask_priority, primask_priority};
+pub use masks::{basepri_priority, faultmask_priority, primask_priority, side_priority};
 pub use negative::is_negative;
 pub use tz_state::Taken;

@@ -61,8 +61,8 @@ pub fn faultmask_priority(exceptions: &Exceptions, side: Side, set: bool) -> u32
     }
 }
 
-/// The priority of the masks of a side.
-pub(crate) fn side_priority(exceptions: &Exceptions, side: Side, masks: &SideMasks) -> u32
+/// The priority that the masks of a side count as, the least of the three: 260 where none is set.
+pub fn side_priority(exceptions: &Exceptions, side: Side, masks: &SideMasks) -> u32
     ensures is { result ≡ side_priority exceptions.now side masks.now }
     ensures few { result ≤ 260 }
 {

@@ -18,3 +18,4 @@ mod timers;
 mod views;
 
 pub use system::{System, SystemRegisters};
+pub use table::register_at;

@@ -100,8 +100,8 @@ fn sau_row(offset: u32) -> Option<Register>
     }
 }
 
-/// The register whose word has an offset, in bytes from the start of the system control space.
-pub(crate) fn register_at(offset: u32) -> Option<Register>
+/// The register whose word has an offset, in bytes from the start of the system control space; `None` where there is none.
+pub fn register_at(offset: u32) -> Option<Register>
     ensures { result ≡ register_at offset }
 {
     if offset < 0x100 {

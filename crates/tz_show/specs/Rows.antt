@@ -1,5 +1,5 @@
 -- What a page is made of: values with what stands before them, the names of bits that are set, and lines by number.
-use Rattle.std.specs.Prelude.{ℕ, zero, suc, ◌==◌, Bool, bit_and, if◌then◌else◌, List, [], ◌∷◌, ◌++◌, codes}
+use Rattle.std.specs.Prelude.{ℕ, zero, suc, ◌-◌, ◌==◌, Bool, bit_and, if◌then◌else◌, List, [], ◌∷◌, ◌++◌, length, replicate, codes}
 use Rattle.tz_syntax.specs.Digits.{hex_word}
 use Rattle.tz_show.specs.Bits.{BitName, bits_of}
 use Rattle.tz_show.specs.declared.bits.Named.{Named}
@@ -28,6 +28,10 @@ row head value named = cell head value ++ bits_text value (bits_of named) ++ cod
 -- a text where something is so
 abbrev pub where_so : Bool → List ℕ → List ℕ
 where_so so text = if so then text else []
+
+-- a text with spaces behind it, up to a width
+unfoldable pub widened : ℕ → List ℕ → List ℕ
+widened width text = text ++ replicate (width - length text) 32
 
 -- the texts of the numbers below n, in order
 unfoldable pub texts_below : (ℕ → List ℕ) → ℕ → List ℕ

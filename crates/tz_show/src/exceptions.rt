@@ -7,14 +7,14 @@ ghost use Rattle.tz_show.specs.Exceptions.{wide_number, system_name, exception_n
 ghost use Rattle.tz_show.specs.Rows.{texts_below};
 
 use crate::bits::Named;
-use crate::rows::{Text, push_pair, push_row, push_signed, push_where};
+use crate::rows::{Text, push_pair, push_row, push_signed, push_where, push_wide};
 use tz_model::{Side, Slot};
 use tz_nvic::{Exceptions, PLACES, SlotState};
 use tz_regs::Status;
 use tz_regs::register_bits::CCR_RES1;
 use tz_state::exception::{
     BUS_FAULT, FIRST_INTERRUPT, HARD_FAULT, MEM_MANAGE, NMI, PEND_SV, SECURE_FAULT, SV_CALL,
-    USAGE_FAULT, ZERO_PRIORITY,
+    SYS_TICK, USAGE_FAULT, ZERO_PRIORITY,
 };
 use tz_syntax::{push_decimal, push_hex_byte};
 
@@ -33,22 +33,23 @@ fn push_wide_number(text: &mut Text, n: u32)
     push_decimal(text, n);
 }
 
-/// The name of a number of the system.
+/// The manual's name of a number of the system, at most 11 bytes; `reserved` where no exception has the number.
 #[tactic(auto, unfolding(crate::specs::Exceptions::system_name))]
-fn system_name(number: u16) -> &'static str
+pub fn system_name(number: u16) -> &'static str
     ensures name { result.now ≡ system_name number }
-    ensures short { length result.now ≡ 13 }
+    ensures short { length result.now ≤ 11 }
 {
     match number {
-        NMI => "NMI          ",
-        HARD_FAULT => "HardFault    ",
-        MEM_MANAGE => "MemManage    ",
-        BUS_FAULT => "BusFault     ",
-        USAGE_FAULT => "UsageFault   ",
-        SECURE_FAULT => "SecureFault  ",
-        SV_CALL => "SVCall       ",
-        PEND_SV => "PendSV       ",
-        _ => "SysTick      ",
+        NMI => "NMI",
+        HARD_FAULT => "HardFault",
+        MEM_MANAGE => "MemManage",
+        BUS_FAULT => "BusFault",
+        USAGE_FAULT => "UsageFault",
+        SECURE_FAULT => "SecureFault",
+        SV_CALL => "SVCall",
+        PEND_SV => "PendSV",
+        SYS_TICK => "SysTick",
+        _ => "reserved",
     }
 }
 
@@ -60,7 +61,7 @@ fn push_name(text: &mut Text, number: u16)
     ensures len { array_string_len text.new ≤ array_string_len text.old + 22 }
 {
     if number < FIRST_INTERRUPT {
-        text.push_str(system_name(number));
+        push_wide(text, system_name(number), 13);
     } else {
         text.push_str("Interrupt ");
         push_wide_number(text, u32::from(number - FIRST_INTERRUPT));

@@ -3,8 +3,6 @@
 
 ghost use Rattle.std.specs.Prelude.{◌≡◌, ◌≤◌, ◌<◌, ◌+◌, ◌*◌, ◌++◌, length, map, slice_get};
 ghost use Rattle.arrayvec.specs.ArrayString.{array_string_len};
-ghost use Rattle.tz_state.specs.Difference.{is_same_flag};
-ghost use Rattle.tz_frames.specs.Leave.{has_callee, returning_by, side_of_bit};
 ghost use Rattle.tz_syntax.specs.Names.{or_nothing};
 ghost use Rattle.tz_show.specs.Frames.{shown_word, word_text, stack_word_text, stack_text, frame_label, has_frame, frame_uses_process, frame_pointer, frame_first, frame_count, frame_word_text, frame_by, frame_text};
 ghost use Rattle.tz_show.specs.Rows.{texts_below};
@@ -12,12 +10,9 @@ ghost use Rattle.tz_show.specs.Rows.{texts_below};
 use crate::bits::Named;
 use crate::rows::{Text, push_row};
 use tz_access::Bus;
+use tz_excret::{has_callee, is_exc_return, is_well_formed, returning_by, side_of_bit};
 use tz_frames::Returning;
-use tz_frames::return_bits::{
-    EXC_RETURN_DCRS, EXC_RETURN_ES, EXC_RETURN_FTYPE, EXC_RETURN_MODE, EXC_RETURN_PREFIX,
-    EXC_RETURN_S, EXC_RETURN_SPSEL,
-};
-use tz_model::{Side, Size};
+use tz_model::Size;
 use tz_regs::Core;
 use tz_syntax::push_hex_word;
 
@@ -129,54 +124,19 @@ fn has_frame(core: &Core) -> bool
     ensures { result ≡ has_frame core.now }
 {
     let lr = core.registers.lr;
-    core.handler()
-        && lr / EXC_RETURN_PREFIX == 0xff
-        && lr / 128 % 0x2_0000 == 0x1_ffff
-        && lr / 2 % 2 != 1
-        && lr / EXC_RETURN_FTYPE % 2 == 1
-}
-
-/// The bits of an EXC_RETURN value, of which ES counts as 0 where Non-secure code returns.
-pub fn returning_by(side: Side, value: u32) -> Returning
-    ensures { result ≡ returning_by side value }
-{
-    Returning {
-        es: side == Side::Secure && value / EXC_RETURN_ES % 2 == 1,
-        process: value / EXC_RETURN_SPSEL % 2 == 1,
-        thread: value / EXC_RETURN_MODE % 2 == 1,
-        dcrs: value / EXC_RETURN_DCRS % 2 == 1,
-        secure: value / EXC_RETURN_S % 2 == 1,
-    }
-}
-
-/// Whether both are set, or both are clear.
-fn is_same_flag(flag: bool, other: bool) -> bool
-    ensures { result ≡ is_same_flag flag other }
-{
-    if flag { other } else { !other }
-}
-
-/// The side whose stack has the frame.
-fn side_of_bit(secure: bool) -> Side
-    ensures { result ≡ side_of_bit secure }
-{
-    if secure {
-        Side::Secure
-    } else {
-        Side::NonSecure
-    }
+    core.handler() && is_exc_return(lr) && is_well_formed(lr)
 }
 
 /// Whether PSP is the stack pointer from which a return takes the frame, by the core that returns.
 pub fn frame_uses_process(core: &Core, returning: &Returning) -> bool
     ensures { result ≡ frame_uses_process core.now returning.now }
 {
-    returning.thread
-        && if is_same_flag(returning.es, returning.secure) {
-            returning.process
-        } else {
-            core.stacks(side_of_bit(returning.secure)).spsel
-        }
+    let process = if returning.es == returning.secure {
+        returning.process
+    } else {
+        core.stacks(side_of_bit(returning.secure)).spsel
+    };
+    returning.thread && process
 }
 
 /// The stack pointer from which a return takes the frame, by the core that returns.
@@ -187,13 +147,6 @@ pub fn frame_pointer(core: &Core, returning: &Returning) -> u32
         side_of_bit(returning.secure),
         frame_uses_process(core, returning),
     )
-}
-
-/// Whether the additional frame was written.
-pub fn has_callee(returning: &Returning) -> bool
-    ensures { result ≡ has_callee returning.now }
-{
-    returning.secure && (!returning.es || !returning.dcrs)
 }
 
 /// A word of a frame by its number, with its label.

@@ -2,10 +2,10 @@
 //!
 //! Each call appends to the text and says how much room it needs.
 
-ghost use Rattle.std.specs.Prelude.{◌≡◌, ◌≤◌, ◌+◌, ◌++◌, length};
+ghost use Rattle.std.specs.Prelude.{◌≡◌, ◌≤◌, ◌+◌, ◌++◌, length, replicate};
 ghost use Rattle.std.specs.Fmt.{signed_decimal};
 ghost use Rattle.arrayvec.specs.ArrayString.{array_string_len};
-ghost use Rattle.tz_show.specs.Rows.{cell, pair_row, row, where_so};
+ghost use Rattle.tz_show.specs.Rows.{cell, pair_row, row, where_so, widened};
 
 use crate::bits::{Named, bits_of, push_bits};
 use arrayvec::ArrayString;
@@ -34,6 +34,29 @@ pub fn push_where(text: &mut Text, so: bool, words: &str)
     if so {
         text.push_str(words);
     }
+}
+
+/// So many spaces.
+fn push_spaces(text: &mut Text, count: usize)
+    requires { array_string_len text.old + count ≤ 48000 }
+    ensures bytes { text.new.bytes ≡ text.old.bytes ++ replicate count 32 }
+    ensures len { array_string_len text.new ≡ array_string_len text.old + count }
+{
+    for _ in 0..count {
+        text.push_str(" ");
+    }
+}
+
+/// A text with spaces behind it, up to a width.
+#[tactic(auto, unfolding(crate::specs::Rows::widened))]
+pub fn push_wide(text: &mut Text, words: &str, width: usize)
+    requires fits { length words.now ≤ width }
+    requires room { array_string_len text.old + width ≤ 48000 }
+    ensures bytes { text.new.bytes ≡ text.old.bytes ++ widened width words.now }
+    ensures len { array_string_len text.new ≡ array_string_len text.old + width }
+{
+    text.push_str(words);
+    push_spaces(text, width - words.len());
 }
 
 /// A value behind its name.

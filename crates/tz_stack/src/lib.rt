@@ -10,5 +10,5 @@ mod push;
 mod words;
 
 pub use pop::{pop_additional, pop_basic};
-pub use push::{push_additional, push_basic, set_side_sp};
+pub use push::{basic_base, push_additional, push_basic, set_side_sp, splim_of};
 pub use tz_frames::{Basic, Callee, StackFault};

@@ -16,7 +16,7 @@ use tz_regs::{Core, Registers};
 pub(crate) const SIGNATURE: u32 = 0xFEFA_125B;
 
 /// PSPLIM of a side with `process`, else its MSPLIM.
-fn splim_of(core: &Core, side: Side, process: bool) -> u32
+pub fn splim_of(core: &Core, side: Side, process: bool) -> u32
     ensures { result ≡ splim_of process (stacks_of side core.now) }
 {
     let stacks = core.stacks(side);
@@ -39,8 +39,8 @@ pub fn set_side_sp(core: &mut Core, side: Side, process: bool, value: u32)
     }
 }
 
-/// A basic frame below a stack pointer, with bit 2 clear.
-fn basic_base(sp: u32) -> u32
+/// Where a basic frame begins below a stack pointer: 32 bytes below it, with bit 2 clear.
+pub fn basic_base(sp: u32) -> u32
     ensures { result ≡ basic_base sp }
 {
     let low = sp.wrapping_sub(BASIC_FRAME_SIZE);

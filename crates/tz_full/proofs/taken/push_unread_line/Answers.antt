@@ -1,8 +1,8 @@
 use Rattle.tz_show.proofs.Texts.{follows}
-use Rattle.tz_full.specs.TakenLines.{last_line}
-use Rattle.tz_full.proofs.taken.push_last_line.Goals as goal
+use Rattle.tz_full.specs.TakenLines.{unread_line}
+use Rattle.tz_full.proofs.taken.push_unread_line.Goals as goal
 
 pub returns-clause-bytes : goal.returns-clause-bytes
-unfolding last_line
+unfolding unread_line
 returns-clause-bytes c =
     follows c.args.text.now.bytes c.push_unread_vector.new.text.bytes c.push_str-2.new.self.bytes _ _ (follows c.args.text.now.bytes c.push_str.new.self.bytes c.push_unread_vector.new.text.bytes _ _ c.push_str.ensures.bytes c.push_unread_vector.ensures.bytes) c.push_str-2.ensures.bytes
