@@ -69,6 +69,29 @@ fn find<L: Ledger>(moments: &[Moment], step: u32, steps: &mut Steps<L>) -> Optio
     None
 }
 
+/// How many of the moments come up to a step: the place of the first one after it.
+fn count_up_to<L: Ledger>(moments: &[Moment], step: u32, steps: &mut Steps<L>) -> usize
+    requires ascending { IsTrue (ascend (steps_of moments.now)) }
+    requires few { length moments.now ≤ 10000 }
+    ensures within { result ≤ length moments.now }
+    ensures before { (k : ℕ) → k < result → slice_index (steps_of moments.now) k ≤ step }
+    ensures after { (k : ℕ) → result ≤ k → k < length moments.now → step < slice_index (steps_of moments.now) k }
+    ensures looks { (steps.old ≤ steps.new) × (steps.new ≤ steps.old + 14) }
+{
+    let mut low = 0;
+    let mut high = moments.len();
+    while low < high {
+        let middle = low + (high - low) / 2;
+        steps.look();
+        if moments[middle].step <= step {
+            low = middle + 1;
+        } else {
+            high = middle;
+        }
+    }
+    low
+}
+
 /// Whether a step is above the moment before a place, and so above all before it.
 fn is_past<L: Ledger>(moments: &[Moment], place: usize, step: u32, steps: &mut Steps<L>) -> bool
     requires ascending { IsTrue (ascend (steps_of moments.now)) }
@@ -202,6 +225,21 @@ impl Script {
             Some(index) => &self.moments[index].events,
             None => &[],
         }
+    }
+
+    /// The first step after a step that has events, or the greatest number where none before that has. At most 15 steps are
+    /// looked at.
+    pub fn next_due<L: Ledger>(&self, step: u32, steps: &mut Steps<L>) -> u32
+        ensures between { (k : ℕ) → step < k → k < result → due_at k self.now ≡ [] }
+        ensures due { result < 4294967295 → (step < result) × (due_at result self.now ≢ []) }
+        ensures looks { (steps.old ≤ steps.new) × (steps.new ≤ steps.old + 15) }
+    {
+        let place = count_up_to(&self.moments, step, steps);
+        if place == self.moments.len() {
+            return u32::MAX;
+        }
+        steps.look();
+        self.moments[place].step
     }
 
     /// The events of a step, as `due` gives them, for steps that are asked for one after another: `place` says where among

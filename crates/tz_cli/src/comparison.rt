@@ -3,8 +3,9 @@
 //! The steps end at the first one at which the runs disagree. The line goes out as one put. It takes no
 //! memory, and knows nothing of where bytes go.
 
-ghost use Rattle.std.specs.Prelude.{◌≡◌, ◌<◌, ◌≤◌, ◌+◌, ◌++◌, IfOk, Err, None, length};
+ghost use Rattle.std.specs.Prelude.{◌≡◌, ◌<◌, ◌≤◌, ◌+◌, ◌++◌, ℕ, [], IfOk, Err, None, length};
 ghost use Rattle.arrayvec.specs.ArrayString.{array_string_len};
+ghost use Rattle.tz_board.specs.Scripts.{due_at};
 ghost use Rattle.tz_model.specs.Outside.{HasCause, Put};
 ghost use Rattle.tz_iso.specs.Runs.{difference};
 ghost use Rattle.tz_run.specs.Events.{events_of};
@@ -16,7 +17,7 @@ use std::sync::ledger::{Blank, Ledger};
 use tz_board::Script;
 use tz_full::kind_word;
 use tz_iso::{Pair, PairStep, What};
-use tz_model::{Sink, SinkError};
+use tz_model::{ScriptEvent, Sink, SinkError};
 use tz_ready::Steps;
 use tz_syntax::push_decimal;
 
@@ -82,6 +83,24 @@ pub fn push_pair_line<const N: usize>(
     text.push_str("\n");
 }
 
+/// The events of a step, for steps that are asked for one after another: up to `next` no step has any from this one on.
+fn due_at_step<'a, L: Ledger>(
+    script: &'a Script,
+    next: &mut u32,
+    step: u32,
+    looks: &mut Steps<L>,
+) -> &'a [ScriptEvent]
+    requires none { (k : ℕ) → step ≤ k → k < next.old → due_at k script.now ≡ [] }
+    ensures events { result.now ≡ due_at step script.now }
+    ensures none { (k : ℕ) → step < k → k < next.new → due_at k script.now ≡ [] }
+{
+    if step < *next {
+        return &[];
+    }
+    *next = script.next_due(step, looks);
+    script.due(step, looks)
+}
+
 /// Makes steps of both machines until their runs disagree, `steps` at most, and tells where they do.
 fn first_difference<L: Ledger>(
     blank: Blank,
@@ -97,9 +116,9 @@ fn first_difference<L: Ledger>(
     ensures { result ≡ difference (events_of script.now) 0 pair.old.first pair.old.second steps }
 {
     let mut looks = Steps::<L>::start(blank);
-    let mut place = 0;
+    let mut next = 0;
     for step in 0..steps {
-        let due = script.due_next(&mut place, step, &mut looks);
+        let due = due_at_step(script, &mut next, step, &mut looks);
         match pair.step(due) {
             PairStep::Kept => {}
             PairStep::Differ { step, what } => return Some((step, what)),

@@ -5,5 +5,6 @@ pub mod Told
 pub mod Boards
 pub mod Agreement
 pub mod Marking
+pub mod Beginning
 pub mod Stepped
 pub mod Blockwise

@@ -2,7 +2,9 @@
 use Rattle.std.proofs.Common.{◌≡◌, ℕ, ◌/◌, Bool, true, false, ◌&&◌, cond, List, Option, None, refl, sym, ap, ◌∙◌, subst}
 use Rattle.std.specs.FinMap.{get}
 use Rattle.tz_model.specs.declared.report.ScriptEvent.{ScriptEvent}
+use Rattle.tz_model.specs.declared.report.Store.{Store}
 use Rattle.tz_model.specs.Words.{is_nonsecure_side}
+use Rattle.tz_regs.specs.declared.parts.Stacks.{Stacks}
 use Rattle.tz_regs.specs.Banks.{stacks_of}
 use Rattle.tz_state.specs.Attribution.{MapState, is_open}
 use Rattle.tz_state.specs.Due.{begun}
@@ -15,11 +17,10 @@ use Rattle.tz_twin.proofs.Bytes.{and_first, and_second}
 use Rattle.tz_twin.proofs.Elsewhere.{writes_told}
 use Rattle.tz_twin.proofs.Split.{board_seen, board_seen-seen, sides_alike}
 use Rattle.tz_iso.specs.declared.marks.Marks.{Marks}
-use Rattle.tz_iso.specs.Marks.{marks_byte, Grows, Notes, Marked}
-use Rattle.tz_iso.specs.Parts.{is_same_timers}
+use Rattle.tz_iso.specs.Marks.{marks_byte, Notes, Marked, begin_alike}
 use Rattle.tz_iso.specs.Runs.{IsLinked}
+use Rattle.tz_iso.proofs.Beginning.{begin_itself, begun_alike}
 use Rattle.tz_iso.proofs.Marking.{or_first, grows_then}
-use Rattle.tz_iso.proofs.Same as same
 
 -- ---- states that are seen alike
 
@@ -49,8 +50,14 @@ marked_linked m s t linked is =
       bytes = λ a shown unmarked.
           open_at (map_of s) (get s.bus.memory a) (get t.bus.memory a) a shown
           (ap (λ (q : Public). q.bytes a) p ∙ ap (λ (x : MapState). open_bytes x t.bus.memory a) (sym maps));
-      exceptions = λ none. λ i. (p i).exceptions;
+      exceptions = λ none. λ i. with_timers_of s.exceptions (p i).exceptions;
     }
+
+-- and their timers pend alike
+pub begin_linked : (s t : State) → IsLinked s t → is_nonsecure_side (side_of s) ≡ true → begin_alike s.exceptions t.exceptions ≡ true
+begin_linked s t linked is =
+    let p = same_public s t linked is in
+    subst (λ (x : ExceptionsValue). begin_alike s.exceptions x ≡ true) (λ i. (p i).exceptions) (begin_itself s.exceptions)
 
 -- ---- a step
 
@@ -85,47 +92,53 @@ moved_step m m' s due exceptional is n =
       exceptions = λ none. w.exceptions (n.exceptions none) (sym is ∙ n.plain none);
     }
 
-pub marked_step : (m m1 m2 m3 : Marks) (s t : State) (due : List ScriptEvent) (x y : Bool) → Marked m s t
-    → x ≡ is_exceptional (step s due).state.core (ended (started s due)).ending.cause → Notes (ended (started s due)).stores x (stacks_of s.core.run.side (step s due).state.core) m m1
-    → y ≡ is_exceptional (step t due).state.core (ended (started t due)).ending.cause → Notes (ended (started t due)).stores y (stacks_of t.core.run.side (step t due).state.core) m1 m2
-    → Grows m2 m3 → (m3.exceptions ≡ false → is_same_timers (step s due).state.exceptions (step t due).state.exceptions ≡ true) → Marked m3 (step s due).state (step t due).state
-marked_step m m1 m2 m3 s t due x y h is n is' n' grows timers =
+pub marked_step : (m m' m'' : Marks) (s t : State) (due : List ScriptEvent) (x y : Bool) → Marked m s t → (m.exceptions ≡ false → begin_alike s.exceptions t.exceptions ≡ true)
+    → x ≡ is_exceptional (step s due).state.core (ended (started s due)).ending.cause → Notes (ended (started s due)).stores x (stacks_of s.core.run.side (step s due).state.core) m m'
+    → y ≡ is_exceptional (step t due).state.core (ended (started t due)).ending.cause → Notes (ended (started t due)).stores y (stacks_of t.core.run.side (step t due).state.core) m' m''
+    → Marked m'' (step s due).state (step t due).state
+marked_step m m' m'' s t due x y h alike is n is' n' =
     let e = (step s due).state in
     let f = (step t due).state in
-    let a = moved_step m m1 s due x is n in
-    let b = moved_step m1 m2 t due y is' n' in
-    let since = grows_then m1 m2 m3 n'.grows grows in
-    let all = grows_then m m1 m3 n.grows since in
+    let a = moved_step m m' s due x is n in
+    let b = moved_step m' m'' t due y is' n' in
+    let all = grows_then m m' m'' n.grows n'.grows in
     record {
-      sau = λ none. a.sau (since.all none) ∙ h.sau (all.all none) ∙ sym (b.sau (grows.all none));
+      sau = λ none. a.sau (n'.grows.all none) ∙ h.sau (all.all none) ∙ sym (b.sau none);
       bytes = λ q shown unmarked.
-          let none = or_first m3.all _ unmarked in
-          let map : map_of e ≡ map_of s = λ i. record { regions = (a.board i).regions; sau = a.sau (since.all none) i } in
-          a.bytes q (since.blocks (q / 32) unmarked) ∙ h.bytes q (subst (λ (z : MapState). is_open z q ≡ true) map shown) (all.blocks (q / 32) unmarked)
-          ∙ sym (b.bytes q (grows.blocks (q / 32) unmarked));
+          let none = n'.grows.all (or_first m''.all _ unmarked) in
+          let map : map_of e ≡ map_of s = λ i. record { regions = (a.board i).regions; sau = a.sau none i } in
+          a.bytes q (n'.grows.blocks (q / 32) unmarked) ∙ h.bytes q (subst (λ (z : MapState). is_open z q ≡ true) map shown) (all.blocks (q / 32) unmarked)
+          ∙ sym (b.bytes q unmarked);
       exceptions = λ none.
-          let told = timers none in
-          let timer_s = same.same_timer e.exceptions.timer_s f.exceptions.timer_s (and_first _ _ told) in
-          let timer_ns = same.same_timer e.exceptions.timer_ns f.exceptions.timer_ns (and_second _ _ told) in
-          let before : begun s.exceptions due ≡ begun t.exceptions due = ap (λ (z : ExceptionsValue). begun z due) (h.exceptions (all.exceptions none)) in
-          a.exceptions (since.exceptions none)
-          ∙ (λ i. record (before i) { timer_s = timer_s i; timer_ns = timer_ns i })
-          ∙ sym (b.exceptions (grows.exceptions none));
+          let first = all.exceptions none in
+          a.exceptions (n'.grows.exceptions none)
+          ∙ ap (with_timers_of e.exceptions) (begun_alike s.exceptions t.exceptions due (h.exceptions first) (alike first))
+          ∙ sym (ap (with_timers_of e.exceptions) (b.exceptions none));
     }
 
--- by what the steps left
-pub marked_after : (m m1 m2 m3 : Marks) (s t s' t' : State) (due : List ScriptEvent) → Marked m s t → s' ≡ (step s due).state → t' ≡ (step t due).state
-    → Notes (ended (started s due)).stores (is_exceptional (step s due).state.core (ended (started s due)).ending.cause) (stacks_of s.core.run.side (step s due).state.core) m m1
-    → Notes (ended (started t due)).stores (is_exceptional (step t due).state.core (ended (started t due)).ending.cause) (stacks_of t.core.run.side (step t due).state.core) m1 m2
-    → Grows m2 m3 → (m3.exceptions ≡ false → is_same_timers s'.exceptions t'.exceptions ≡ true) → Marked m3 s' t'
-marked_after m m1 m2 m3 s t s' t' due h is is' n n' grows timers =
-    subst (λ (z : State). Marked m3 z t') (sym is)
-    (subst (λ (z : State). Marked m3 (step s due).state z) (sym is')
-    (marked_step m m1 m2 m3 s t due _ _ h refl n refl n' grows
-    (λ none.
-    subst (λ (z : State). is_same_timers (step s due).state.exceptions z.exceptions ≡ true) is'
-    (subst (λ (z : State). is_same_timers z.exceptions t'.exceptions ≡ true) is (timers none)))))
+-- what was noted of a step that left a state
+pub record Noted (m m' : Marks) (s s' : State) (due : List ScriptEvent) : Type 0 where
+  pub is : s' ≡ (step s due).state
+  pub exceptional : Bool
+  pub is_told : exceptional ≡ is_exceptional (step s due).state.core (ended (started s due)).ending.cause
+  pub notes : Notes (ended (started s due)).stores exceptional (stacks_of s.core.run.side (step s due).state.core) m m'
 
-pub same_timers_of : (e f e' f' : ExceptionsValue) → e ≡ e' → f ≡ f' → is_same_timers e f ≡ true → is_same_timers e' f' ≡ true
-same_timers_of e f e' f' is is' h =
-    subst (λ (z : ExceptionsValue). is_same_timers e' z ≡ true) is' (subst (λ (z : ExceptionsValue). is_same_timers z f ≡ true) is h)
+-- by what it told
+pub noted_step : (m m' : Marks) (s s' : State) (due : List ScriptEvent) (stores : List Store) (exceptional : Bool) (stacks : Stacks) → s' ≡ (step s due).state
+    → stores ≡ (ended (started s due)).stores → exceptional ≡ is_exceptional (step s due).state.core (ended (started s due)).ending.cause → stacks ≡ stacks_of s.core.run.side s'.core
+    → Notes stores exceptional stacks m m' → Noted m m' s s' due
+noted_step m m' s s' due stores exceptional stacks is told is_told left n = record {
+  is = is;
+  exceptional = exceptional;
+  is_told = is_told;
+  notes = subst (λ (z : List Store). Notes z exceptional (stacks_of s.core.run.side (step s due).state.core) m m') told
+      (subst (λ (z : Stacks). Notes stores exceptional z m m') (left ∙ ap (λ (z : State). stacks_of s.core.run.side z.core) is) n);
+}
+
+-- so what may differ of what two steps left is marked
+pub marked_after : (m m' m'' : Marks) (s t s' t' : State) (due : List ScriptEvent) → Marked m s t → (m.exceptions ≡ false → begin_alike s.exceptions t.exceptions ≡ true)
+    → Noted m m' s s' due → Noted m' m'' t t' due → Marked m'' s' t'
+marked_after m m' m'' s t s' t' due h alike n n' =
+    subst (λ (z : State). Marked m'' z t') (sym n.is)
+    (subst (λ (z : State). Marked m'' (step s due).state z) (sym n'.is)
+    (marked_step m m' m'' s t due n.exceptional n'.exceptional h alike n.is_told n.notes n'.is_told n'.notes))

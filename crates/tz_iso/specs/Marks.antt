@@ -1,14 +1,17 @@
 -- What may differ of two machines while Secure code runs, of what Non-secure code may get to see: the bytes of marked
 -- blocks of 32, or all; and whether the exceptions may.
-use Rattle.std.specs.Prelude.{◌≡◌, ℕ, ◌/◌, nat_le, Bool, true, false, ◌&&◌, ◌||◌, List, [], ◌∷◌}
+use Rattle.std.specs.Prelude.{◌≡◌, ℕ, ◌/◌, nat_le, Bool, true, false, not, ◌&&◌, ◌||◌, List, [], ◌∷◌}
 use Rattle.std.specs.FinMap.{get}
 use Rattle.tz_model.specs.declared.report.Store.{Store}
 use Rattle.tz_regs.specs.declared.parts.Stacks.{Stacks}
 use Rattle.tz_state.specs.Attribution.{is_open}
+use Rattle.tz_state.specs.Slots.{ExceptionsValue}
 use Rattle.tz_state.specs.State.{Bus, State, map_in}
-use Rattle.tz_twin.specs.Writing.{are_beside, are_in_memory, is_framed}
+use Rattle.tz_state.specs.Timers.{counts}
+use Rattle.tz_twin.specs.Writing.{are_beside, are_in_memory, is_framed, with_timers_of}
 use Rattle.tz_iso.specs.declared.marks.Blocks.{Blocks}
 use Rattle.tz_iso.specs.declared.marks.Marks.{Marks}
+use Rattle.tz_iso.specs.Parts.{is_same_timers}
 
 -- a block is among some, by its number
 abbrev pub is_among : Blocks → ℕ → Bool
@@ -47,8 +50,18 @@ pub record Notes (stores : List Store) (exceptional : Bool) (stacks : Stacks) (m
 abbrev pub AreMarked : Marks → Bus → Bus → Type 0
 AreMarked m b c = (a : ℕ) → is_open (map_in b) a ≡ true → marks_byte m a ≡ false → get b.memory a ≡ get c.memory a
 
--- of two machines, and unless they may differ the SAU and the exceptions
+-- of two machines, and unless they may differ the SAU, and the exceptions but for the timers
 pub record Marked (m : Marks) (s t : State) : Type 0 where
   pub sau : m.all ≡ false → s.bus.sau ≡ t.bus.sau
   pub bytes : AreMarked m s.bus t.bus
-  pub exceptions : m.exceptions ≡ false → s.exceptions ≡ t.exceptions
+  pub exceptions : m.exceptions ≡ false → s.exceptions ≡ with_timers_of s.exceptions t.exceptions
+
+-- ---- timers
+
+-- neither counts
+abbrev pub is_still : ExceptionsValue → Bool
+is_still e = not (counts e.timer_s) && not (counts e.timer_ns)
+
+-- at the beginning of a step the timers of both cores pend alike: none counts, or they are the same
+abbrev pub begin_alike : ExceptionsValue → ExceptionsValue → Bool
+begin_alike e f = (is_still e && is_still f) || is_same_timers e f

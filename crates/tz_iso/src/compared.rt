@@ -1,14 +1,14 @@
-//! The bytes and the exceptions of two machines, of which what isn't marked is the same.
+//! The bytes and the exceptions of two machines, of which what isn't marked is the same but for the timers.
 
 ghost use Rattle.std.specs.Prelude.{◌≡◌, ◌<◌, ◌/◌, ℕ, true, false};
-ghost use Rattle.tz_state.specs.Difference.{open_byte_differs, open_bytes_differ, exceptions_differ};
-ghost use Rattle.tz_iso.specs.Marks.{is_among, Grows, AreMarked};
-ghost use Rattle.tz_iso.specs.Parts.{is_same_timers};
+ghost use Rattle.tz_state.specs.Difference.{sau_differs, open_byte_differs, open_bytes_differ, exceptions_differ};
+ghost use Rattle.tz_twin.specs.Writing.{with_timers_of};
+ghost use Rattle.tz_iso.specs.Marks.{is_among, Grows, AreMarked, is_still, begin_alike};
 
 use crate::marks::{Blocks, Marks};
 use crate::parts::is_same_timers;
 use tz_access::Bus;
-use tz_core::Machine;
+use tz_model::Side;
 use tz_nvic::Exceptions;
 
 /// How many blocks there are.
@@ -49,20 +49,35 @@ pub fn bytes_differ(marks: &Marks, b: &Bus, c: &Bus) -> bool
     false
 }
 
+/// Whether the SAUs differ.
+pub fn sau_differs(marks: &Marks, b: &Bus, c: &Bus) -> bool
+    requires { marks.now.all ≡ false → b.now.sau ≡ c.now.sau }
+    ensures { result ≡ sau_differs b.now.sau c.now.sau }
+{
+    marks.all && b.sau().differs(c.sau())
+}
+
 /// Whether the exceptions differ in anything but their timers.
 pub fn exceptions_differ(marks: &Marks, e: &Exceptions, f: &Exceptions) -> bool
-    requires { marks.now.exceptions ≡ false → e.now ≡ f.now }
+    requires { marks.now.exceptions ≡ false → e.now ≡ with_timers_of e.now f.now }
     ensures { result ≡ exceptions_differ e.now f.now }
 {
     marks.exceptions && e.differs(f)
 }
 
-/// Marks the exceptions where the timers differ.
+/// Whether neither timer counts. It looks at both without a branch between.
+fn is_still(e: &Exceptions) -> bool
+    ensures { result ≡ is_still e.now }
+{
+    (e.timer(Side::Secure).csr % 2 != 1) & (e.timer(Side::NonSecure).csr % 2 != 1)
+}
+
+/// Marks the exceptions where the timers may pend them apart at the next step: where one counts, and they differ.
 pub fn note_timers(marks: &mut Marks, e: &Exceptions, f: &Exceptions)
     ensures grows { Grows marks.old marks.new }
-    ensures timers { marks.new.exceptions ≡ false → is_same_timers e.now f.now ≡ true }
+    ensures timers { marks.new.exceptions ≡ false → begin_alike e.now f.now ≡ true }
 {
-    if !is_same_timers(e, f) {
+    if !(is_still(e) & is_still(f)) && !is_same_timers(e, f) {
         marks.exceptions = true;
     }
 }

@@ -2,12 +2,13 @@
 
 ghost use Rattle.std.specs.Prelude.{◌≡◌, ◌==◌, not, false, ◌∷◌, []};
 ghost use Rattle.tz_state.specs.Difference.{sau_differs, mpu_differs, exceptions_differ as differ};
+ghost use Rattle.tz_twin.specs.Writing.{with_timers_of};
 ghost use Rattle.tz_iso.specs.Marks.{Marked};
 ghost use Rattle.tz_iso.specs.Parts.{is_same_sp, is_same_limits, is_same_control, is_same_side_masks, is_same_masks, is_same_side_faults, is_same_bus_faults, is_same_faults, is_same_timer, is_same_timers, is_same_monitor, is_same_sleep, is_same_rest};
 ghost use Rattle.tz_iso.specs.What.{first_apart, public_apart};
 
 use crate::answer::What;
-use crate::compared::{bytes_differ, exceptions_differ};
+use crate::compared::{bytes_differ, exceptions_differ, sau_differs};
 use crate::handed::is_same_flag;
 use crate::marks::Marks;
 use tz_access::Bus;
@@ -145,10 +146,11 @@ fn stacks_apart(a: &Stacks, b: &Stacks) -> Option<What>
 }
 
 /// Which of the units that guard memory isn't the same.
-fn units_apart(b: &Bus, c: &Bus) -> Option<What>
+fn units_apart(marks: &Marks, b: &Bus, c: &Bus) -> Option<What>
+    requires { marks.now.all ≡ false → b.now.sau ≡ c.now.sau }
     ensures { result ≡ first_apart ((not (sau_differs b.now.sau c.now.sau), What.Sau) ∷ (not (mpu_differs b.now.mpu_ns c.now.mpu_ns), What.Mpu) ∷ []) }
 {
-    if b.sau().differs(c.sau()) {
+    if sau_differs(marks, b, c) {
         return Some(What::Sau);
     }
     if b.mpu(Side::NonSecure).differs(c.mpu(Side::NonSecure)) {
@@ -159,7 +161,7 @@ fn units_apart(b: &Bus, c: &Bus) -> Option<What>
 
 /// What of the exceptions, or of what the core waits for, isn't the same.
 fn rest_apart(marks: &Marks, m: &Machine, n: &Machine) -> Option<What>
-    requires { marks.now.exceptions ≡ false → m.now.exceptions ≡ n.now.exceptions }
+    requires { marks.now.exceptions ≡ false → m.now.exceptions ≡ with_timers_of m.now.exceptions n.now.exceptions }
     ensures { result ≡ first_apart ((not (differ m.now.exceptions n.now.exceptions), What.Exceptions) ∷ (is_same_timers m.now.exceptions n.now.exceptions, What.Systick) ∷ (is_same_rest m.now n.now, What.Sleep) ∷ []) }
 {
     if exceptions_differ(marks, m.exceptions(), n.exceptions()) {
@@ -176,7 +178,7 @@ fn rest_apart(marks: &Marks, m: &Machine, n: &Machine) -> Option<What>
 
 /// What of the status registers, or of the parts after them, isn't the same.
 fn status_apart(marks: &Marks, m: &Machine, n: &Machine) -> Option<What>
-    requires { marks.now.exceptions ≡ false → m.now.exceptions ≡ n.now.exceptions }
+    requires { marks.now.exceptions ≡ false → m.now.exceptions ≡ with_timers_of m.now.exceptions n.now.exceptions }
     ensures { result ≡ first_apart ((m.now.core.status.ns.vtor == n.now.core.status.ns.vtor, What.Vtor) ∷ (m.now.core.status.ns.ccr == n.now.core.status.ns.ccr, What.Ccr) ∷ (is_same_faults m.now n.now, What.Fault) ∷ (not (differ m.now.exceptions n.now.exceptions), What.Exceptions) ∷ (is_same_timers m.now.exceptions n.now.exceptions, What.Systick) ∷ (is_same_rest m.now n.now, What.Sleep) ∷ []) }
 {
     let a = &m.core().status.ns;
@@ -208,7 +210,7 @@ pub fn public_apart(marks: &Marks, m: &Machine, n: &Machine) -> Option<What>
     if !is_same_masks(&m.core().masks, &n.core().masks) {
         return Some(What::Mask);
     }
-    if let Some(what) = units_apart(m.bus(), n.bus()) {
+    if let Some(what) = units_apart(marks, m.bus(), n.bus()) {
         return Some(what);
     }
     status_apart(marks, m, n)

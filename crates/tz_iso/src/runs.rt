@@ -1,13 +1,13 @@
 //! The pair of machines and its step.
 
-ghost use Rattle.std.specs.Prelude.{◌≡◌, ◌<◌, ◌↔◌, ℕ, None, IfOk};
+ghost use Rattle.std.specs.Prelude.{◌≡◌, ◌<◌, ◌↔◌, ℕ, true, false, None, IfOk};
 ghost use Rattle.tz_model.specs.declared.report.View.TheVariants.{Ns};
-ghost use Rattle.tz_regs.specs.Banks.{stacks_of};
-ghost use Rattle.tz_sem.specs.Step.{started, ended, step};
+ghost use Rattle.tz_sem.specs.Step.{step};
+ghost use Rattle.tz_state.specs.State.{side_of};
+ghost use Rattle.tz_table.specs.declared.units.Side.TheVariants.{NonSecure};
 ghost use Rattle.tz_text.specs.Line.{line};
 ghost use Rattle.tz_twin.specs.Seen.{crossing};
-ghost use Rattle.tz_twin.specs.Writing.{is_exceptional};
-ghost use Rattle.tz_iso.specs.Marks.{Notes, Marked};
+ghost use Rattle.tz_iso.specs.Marks.{Marked, begin_alike};
 ghost use Rattle.tz_iso.specs.What.{what_of};
 ghost use Rattle.tz_iso.specs.Runs.{IsLinked};
 
@@ -17,8 +17,8 @@ use crate::crossed::what_by;
 use crate::marks::Marks;
 use std::alloc::{AllocError, Global};
 use std::marker::Model;
-use tz_core::{Machine, Stores};
-use tz_model::{Board, Image, ScriptEvent, Side, Way};
+use tz_core::{Machine, Passage, Stores};
+use tz_model::{Board, Image, ScriptEvent, Side};
 
 /// Two machines of one board and one Non-secure image, beside each other. As long as nothing differed at a
 /// crossing out of Secure state, Non-secure code sees the same in both.
@@ -28,8 +28,9 @@ pub struct Pair {
     second: Machine,
     steps: u32,
     found: Option<(u32, What)>,
-    /// Room for the stores of a step.
+    /// Room for the stores of a step of the first machine, and of the second.
     stores: Stores,
+    others: Stores,
     /// What may differ, since the machines were last linked.
     marks: Marks,
 }
@@ -51,38 +52,27 @@ impl Model for Pair {
     ghost invariant = { λ p. p.found ≡ None → IsLinked p.first p.second × Marked p.marks p.first p.second };
 }
 
-/// Makes the step of a machine, at which these events are due, marks what it may have written, and tells its way out of
-/// Secure state, where it crossed out: most steps don't, and write none.
-fn step_noted(
-    machine: &mut Machine,
-    stores: &mut Stores,
-    marks: &mut Marks,
-    due: &[ScriptEvent],
-    way: &mut Option<Way>,
-)
-    requires none { way.old ≡ None }
-    ensures steps { machine.new ≡ (step machine.old due.now).state }
-    ensures way { way.new ≡ (step machine.old due.now).report.way }
-    ensures notes { Notes (ended (started machine.old due.now)).stores (is_exceptional (step machine.old due.now).state.core (ended (started machine.old due.now)).ending.cause) (stacks_of machine.old.core.run.side (step machine.old due.now).state.core) marks.old marks.new }
-{
-    let side = machine.core().run.side;
-    let passage = machine.step_way(due, stores);
-    marks.note(stores, passage.exceptional, machine.core().stacks(side));
-    if let Some(found) = passage.way {
-        *way = Some(found);
-    }
-}
-
-/// Forgets what is marked where Non-secure code runs in linked machines: nothing differs then.
+/// What may differ of two machines before their next step: nothing where Non-secure code runs, else what is marked, and
+/// the exceptions where the timers may pend them apart.
 fn begin_marks(marks: &mut Marks, first: &Machine, second: &Machine)
     requires linked { IsLinked first.now second.now }
     requires marked { Marked marks.old first.now second.now }
-    ensures { Marked marks.new first.now second.now }
+    ensures marked { Marked marks.new first.now second.now }
+    ensures timers { marks.new.exceptions ≡ false → begin_alike first.now.exceptions second.now.exceptions ≡ true }
 {
     match first.side() {
-        Side::Secure => {}
+        Side::Secure => note_timers(marks, first.exceptions(), second.exceptions()),
         Side::NonSecure => marks.clear(),
     }
+}
+
+/// Whether neither of two steps crossed out of Secure state, and Non-secure code goes on.
+fn is_quiet(passage: &Passage, other: &Passage, first: &Machine) -> bool
+    ensures first { result ≡ true → passage.now.way ≡ None }
+    ensures second { result ≡ true → other.now.way ≡ None }
+    ensures side { result ≡ true → side_of first.now ≡ NonSecure }
+{
+    passage.way.is_none() && other.way.is_none() && first.side() == Side::NonSecure
 }
 
 /// Makes the step of two linked machines, at which these events are due, and tells what differs first.
@@ -90,6 +80,7 @@ fn step_both(
     first: &mut Machine,
     second: &mut Machine,
     stores: &mut Stores,
+    others: &mut Stores,
     marks: &mut Marks,
     due: &[ScriptEvent],
 ) -> Option<What>
@@ -104,12 +95,16 @@ fn step_both(
     ensures marked { Marked marks.new first.new second.new }
 {
     begin_marks(marks, first, second);
-    let mut way = None;
-    let mut other = None;
-    step_noted(first, stores, marks, due, &mut way);
-    step_noted(second, stores, marks, due, &mut other);
-    note_timers(marks, first.exceptions(), second.exceptions());
-    what_by(marks, &way, &other, first, second)
+    let side = first.core().run.side;
+    let side_of_other = second.core().run.side;
+    let passage = first.step_way(due, stores);
+    let other = second.step_way(due, others);
+    if is_quiet(&passage, &other, first) {
+        return None;
+    }
+    marks.note(stores, passage.exceptional, first.core().stacks(side));
+    marks.note(others, other.exceptional, second.core().stacks(side_of_other));
+    what_by(marks, &passage.way, &other.way, first, second)
 }
 
 impl Pair {
@@ -134,6 +129,7 @@ impl Pair {
             steps: 0,
             found: None,
             stores: Stores::new(),
+            others: Stores::new(),
             marks: Marks::everything(),
         })
     }
@@ -167,6 +163,7 @@ impl Pair {
             &mut self.first,
             &mut self.second,
             &mut self.stores,
+            &mut self.others,
             &mut self.marks,
             due,
         );
