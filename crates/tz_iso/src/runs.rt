@@ -103,7 +103,11 @@ fn step_both(
         return None;
     }
     marks.note(stores, passage.exceptional, first.core().stacks(side));
-    marks.note(others, other.exceptional, second.core().stacks(side_of_other));
+    marks.note(
+        others,
+        other.exceptional,
+        second.core().stacks(side_of_other),
+    );
     what_by(marks, &passage.way, &other.way, first, second)
 }
 
