@@ -102,8 +102,8 @@ fn step_both(
     if is_quiet(&passage, &other, first) {
         return None;
     }
-    marks.note(stores, passage.exceptional, first.core().stacks(side));
-    marks.note(others, other.exceptional, second.core().stacks(side_of_other));
+    marks.note(stores, passage.exceptional, first.core(), side);
+    marks.note(others, other.exceptional, second.core(), side_of_other);
     what_by(marks, &passage.way, &other.way, first, second)
 }
 
