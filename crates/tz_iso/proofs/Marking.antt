@@ -128,6 +128,17 @@ written_through xs ys i r e = ap (λ zs. refill (length xs) xs (slice_set zs i r
 
 -- ---- stores in turn
 
+-- no stores are told
+pub none_in_memory : (xs : List Store) → length xs ≡ 0 → are_in_memory xs ≡ true
+unfolding are_in_memory
+none_in_memory [] e = refl
+none_in_memory (x ∷ xs) e = absurd (omega (arith, e))
+
+pub none_beside : (xs : List Store) (a : ℕ) → length xs ≡ 0 → are_beside xs a ≡ true
+unfolding are_beside
+none_beside [] a e = refl
+none_beside (x ∷ xs) a e = absurd (omega (arith, e))
+
 -- the next one isn't to a system register
 pub in_memory_next : (xs : List Store) (i : ℕ) (d : Store) (all : Bool) → i < length xs → is_private (get_or xs i d).addr ≡ false → are_in_memory (drop i xs) ≡ all → are_in_memory (drop (i + 1) xs) ≡ all
 unfolding are_in_memory

@@ -5,6 +5,7 @@
 //! for, all is marked. What the marks are for stands beside them in `compared.rt`.
 
 ghost use Rattle.std.specs.Prelude.{◌≡◌, ◌<◌, ◌==◌, ℕ, IfSome, not, true, false, length, []};
+ghost use Rattle.tz_regs.specs.Banks.{stacks_of};
 ghost use Rattle.tz_state.specs.Access.{is_private};
 ghost use Rattle.tz_state.specs.Memory.{every};
 ghost use Rattle.tz_frames.specs.Stack.{both_frames_size};
@@ -15,8 +16,8 @@ ghost use Rattle.tz_iso.specs.Marks.{is_among, marks_block, marks_byte, Grows, N
 use arrayvec::ArrayVec;
 use tz_core::Stores;
 use tz_model::address_map::{PRIVATE_FIRST, PRIVATE_LAST};
-use tz_model::{Size, Store};
-use tz_regs::Stacks;
+use tz_model::{Side, Size, Store};
+use tz_regs::{Core, Stacks};
 
 /// Blocks of 32 bytes that follow one another, by their numbers.
 #[derive(Clone, Copy, Default)]
@@ -153,6 +154,7 @@ impl Marks {
     }
 
     /// Marks what these stores may have written.
+    #[inline(never)]
     fn note_stores(&mut self, stores: &[Store])
         ensures grows { Grows self.old self.new }
         ensures all { self.new.all ≡ false → are_in_memory stores.now ≡ true }
@@ -176,6 +178,7 @@ impl Marks {
     }
 
     /// Marks the frames that may stand at both stack pointers of a side.
+    #[inline(never)]
     fn note_frames(&mut self, stacks: &Stacks)
         ensures grows { Grows self.old self.new }
         ensures bytes { (a : ℕ) → marks_byte self.new a ≡ false → is_framed stacks.now a ≡ false }
@@ -184,14 +187,19 @@ impl Marks {
         self.note_frames_at(stacks.psp);
     }
 
-    /// Marks what a step may have written that made these stores, and left these stacks to the side that ran.
-    pub fn note(&mut self, stores: &Stores, exceptional: bool, stacks: &Stacks)
-        ensures { Notes stores.now.items exceptional stacks.now self.old self.new }
+    /// Marks what a step may have written that made these stores, and left this core, of code that ran on a side. Most
+    /// steps mark nothing, so that is told without a call.
+    #[inline(always)]
+    #[tactic(auto, using(crate::proofs::Marking::none_in_memory, crate::proofs::Marking::none_beside))]
+    pub fn note(&mut self, stores: &Stores, exceptional: bool, core: &Core, side: Side)
+        ensures { Notes stores.now.items exceptional (stacks_of side core.now) self.old self.new }
     {
         if exceptional {
             self.exceptions = true;
-            self.note_frames(stacks);
+            self.note_frames(core.stacks(side));
         }
-        self.note_stores(stores.as_slice());
+        if !stores.is_empty() {
+            self.note_stores(stores.as_slice());
+        }
     }
 }

@@ -1,9 +1,6 @@
-use Rattle.std.proofs.Common.{◌≡◌, refl, sym, ap, ◌∙◌, Option, None}
+use Rattle.std.proofs.Common.{refl, sym, ap, ◌∙◌, None}
 use Rattle.tz_model.specs.Words.{is_nonsecure_side}
 use Rattle.tz_regs.specs.Banks.{stacks_of}
-use Rattle.tz_sem.specs.Step.{step}
-use Rattle.tz_iso.specs.declared.answer.What.{What}
-use Rattle.tz_iso.specs.What.{what_of}
 use Rattle.tz_iso.proofs.Agreement.{regions_stepped, what_stepped, lines_stepped, linked_stepped, exact_stepped}
 use Rattle.tz_iso.proofs.Stepped.{marked_linked, marked_after, noted_step}
 use Rattle.tz_iso.proofs.runs.step_both.Goals as goal
@@ -43,11 +40,11 @@ what_by-requires-clause-marked c =
     marked_after c.begin_marks.new.marks c.note.new.self c.note-2.new.self c.args.first.now c.args.second.now c.step_way-passage.new.self c.step_way-other.new.self
     c.args.due.now c.begin_marks.ensures.marked c.begin_marks.ensures.timers
     (noted_step c.begin_marks.new.marks c.note.new.self c.args.first.now c.step_way-passage.new.self c.args.due.now c.step_way-passage.new.stores.items
-    c.step_way-passage.result.exceptional c.stacks.result.now c.step_way-passage.ensures.steps c.step_way-passage.ensures.stores c.step_way-passage.ensures.exceptional
-    (c.stacks.ensures ∙ (λ i. stacks_of (c.core.ensures i).run.side (c.core-3.ensures i))) c.note.ensures)
+    c.step_way-passage.result.exceptional (stacks_of c.core.result.now.run.side c.core-3.result.now) c.step_way-passage.ensures.steps c.step_way-passage.ensures.stores c.step_way-passage.ensures.exceptional
+    (λ i. stacks_of (c.core.ensures i).run.side (c.core-3.ensures i)) c.note.ensures)
     (noted_step c.note.new.self c.note-2.new.self c.args.second.now c.step_way-other.new.self c.args.due.now c.step_way-other.new.stores.items
-    c.step_way-other.result.exceptional c.stacks-2.result.now c.step_way-other.ensures.steps c.step_way-other.ensures.stores c.step_way-other.ensures.exceptional
-    (c.stacks-2.ensures ∙ (λ i. stacks_of (c.core-2.ensures i).run.side (c.core-4.ensures i))) c.note-2.ensures)
+    c.step_way-other.result.exceptional (stacks_of c.core-2.result.now.run.side c.core-4.result.now) c.step_way-other.ensures.steps c.step_way-other.ensures.stores c.step_way-other.ensures.exceptional
+    (λ i. stacks_of (c.core-2.ensures i).run.side (c.core-4.ensures i)) c.note-2.ensures)
 
 pub returns-clause-what : goal.returns-clause-what
 returns-clause-what c =
@@ -71,8 +68,8 @@ returns-clause-marked c =
     marked_after c.begin_marks.new.marks c.note.new.self c.note-2.new.self c.args.first.now c.args.second.now c.step_way-passage.new.self c.step_way-other.new.self
     c.args.due.now c.begin_marks.ensures.marked c.begin_marks.ensures.timers
     (noted_step c.begin_marks.new.marks c.note.new.self c.args.first.now c.step_way-passage.new.self c.args.due.now c.step_way-passage.new.stores.items
-    c.step_way-passage.result.exceptional c.stacks.result.now c.step_way-passage.ensures.steps c.step_way-passage.ensures.stores c.step_way-passage.ensures.exceptional
-    (c.stacks.ensures ∙ (λ i. stacks_of (c.core.ensures i).run.side (c.core-3.ensures i))) c.note.ensures)
+    c.step_way-passage.result.exceptional (stacks_of c.core.result.now.run.side c.core-3.result.now) c.step_way-passage.ensures.steps c.step_way-passage.ensures.stores c.step_way-passage.ensures.exceptional
+    (λ i. stacks_of (c.core.ensures i).run.side (c.core-3.ensures i)) c.note.ensures)
     (noted_step c.note.new.self c.note-2.new.self c.args.second.now c.step_way-other.new.self c.args.due.now c.step_way-other.new.stores.items
-    c.step_way-other.result.exceptional c.stacks-2.result.now c.step_way-other.ensures.steps c.step_way-other.ensures.stores c.step_way-other.ensures.exceptional
-    (c.stacks-2.ensures ∙ (λ i. stacks_of (c.core-2.ensures i).run.side (c.core-4.ensures i))) c.note-2.ensures)
+    c.step_way-other.result.exceptional (stacks_of c.core-2.result.now.run.side c.core-4.result.now) c.step_way-other.ensures.steps c.step_way-other.ensures.stores c.step_way-other.ensures.exceptional
+    (λ i. stacks_of (c.core-2.ensures i).run.side (c.core-4.ensures i)) c.note-2.ensures)
