@@ -4,6 +4,6 @@ use Rattle.tz_full.proofs.instruction.filled_of.Given as goal
 
 abbrev pub invariant-loop-index : goal.invariant-loop-index
 invariant-loop-index l = record {
-  items : l.registers.items ≡ take l.index-index l.named.items;
+  items : l.registers.items ≡ take l.index-index l.index-items;
   len : array_vec_len l.registers ≡ l.index-index;
 }
