@@ -48,17 +48,17 @@ byte_over m a x y = same_bytes _ _ (λ q.
     ∙ ap (λ o. cond (eq_by_cmp nat_cmp q a) (replaced o y) (get (with_byte m a x) q)) (here (get m a))
     ∙ either (eq_by_cmp nat_cmp q a) (get-with_byte m a x q)
     ∙ sym (get-with_byte m a y q)) where
-  twice : (o : Option ℕ) → replaced (replaced o x) y ≡ replaced o y
-  twice None = refl
-  twice (Some z) = refl
+      twice : (o : Option ℕ) → replaced (replaced o x) y ≡ replaced o y
+      twice None = refl
+      twice (Some z) = refl
 
-  here : (o : Option ℕ) → get (with_byte m a x) a ≡ replaced (get m a) x
-  here o = get-with_byte m a x a ∙ ap (λ t. cond t (replaced (get m a) x) (get m a)) (tied a a refl)
+      here : (o : Option ℕ) → get (with_byte m a x) a ≡ replaced (get m a) x
+      here o = get-with_byte m a x a ∙ ap (λ t. cond t (replaced (get m a) x) (get m a)) (tied a a refl)
 
-  either : {q : ℕ} (t : Bool) → get (with_byte m a x) q ≡ cond t (replaced (get m a) x) (get m q)
-      → cond t (replaced (replaced (get m a) x) y) (get (with_byte m a x) q) ≡ cond t (replaced (get m a) y) (get m q)
-  either true e = twice (get m a)
-  either false e = e
+      either : {q : ℕ} (t : Bool) → get (with_byte m a x) q ≡ cond t (replaced (get m a) x) (get m q)
+          → cond t (replaced (replaced (get m a) x) y) (get (with_byte m a x) q) ≡ cond t (replaced (get m a) y) (get m q)
+      either true e = twice (get m a)
+      either false e = e
 
 -- bytes at two addresses are written in either order
 byte_swap : (m : Memory) (a b x y : ℕ) → a ≢ b → with_byte (with_byte m a x) b y ≡ with_byte (with_byte m b y) a x
@@ -70,17 +70,17 @@ byte_swap m a b x y apart = same_bytes _ _ (λ q.
     ∙ sym (ap (λ o. cond (eq_by_cmp nat_cmp q a) (replaced (get m a) x) o) (get-with_byte m b y q))
     ∙ sym (ap (λ o. cond (eq_by_cmp nat_cmp q a) (replaced o x) (get (with_byte m b y) q)) (away m b a y apart))
     ∙ sym (get-with_byte (with_byte m b y) a x q)) where
-  away : (n : Memory) (c d z : ℕ) → d ≢ c → get (with_byte n c z) d ≡ get n d
-  away n c d z ne = get-with_byte n c z d ∙ ap (λ t. cond t (replaced (get n c) z) (get n d)) (untied d c ne)
+      away : (n : Memory) (c d z : ℕ) → d ≢ c → get (with_byte n c z) d ≡ get n d
+      away n c d z ne = get-with_byte n c z d ∙ ap (λ t. cond t (replaced (get n c) z) (get n d)) (untied d c ne)
 
-  order : (q : ℕ) (s t : Bool) → eq_by_cmp nat_cmp q a ≡ s → eq_by_cmp nat_cmp q b ≡ t
-      → cond t (replaced (get m b) y) (cond s (replaced (get m a) x) (get m q)) ≡ cond s (replaced (get m a) x) (cond t (replaced (get m b) y) (get m q))
-  order q false t e f = refl
-  order q true false e f = refl
-  order q true true e f =
-      let at : q ≡ a = grind (arith, nat_tests) in
-      let too : q ≡ b = grind (arith, nat_tests) in
-      absurd (apart (sym at ∙ too))
+      order : (q : ℕ) (s t : Bool) → eq_by_cmp nat_cmp q a ≡ s → eq_by_cmp nat_cmp q b ≡ t
+          → cond t (replaced (get m b) y) (cond s (replaced (get m a) x) (get m q)) ≡ cond s (replaced (get m a) x) (cond t (replaced (get m b) y) (get m q))
+      order q false t e f = refl
+      order q true false e f = refl
+      order q true true e f =
+          let at : q ≡ a = grind (arith, nat_tests) in
+          let too : q ≡ b = grind (arith, nat_tests) in
+          absurd (apart (sym at ∙ too))
 
 -- a byte that stands there, written, changes nothing
 byte_back : (m : Memory) (a y : ℕ) → y ≡ byte_at m a → with_byte m a y ≡ m
@@ -144,8 +144,8 @@ word_back m a v h0 h1 h2 h3 =
     let bs = byte_at m a ∷ byte_at m (wrap (a + 1)) ∷ byte_at m (wrap (a + 2)) ∷ byte_at m (wrap (a + 3)) ∷ [] in
     let back : to_le_bytes w32 (from_le_bytes w32 bs) ≡ bs = le_bytes_4 bs (from_le_bytes w32 bs) refl each refl in
     fours m a (wrap (a + 1)) (wrap (a + 2)) (wrap (a + 3)) _ _ _ _ _ _ _ _
-        (ap (λ xs. get_or xs 0 0) back) (ap (λ xs. get_or xs 1 0) back) (ap (λ xs. get_or xs 2 0) back) (ap (λ xs. get_or xs 3 0) back)
-        (omega arith) (omega arith) (omega arith) (omega arith) (omega arith) (omega arith) where
+    (ap (λ xs. get_or xs 0 0) back) (ap (λ xs. get_or xs 1 0) back) (ap (λ xs. get_or xs 2 0) back) (ap (λ xs. get_or xs 3 0) back)
+    (omega arith) (omega arith) (omega arith) (omega arith) (omega arith) (omega arith) where
       each : (i : ℕ) → get_or (byte_at m a ∷ byte_at m (wrap (a + 1)) ∷ byte_at m (wrap (a + 2)) ∷ byte_at m (wrap (a + 3)) ∷ []) i 0 < 256
       each zero = h0
       each (suc zero) = h1

@@ -27,14 +27,19 @@ pub fn byte_of(blocks: &[Block], addr: u32) -> Option<u8>
     }
 }
 
+/// A byte is below 2 to the 8th.
+fn know_small(byte: u8)
+    ensures { byte < 2 ^ 8 }
+{
+    let _known = byte;
+}
+
 /// What stands at an address is a byte.
 pub fn know_byte(blocks: &[Block], addr: u32)
     ensures { byte_at (memory_of blocks.now) addr < 2 ^ 8 }
 {
     match byte_of(blocks, addr) {
-        Some(byte) => {
-            let _known = byte;
-        }
+        Some(byte) => know_small(byte),
         None => {}
     }
 }
