@@ -19,8 +19,10 @@ mod registers;
 mod span;
 mod target;
 mod units;
+mod written;
 
 pub use bus::Bus;
 pub use data::is_aligned;
 pub use frames::BusFrames;
 pub use place::Place;
+pub use written::{Was, Written};

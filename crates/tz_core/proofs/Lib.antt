@@ -5,3 +5,4 @@ mod Named
 mod Order
 mod Private
 mod Reading
+mod Unwritten
