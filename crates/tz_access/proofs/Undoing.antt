@@ -1,5 +1,5 @@
 -- What a store overwrote, put back where it stood, gives memory as it was.
-use Rattle.std.proofs.Common.{◌≡◌, ◌≢◌, ℕ, zero, suc, ◌+◌, ◌%◌, ◌^◌, ◌<◌, Bool, true, false, cond, List, [], ◌∷◌, ◌++◌, Option, Some, None, get_or, refl, sym, ap, ◌∙◌, arith}
+use Rattle.std.proofs.Common.{◌≡◌, ◌≢◌, ℕ, zero, suc, ◌+◌, ◌%◌, ◌^◌, ◌<◌, Bool, true, false, cond, List, [], ◌∷◌, ◌++◌, length, take, Option, Some, None, get_or, refl, sym, ap, ◌∙◌, arith}
 use Rattle.std.specs.Prelude.{is_some, unwrap_or}
 use Rattle.std.specs.FinMap.{get, insert, get-insert, same_map, nat_cmp-IsAntisymmetric}
 use Rattle.std.specs.Ordering.{nat_cmp, eq_by_cmp}
@@ -174,3 +174,20 @@ undone_store ws m size a v n e h0 h1 h2 h3 =
     undone_last ws _ (with_value m size a v)
     ∙ ap (λ x. undone ws (with_value (with_value m size a v) size a x)) e
     ∙ ap (undone ws) (value_back m size a v h0 h1 h2 h3)
+
+-- one less is left to be put back
+pub undone_take : (ws : List Was) (j : ℕ) (w : Was) (m : Memory) → j < length ws → w ≡ get_or ws j w → undone (take (suc j) ws) m ≡ undone (take j ws) (put_back w m)
+unfolding undone
+undone_take [] j w m l is = absurd (omega arith)
+undone_take (x ∷ ws) zero w m l is = ap (λ y. put_back y m) (sym is)
+undone_take (x ∷ ws) (suc j) w m l is = ap (put_back x) (undone_take ws j w m (omega arith) is)
+
+pub undone_none : (ws : List Was) (m : Memory) → undone (take 0 ws) m ≡ m
+unfolding undone
+undone_none ws m = refl
+
+pub taken_all : (ws : List Was) (n : ℕ) → n ≡ length ws → take n ws ≡ ws
+taken_all [] zero e = refl
+taken_all [] (suc n) e = refl
+taken_all (x ∷ ws) zero e = absurd (omega arith)
+taken_all (x ∷ ws) (suc n) e = ap (λ xs. x ∷ xs) (taken_all ws n (omega arith))

@@ -1,6 +1,7 @@
 //! What stores overwrote: it is noted, where that is wanted, and put back.
 
-ghost use Rattle.std.specs.Prelude.{◌≡◌, ◌+◌, ◌<◌, ◌≤◌, ◌^◌, true, false, OnOk, OnErr};
+ghost use Rattle.std.specs.Prelude.{◌≡◌, ◌+◌, ◌<◌, ◌≤◌, ◌^◌, true, false, take, Some, OnOk, OnErr};
+ghost use Rattle.arrayvec.specs.ArrayVec.{array_vec_len};
 ghost use Rattle.tz_model.specs.Words.{wrap};
 ghost use Rattle.tz_state.specs.Access.{is_writable};
 ghost use Rattle.tz_state.specs.Memory.{byte_at, every, with_value};
@@ -109,6 +110,15 @@ impl Bus {
         self.memory.put(was.addr, was.size, was.value);
     }
 
+    /// Puts back what the store of a number overwrote, where those behind it are put back.
+    #[tactic(auto, using(crate::proofs::Undoing::undone_take))]
+    fn undo_one(&mut self, written: &Written, index: usize)
+        requires { index < array_vec_len written.now }
+        ensures { with_memory self.new (undone (take index written.now.items) self.new.memory) ≡ with_memory self.old (undone (take (index + 1) written.now.items) self.old.memory) }
+    {
+        self.put_back(&written[index]);
+    }
+
     /// Puts back what stores overwrote, the newest first. Memory is then as it was before these stores, if it is as
     /// they left it.
     pub fn undo(&mut self, written: &Written)
@@ -116,7 +126,7 @@ impl Bus {
     {
         let count = written.len();
         for index in 0..count {
-            self.put_back(&written[count - 1 - index]);
+            self.undo_one(written, count - 1 - index);
         }
     }
 }

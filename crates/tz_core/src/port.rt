@@ -75,7 +75,7 @@ impl CorePort<'_> {
 }
 
 impl Port for CorePort<'_> {
-    ghost use Rattle.std.specs.Prelude.{max, nat_le, Bool, Option};
+    ghost use Rattle.std.specs.Prelude.{max, Option};
     ghost use Rattle.tz_state.specs.Memory.{Memory};
 
     ghost Held = { Reached };
@@ -90,9 +90,9 @@ impl Port for CorePort<'_> {
 
     ghost room = { λ p. 16 - max (array_vec_len p.stores.now) (noted_count p.written.now) };
 
-    ghost Lent = { ℕ × ℕ × ℕ × ℕ × Option Memory × Bool };
+    ghost Lent = { ℕ × ℕ × ℕ × ℕ × Option Memory × ℕ };
 
-    ghost lent = { λ p. (p.exceptions.ghost_name, p.bus.ghost_name, p.stores.ghost_name, p.written.ghost_name, before_stores p.written.now p.bus.now.memory, nat_le (noted_count p.written.now) 16) };
+    ghost lent = { λ p. (p.exceptions.ghost_name, p.bus.ghost_name, p.stores.ghost_name, p.written.ghost_name, before_stores p.written.now p.bus.now.memory, noted_count p.written.now - 16) };
 
     #[tactic(auto, using(crate::proofs::Private::private_aligned), unfolding(tz_state::specs::Access::access))]
     fn load(&mut self, addr: u32, size: Size, must_align: bool, user: bool) -> Result<u32, Fault> {
