@@ -20,6 +20,19 @@ pub record NoteValue : Type 0 where
   pub monitor : Option Exclusive
   pub written : List Was
 
+-- the note of a state, with what stores overwrote since
+abbrev pub note_of : State → List Was → NoteValue
+note_of s ws =
+    record {
+      core = s.core;
+      exceptions = s.exceptions;
+      sau = s.bus.sau;
+      mpu_s = s.bus.mpu_s;
+      mpu_ns = s.bus.mpu_ns;
+      monitor = s.bus.monitor;
+      written = ws;
+    }
+
 -- what is noted of stores
 abbrev pub stores_noted : Option (ArrayVec Was) → List Was
 stores_noted None = []

@@ -6,7 +6,7 @@ ghost use Rattle.tz_sem.specs.Step.{step};
 ghost use Rattle.tz_twin.specs.Integrity.{LeavesSecure, EntersSecure};
 ghost use Rattle.tz_twin.specs.Ways.{TellsWay};
 ghost use Rattle.tz_access.specs.Written.{before_stores, noted_count};
-ghost use Rattle.tz_core.specs.Undo.{undo_of};
+ghost use Rattle.tz_core.specs.Undo.{note_of, undo_of};
 
 use crate::running::Machine;
 use arrayvec::ArrayVec;
@@ -73,6 +73,15 @@ impl Note {
 }
 
 impl Machine {
+    /// Notes the state but for memory. What is noted of stores stays.
+    fn note_state(&self, note: &mut Note)
+        ensures { note.new ≡ note_of self.now note.old.written }
+    {
+        note.core = self.core;
+        note.exceptions.copy_from(&self.exceptions);
+        self.bus.note_units(&mut note.units);
+    }
+
     /// Makes one step as `step` does, and notes what takes it back. It takes no memory.
     pub fn step_noted(&mut self, due: &[ScriptEvent], note: &mut Note) -> Report
         ensures steps { step self.old due.now ≡ record { state = self.new; report = result } }
@@ -81,9 +90,7 @@ impl Machine {
         ensures tells_way { TellsWay (record { state = self.new; report = result }) }
         ensures note { undo_of note.new self.new ≡ self.old }
     {
-        note.core = self.core;
-        note.exceptions.copy_from(&self.exceptions);
-        self.bus.note_units(&mut note.units);
+        self.note_state(note);
         begin(&mut note.written);
         let mut report = Report::new();
         let mut noted = None;
