@@ -60,7 +60,7 @@ pub newest : {A : Type 0} (places : List A) (n : ℕ) (d : A) → n < length pla
 newest places n d h =
     let p = place_before (length places) n in
     let x = get_or places p d in
-    sym (ap (λ l. from_newest l n) (set-get_or places p d) )
+    sym (ap (λ l. from_newest l n) (set-get_or places p d))
     ∙ ap (λ m. from_newest (set places p x) m) (sym (after_before (length places) n h))
     ∙ newer places p x (before_fits (length places) n h)
 
