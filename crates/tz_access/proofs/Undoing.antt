@@ -17,7 +17,7 @@ use Rattle.tz_access.specs.Written.{put_back, undone}
 -- ---- a byte
 
 -- the byte of a map after a replacement
-replaced : Option ℕ → ℕ → Option ℕ
+abbrev replaced : Option ℕ → ℕ → Option ℕ
 replaced None v = None
 replaced (Some x) v = Some v
 
@@ -46,7 +46,7 @@ byte_over : (m : Memory) (a x y : ℕ) → with_byte (with_byte m a x) a y ≡ w
 byte_over m a x y = same_bytes _ _ (λ q.
     get-with_byte (with_byte m a x) a y q
     ∙ ap (λ o. cond (eq_by_cmp nat_cmp q a) (replaced o y) (get (with_byte m a x) q)) (here (get m a))
-    ∙ either (eq_by_cmp nat_cmp q a) (get-with_byte m a x q)
+    ∙ either q (eq_by_cmp nat_cmp q a) (get-with_byte m a x q)
     ∙ sym (get-with_byte m a y q)) where
       twice : (o : Option ℕ) → replaced (replaced o x) y ≡ replaced o y
       twice None = refl
@@ -55,10 +55,10 @@ byte_over m a x y = same_bytes _ _ (λ q.
       here : (o : Option ℕ) → get (with_byte m a x) a ≡ replaced (get m a) x
       here o = get-with_byte m a x a ∙ ap (λ t. cond t (replaced (get m a) x) (get m a)) (tied a a refl)
 
-      either : {q : ℕ} (t : Bool) → get (with_byte m a x) q ≡ cond t (replaced (get m a) x) (get m q)
+      either : (q : ℕ) (t : Bool) → get (with_byte m a x) q ≡ cond t (replaced (get m a) x) (get m q)
           → cond t (replaced (replaced (get m a) x) y) (get (with_byte m a x) q) ≡ cond t (replaced (get m a) y) (get m q)
-      either true e = twice (get m a)
-      either false e = e
+      either q true e = twice (get m a)
+      either q false e = e
 
 -- bytes at two addresses are written in either order
 byte_swap : (m : Memory) (a b x y : ℕ) → a ≢ b → with_byte (with_byte m a x) b y ≡ with_byte (with_byte m b y) a x
@@ -181,6 +181,9 @@ unfolding undone
 undone_take [] j w m l is = absurd (omega arith)
 undone_take (x ∷ ws) zero w m l is = ap (λ y. put_back y m) (sym is)
 undone_take (x ∷ ws) (suc j) w m l is = ap (put_back x) (undone_take ws j w m (omega arith) is)
+
+pub undone_next : (ws : List Was) (j : ℕ) (w : Was) (m : Memory) → j < length ws → w ≡ get_or ws j w → undone (take (j + 1) ws) m ≡ undone (take j ws) (put_back w m)
+undone_next ws j w m l is = let one : j + 1 ≡ suc j = omega arith in ap (λ n. undone (take n ws) m) one ∙ undone_take ws j w m l is
 
 pub undone_none : (ws : List Was) (m : Memory) → undone (take 0 ws) m ≡ m
 unfolding undone

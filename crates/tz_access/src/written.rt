@@ -1,6 +1,6 @@
 //! What stores overwrote: it is noted, where that is wanted, and put back.
 
-ghost use Rattle.std.specs.Prelude.{◌≡◌, ◌+◌, ◌<◌, ◌≤◌, ◌^◌, true, false, take, Some, OnOk, OnErr};
+ghost use Rattle.std.specs.Prelude.{◌≡◌, ◌+◌, ◌<◌, ◌≤◌, ◌^◌, true, false, take, slice_index_or, Some, OnOk, OnErr};
 ghost use Rattle.arrayvec.specs.ArrayVec.{array_vec_len};
 ghost use Rattle.tz_model.specs.Words.{wrap};
 ghost use Rattle.tz_state.specs.Access.{is_writable};
@@ -33,6 +33,14 @@ impl Default for Was {
 
 /// What the stores of a step overwrote, the newest last: those of its instruction, and those of frames.
 pub type Written = ArrayVec<Was, 40>;
+
+/// What the store of a number overwrote.
+fn was_at(written: &Written, index: usize) -> Was
+    requires { index < array_vec_len written.now }
+    ensures { result ≡ slice_index_or written.now.items index result }
+{
+    written[index]
+}
 
 impl Bus {
     /// What stands at the four addresses from one on are bytes.
@@ -111,12 +119,13 @@ impl Bus {
     }
 
     /// Puts back what the store of a number overwrote, where those behind it are put back.
-    #[tactic(auto, using(crate::proofs::Undoing::undone_take))]
+    #[tactic(auto, using(crate::proofs::Undoing::undone_next))]
     fn undo_one(&mut self, written: &Written, index: usize)
         requires { index < array_vec_len written.now }
         ensures { with_memory self.new (undone (take index written.now.items) self.new.memory) ≡ with_memory self.old (undone (take (index + 1) written.now.items) self.old.memory) }
     {
-        self.put_back(&written[index]);
+        let was = was_at(written, index);
+        self.put_back(&was);
     }
 
     /// Puts back what stores overwrote, the newest first. Memory is then as it was before these stores, if it is as

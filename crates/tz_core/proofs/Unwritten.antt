@@ -1,5 +1,5 @@
 -- What leaves memory as it was: reads and writes of system registers, and system instructions.
-use Rattle.std.proofs.Common.{◌≡◌, ℕ, ℤ, ◌%◌, Bool, true, false, Option, Some, None, refl, ap}
+use Rattle.std.proofs.Common.{◌≡◌, ℕ, ◌%◌, Bool, true, false, cond, Option, Some, None, refl, ap}
 use Rattle.tz_table.specs.declared.units.Side.{Side}
 use Rattle.tz_table.specs.declared.units.Side.TheVariants.{Secure, NonSecure}
 use Rattle.tz_table.specs.declared.units.Size.{Size}
@@ -63,7 +63,7 @@ write_kept side s a size value = found_kept s (found_at side a) (a % 4) size val
 -- ---- a system instruction
 
 pub cleared_kept : (i : Insn) (b : Bus) → (cleared_by i b).memory ≡ b.memory
-cleared_kept i b = elim (clears_monitor i) as (λ t. Bus.memory (cond t (with_monitor b None) b) ≡ b.memory) [
-  | true ↦ refl
-  | false ↦ refl
-]
+cleared_kept i b = by (clears_monitor i) where
+  by : (t : Bool) → (cond t (with_monitor b None) b).memory ≡ b.memory
+  by true = refl
+  by false = refl
