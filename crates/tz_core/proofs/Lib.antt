@@ -2,6 +2,7 @@ mod Alone
 mod Blank
 mod Indexed
 mod Named
+mod Noting
 mod Order
 mod Private
 mod Reading

@@ -481,7 +481,7 @@ impl Machine {
     }
 
     /// Makes one step with its report, and tells how it ended.
-    fn report_step(
+    pub(crate) fn report_step(
         &mut self,
         due: &[ScriptEvent],
         report: &mut Report,
