@@ -210,11 +210,11 @@ module _ {A : Type 0} (c : Call) (command : Command) (steps : ℕ) (files : Sett
 
 module _ {A : Type 0} (c : Call) (command : Command) (back : ℕ) (files : Settled A) (next : A → Told Task) (comes : Comes c command (within_back back files) next) where
   -- within it
-  pub near : back ≤ back_limit → Comes c command files next
+  near : back ≤ back_limit → Comes c command files next
   near l = record { is = comes.is; room = comes.room; settles = comes.settles ∙ ap (settling next) (back_kept back files l) }
 
   -- past it nothing is read
-  pub answer_back : (result : ℕ) → back_limit < back → Gains c.out.old c.out.new [] → IsRefused c result (codes "limit back\n") 6 → Answer c result
+  answer_back : (result : ℕ) → back_limit < back → Gains c.out.old c.out.new [] → IsRefused c result (codes "limit back\n") 6 → Answer c result
   answer_back result l quiet h =
       let room = comes.room in
       let stops : AllowsStop (told c.shelf.held (Some command)) TooManyBack =
@@ -295,9 +295,27 @@ state_read held w start allowed =
 abbrev pub back_next : BackWords → Start → Told Task
 back_next w start = Gives (back_task w start)
 
-pub back_comes : (c : Call) (w : BackWords) → c.command ≡ Some (Back w) → c.room ≡ 64 + longest (names_of (Back w))
+back_comes : (c : Call) (w : BackWords) → c.command ≡ Some (Back w) → c.room ≡ 64 + longest (names_of (Back w))
     → Comes c (Back w) (within_limit w.start.steps (within_back w.back (start_files c.shelf.held w.start))) (back_next w)
 back_comes c w is room = record { is = is; room = room; settles = refl }
+
+-- past a limit
+pub back_steps : (c : Call) (w : BackWords) → c.command ≡ Some (Back w) → c.room ≡ 64 + longest (names_of (Back w)) → (result : ℕ) → step_limit < w.start.steps
+    → Gains c.out.old c.out.new [] → IsRefused c result (codes "limit steps\n") 6 → Answer c result
+back_steps c w is room result l quiet h = answer_steps c (Back w) w.start.steps _ (back_next w) (back_comes c w is room) result l quiet h
+
+pub back_far : (c : Call) (w : BackWords) → c.command ≡ Some (Back w) → c.room ≡ 64 + longest (names_of (Back w)) → w.start.steps ≤ step_limit → (result : ℕ) → back_limit < w.back
+    → Gains c.out.old c.out.new [] → IsRefused c result (codes "limit back\n") 6 → Answer c result
+back_far c w is room few result l quiet h =
+    answer_back c (Back w) w.back (start_files c.shelf.held w.start) (back_next w)
+    (within c (Back w) w.start.steps (within_back w.back (start_files c.shelf.held w.start)) (back_next w) (back_comes c w is room) few) result l quiet h
+
+-- within both
+pub back_within : (c : Call) (w : BackWords) → c.command ≡ Some (Back w) → c.room ≡ 64 + longest (names_of (Back w)) → w.start.steps ≤ step_limit → w.back ≤ back_limit
+    → Comes c (Back w) (start_files c.shelf.held w.start) (back_next w)
+back_within c w is room few l =
+    near c (Back w) w.back (start_files c.shelf.held w.start) (back_next w)
+    (within c (Back w) w.start.steps (within_back w.back (start_files c.shelf.held w.start)) (back_next w) (back_comes c w is room) few) l
 
 -- ---- a job that is made from a number
 

@@ -103,14 +103,8 @@ fn back_started<O: Sink>(
     ensures quiet { IfErr result (λ _. Gains (O.written out.old) (O.written out.new) []) }
 {
     let steps = words.start.steps;
-    let machine = match Machine::new(alloc, &files.board, &files.secure, &files.nonsecure) {
-        Ok(machine) => machine,
-        Err(error) => return Err(error),
-    };
-    let mut before = match gone_back(alloc, machine, &files.board, &files.script, steps, words.back) {
-        Ok(before) => before,
-        Err(error) => return Err(error),
-    };
+    let machine = Machine::new(alloc, &files.board, &files.secure, &files.nonsecure)?;
+    let mut before = gone_back(alloc, machine, &files.board, &files.script, steps, words.back)?;
     Ok(put_status(run_from(
         &mut before,
         &files.script,
