@@ -124,7 +124,7 @@ resume_in (Some view) (a ∷ b ∷ c ∷ d ∷ []) w e =
 
 -- so are those of a run that goes back, no further than its begin
 pub record GoesBack (names : List Text) (w : BackWords) : Type 0 where
-  pub names : back_names w ≡ names
+  pub are : back_names w ≡ names
   pub near : w.back ≤ w.start.steps
 
 back_made : (view : View) (start : StartWords) (back : ℕ) (w : BackWords) → back_of view start back ≡ Some w → GoesBack (start_names start) w
@@ -135,7 +135,7 @@ back_made view start back w e = by_test (nat_lt start.steps back) refl e
     by_test false is e =
         let same : ◌≡◌ {A = BackWords} (record { start = start; back = back; view = view }) w = cc in
         let near : back ≤ start.steps = grind (arith, nat_tests) in
-        subst (λ (x : BackWords). GoesBack (start_names start) x) same (record { names = refl; near = near })
+        subst (λ (x : BackWords). GoesBack (start_names start) x) same (record { are = refl; near = near })
 
 back_counted : (view : View) (start : ℕ → StartWords) (names : List Text) (steps back : Option ℕ) (w : BackWords) → ((n : ℕ) → start_names (start n) ≡ names)
     → option_and_then (λ n. option_and_then (back_of view (start n)) back) steps ≡ Some w → GoesBack names w
@@ -159,7 +159,7 @@ back_in (Some view) (a ∷ b ∷ c ∷ d ∷ f ∷ g ∷ x ∷ more) w e = absur
 back_in (Some view) (a ∷ b ∷ c ∷ d ∷ f ∷ g ∷ []) w e =
     let goes = back_counted view (λ n. record { board = a; secure = b; nonsecure = c; script = d; steps = n }) (a ∷ b ∷ c ∷ d ∷ []) (count_of f) (count_of g) w (λ n. refl) e in
     record {
-      within = subst (λ (names : List Text). longest names ≤ longest (a ∷ b ∷ c ∷ d ∷ f ∷ g ∷ [])) (sym goes.names) (omega arith);
+      within = subst (λ (names : List Text). longest names ≤ longest (a ∷ b ∷ c ∷ d ∷ f ∷ g ∷ [])) (sym goes.are) (omega arith);
       near = goes.near;
     }
 
