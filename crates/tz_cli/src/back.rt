@@ -104,7 +104,14 @@ fn back_started<O: Sink>(
 {
     let steps = words.start.steps;
     let machine = Machine::new(alloc, &files.board, &files.secure, &files.nonsecure)?;
-    let mut before = gone_back(alloc, machine, &files.board, &files.script, steps, words.back)?;
+    let mut before = gone_back(
+        alloc,
+        machine,
+        &files.board,
+        &files.script,
+        steps,
+        words.back,
+    )?;
     Ok(put_status(run_from(
         &mut before,
         &files.script,

@@ -34,6 +34,6 @@ pub use process::run_process;
 pub use program::top;
 pub use shelf::{FileShelf, read_to_limit};
 pub use words::{
-    AsmWords, BackWords, Command, DisWords, Form, GenWords, PairWords, ResumeWords, SavedWords, StartWords,
-    Work, command_words,
+    AsmWords, BackWords, Command, DisWords, Form, GenWords, PairWords, ResumeWords, SavedWords,
+    StartWords, Work, command_words,
 };
