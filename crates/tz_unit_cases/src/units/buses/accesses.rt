@@ -50,7 +50,8 @@ pub fn step(bus: &mut Bus, step: &AccessStep, asked: &Asked, case: &mut Case<'_>
     match (step, asked.count) {
         (AccessStep::Check, 1) => tell_place(case, &checked(bus, asked)),
         (AccessStep::Store, 2) => {
-            let answer = bus.store(&asker, asked.size, addr, value, aligned, user);
+            let mut written = None;
+            let answer = bus.store(&asker, asked.size, addr, value, aligned, user, &mut written);
             tell_place(case, &answer)
         }
         (AccessStep::Load, 1) => match bus.load(&asker, asked.size, addr, aligned, user) {
