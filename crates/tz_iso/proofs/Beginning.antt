@@ -76,9 +76,10 @@ pends_alike e f alike =
     by_either (is_still e && is_still f) (is_same_timers e f) alike
     (λ still.
     let first = and_first _ _ still in
-    let second = and_second _ _ still in
-    (still_pends e.timer_s (and_first _ _ first) ∙ sym (still_pends f.timer_s (and_first _ _ second)),
-    still_pends e.timer_ns (and_second _ _ first) ∙ sym (still_pends f.timer_ns (and_second _ _ second))))
+    let second = and_second _ _ still in (
+      still_pends e.timer_s (and_first _ _ first) ∙ sym (still_pends f.timer_s (and_first _ _ second)),
+      still_pends e.timer_ns (and_second _ _ first) ∙ sym (still_pends f.timer_ns (and_second _ _ second)),
+    ))
     (λ alike.
     (ap pends (same.same_timer e.timer_s f.timer_s (and_first _ _ alike)), ap pends (same.same_timer e.timer_ns f.timer_ns (and_second _ _ alike))))
 

@@ -50,7 +50,7 @@ pub returns-clause-what : goal.returns-clause-what
 returns-clause-what c =
     c.what_by.ensures
     ∙ what_stepped c.args.first.now c.args.second.now c.args.due.now _ _ _ _ c.step_way-passage.ensures.steps c.step_way-passage.ensures.way
-      c.step_way-other.ensures.steps c.step_way-other.ensures.way
+    c.step_way-other.ensures.steps c.step_way-other.ensures.way
 
 pub returns-clause-exact : goal.returns-clause-exact
 returns-clause-exact c = exact_stepped c.args.first.now c.args.second.now c.args.due.now _ c.requires.linked (returns-clause-what c)

@@ -1,4 +1,4 @@
-use Rattle.std.proofs.Common.{◌≡◌, ◌∙◌, ◌<◌, ◌≤◌, ℕ, ap, arith, get_or, length, subst, sym}
+use Rattle.std.proofs.Common.{◌≡◌, ◌∙◌, ◌<◌, ℕ, ap, arith, get_or, length, subst, sym}
 use Rattle.std.proofs.lemmas.Bool.{leb-true}
 use Rattle.tz_board.specs.Scripts.{due_at}
 use Rattle.tz_board.specs.Script.{all_timed}
@@ -29,8 +29,7 @@ returns-clause-due g c below =
     let within : c.count_up_to-place.result < length c.self.inside.moments.items = omega (arith, c.count_up_to-place.ensures.within, c.deref.ensures.len, c.if-place-len.false, c.len.ensures) in
     let step_is : c.index.result.now.step ≡ (get_or c.self.inside.moments.items c.count_up_to-place.result c.index.result.now).step = ap (λ (m : Moment). m.step) c.index.ensures in
     let here = steps_of-at c.self.inside.moments.items c.count_up_to-place.result c.index.result.now within in
-    let high = c.count_up_to-place.ensures.after c.count_up_to-place.result (omega arith) (omega (arith, within, c.deref.ensures.len)) in
-    (
+    let high = c.count_up_to-place.ensures.after c.count_up_to-place.result (omega arith) (omega (arith, within, c.deref.ensures.len)) in (
       omega (arith, step_is, here, rw c.deref.ensures.value at high),
       λ none. due_there c.self.inside.moments.items c.count_up_to-place.result c.index.result.now c.self.invariant.0.ascending c.self.invariant.0.some_events within
           (ap (λ (s : ℕ). due_at s (all_timed c.self.inside.moments.items)) (sym step_is) ∙ ap (due_at c.index.result.now.step) c.self.view_is ∙ none),
