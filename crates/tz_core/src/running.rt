@@ -504,7 +504,9 @@ impl Machine {
     }
 
     /// Makes one step at which these events are due, and tells of it the way out of Secure state, and whether it was
-    /// exceptional. In `stores` are then those of its instruction, with those before a fault.
+    /// exceptional. In `stores` are then those of its instruction, with those before a fault. It is always inlined, since a
+    /// pair calls it twice a step, and the call would cost some 30 instructions.
+    #[inline(always)]
     pub fn step_way(&mut self, due: &[ScriptEvent], stores: &mut Stores) -> Passage
         ensures steps { self.new ≡ (step self.old due.now).state }
         ensures way { result.way ≡ (step self.old due.now).report.way }
