@@ -27,7 +27,7 @@ use Rattle.tz_access.specs.Checks.{IsByBlocks, last_of}
 
 -- ---- an access
 
-and_self : (p : Bool) → p ≡ (p && p)
+pub and_self : (p : Bool) → p ≡ (p && p)
 and_self true = refl
 and_self false = refl
 

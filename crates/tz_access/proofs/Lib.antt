@@ -1,2 +1,4 @@
 pub mod Blocks
+pub mod KeptBlocks
 pub mod OpenBytes
+pub mod Places

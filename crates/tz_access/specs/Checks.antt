@@ -1,11 +1,12 @@
 -- The checks of an access but for the map, which memory itself asks, and blocks of 32 bytes.
-use Rattle.std.specs.Prelude.{◌≡◌, ℕ, ◌+◌, ◌/◌, Bool, true, false, not, if◌then◌else◌, Option, Some, None}
+use Rattle.std.specs.Prelude.{◌≡◌, ℕ, ◌+◌, ◌/◌, ◌==◌, Bool, true, false, not, ◌&&◌, nat_lt, if◌then◌else◌, Option, Some, None}
 use Rattle.tz_table.specs.declared.units.Side.{Side}
 use Rattle.tz_table.specs.declared.units.Side.TheVariants as sides
 use Rattle.tz_table.specs.declared.units.Size.{Size}
 use Rattle.tz_table.specs.declared.units.Size.TheVariants.{Byte, Half, Word}
 use Rattle.tz_model.specs.declared.board.RegionSide.{RegionSide}
 use Rattle.tz_model.specs.Board.{is_nonsecure}
+use Rattle.tz_model.specs.AddressMap.{private_first}
 use Rattle.tz_model.specs.Words.{wrap}
 use Rattle.tz_model.specs.declared.report.Fault.{Fault}
 use Rattle.tz_model.specs.declared.report.Fault.TheVariants.{Precise}
@@ -44,3 +45,7 @@ last_of Word a = wrap (a + 3)
 abbrev pub is_own : Side → RegionSide → Bool
 is_own sides.Secure attributed = not (is_nonsecure attributed)
 is_own sides.NonSecure attributed = is_nonsecure attributed
+
+-- the bytes from an address to another, a few bytes after it, lie in one block below private space
+abbrev pub is_in_block : ℕ → ℕ → Bool
+is_in_block a last = nat_lt a private_first && (a / 32 == last / 32)

@@ -8,6 +8,7 @@ ghost use Rattle.tz_state.specs.State.{map_in, mpu_of, with_memory};
 ghost use Rattle.tz_state.specs.UnitRegisters.{reset_bus};
 ghost use Rattle.tz_state.specs.Zeros.{zero_memory};
 
+use crate::kept::LookUps;
 use std::alloc::{AllocError, Global};
 use std::marker::Model;
 use tz_mem::{Memory, NotMapped, Refused};
@@ -25,6 +26,8 @@ pub struct Bus {
     pub(crate) mpu_s: Mpu,
     pub(crate) mpu_ns: Mpu,
     pub(crate) monitor: Option<Exclusive>,
+    /// What the units said of blocks, which they say still.
+    pub(crate) lookups: LookUps,
 }
 
 impl Model for Bus {
@@ -34,6 +37,7 @@ impl Model for Bus {
     ghost use Rattle.std.specs.Ordering.{nat_cmp};
     ghost use Rattle.tz_model.specs.Board.{IsBoard};
     ghost use Rattle.tz_state.specs.State as state;
+    ghost use Rattle.tz_access.specs.LookUps.{AllRight, units_by};
 
     ghost Value = { state.Bus };
 
@@ -52,7 +56,8 @@ impl Model for Bus {
         (b.memory.regions ≡ b.board.regions)
         × (b.sau.regions ≡ b.board.regions)
         × (b.mpu_s.profile ≡ b.board.profile)
-        × (b.mpu_ns.profile ≡ b.board.profile) };
+        × (b.mpu_ns.profile ≡ b.board.profile)
+        × AllRight (units_by b.sau b.mpu_s b.mpu_ns) b.lookups };
 }
 
 impl Bus {
@@ -72,6 +77,7 @@ impl Bus {
             mpu_s: Mpu::new(board.mpu_secure, board.profile),
             mpu_ns: Mpu::new(board.mpu_nonsecure, board.profile),
             monitor: None,
+            lookups: LookUps::new(),
             board: copy,
         })
     }

@@ -1,18 +1,22 @@
 //! Data accesses: alignment, attribution, protection, the map, in this order.
 
-ghost use Rattle.std.specs.Prelude.{◌≡◌, MatchResult, None, Some, if◌then◌else◌};
+ghost use Rattle.std.specs.Prelude.{◌≡◌, true, false, MatchResult, None, Some, if◌then◌else◌};
 ghost use Rattle.tz_state.specs.declared.request.Kind.TheVariants.{Read, Write};
 ghost use Rattle.tz_state.specs.Memory.{every, value_at, with_value};
 ghost use Rattle.tz_state.specs.State.{map_in, with_memory};
 ghost use Rattle.tz_state.specs.Access.{is_aligned, is_crooked, may_touch, is_let, lets, is_accessible, is_private, verdict, request_by};
-ghost use Rattle.tz_access.specs.Checks.{is_system, place_verdict};
+ghost use Rattle.tz_access.specs.declared.place.Place.TheVariants.{Memory};
+ghost use Rattle.tz_access.specs.Checks.{is_system, place_verdict, is_in_block, last_of};
+ghost use Rattle.tz_access.specs.LookUps.{asked_by, asked_at, touches, block_verdict};
+ghost use Rattle.tz_table.specs.declared.units.Size.TheVariants.{Word};
 
 use crate::bus::Bus;
+use crate::kept::{Asked, Told};
 use crate::place::Place;
-use crate::span::{is_one_block, last_of};
+use crate::span::{is_in_block, is_one_block, last_of};
 use crate::units::is_private;
 use tz_model::address_map::PRIVATE_FIRST;
-use tz_model::{Fault, Side, Size};
+use tz_model::{Fault, RegionSide, Side, Size};
 use tz_state::{Asker, Kind, Request};
 
 /// Whether an address is a multiple of a size.
@@ -55,6 +59,57 @@ fn request_by(
     }
 }
 
+/// The look-up of an access.
+fn asked_by(request: &Request) -> Asked
+    ensures { result ≡ asked_by request.now }
+{
+    Asked {
+        block: request.addr / 32,
+        fetch: false,
+        side: request.side,
+        privileged: request.privileged,
+        negative: request.negative,
+    }
+}
+
+/// The look-up of a word of the code that asks.
+fn asked_at(asker: &Asker, addr: u32) -> Asked
+    ensures { result ≡ asked_at asker.now addr }
+{
+    Asked {
+        block: addr / 32,
+        fetch: false,
+        side: asker.side,
+        privileged: asker.privileged,
+        negative: asker.negative,
+    }
+}
+
+/// Whether attribution lets code of a side access memory.
+fn touches(side: Side, attribute: RegionSide) -> bool
+    ensures { result ≡ touches side attribute }
+{
+    match side {
+        Side::Secure => true,
+        Side::NonSecure => attribute == RegionSide::NonSecure,
+    }
+}
+
+/// The checks of an access by what is told of its block: attribution, protection.
+fn block_verdict(told: &Told, request: &Request) -> Result<Place, Fault>
+    ensures { MatchResult result
+        (λ place. (block_verdict told.now request.now ≡ None) × (place ≡ Memory))
+        (λ fault. block_verdict told.now request.now ≡ Some fault) }
+{
+    if !touches(request.side, told.attribute) {
+        return Err(Fault::Violation(request.addr));
+    }
+    if !told.permits(request.kind) {
+        return Err(Fault::DataAccess(request.addr, request.side));
+    }
+    Ok(Place::Memory)
+}
+
 impl Bus {
     /// Whether attribution lets code of a side access each byte.
     #[tactic(auto, unfolding(tz_state::specs::Access::may_touch))]
@@ -67,6 +122,20 @@ impl Bus {
                 let last = last_of(size, addr);
                 self.is_open(addr) && (is_one_block(addr, last) || self.is_open(last))
             }
+        }
+    }
+
+    /// Whether attribution lets the code that asks read each byte of a word.
+    pub(crate) fn may_read_word(&mut self, asker: &Asker, addr: u32) -> bool
+        ensures may { result ≡ may_touch (map_in self.old) asker.now.side Word addr }
+        ensures kept { self.new ≡ self.old }
+    {
+        if is_in_block(addr, last_of(Size::Word, addr)) {
+            self.know_regions();
+            let told = self.data_told(&asked_at(asker, addr));
+            touches(asker.side, told.attribute)
+        } else {
+            self.may_touch(asker.side, Size::Word, addr)
         }
     }
 
@@ -89,17 +158,15 @@ impl Bus {
             && (is_one_block(addr, last) || self.is_accessible(kind, last))
     }
 
-    /// All checks of an access but the map's.
+    /// All checks of an access that is aligned but the map's, byte by byte.
     #[tactic(auto, unfolding(tz_state::specs::Access::verdict))]
-    fn guard(&self, request: &Request) -> Result<Place, Fault>
+    fn guard_bytes(&self, request: &Request) -> Result<Place, Fault>
+        requires { is_crooked request.now.size request.now.addr request.now.must_align ≡ false }
         ensures { MatchResult result
             (λ place. (verdict self.now request.now ≡ place_verdict place self.now request.now) × (is_system place ≡ is_private request.now.addr))
             (λ fault. verdict self.now request.now ≡ Some fault) }
     {
         let addr = request.addr;
-        if is_crooked(request.size, addr, request.must_align) {
-            return Err(Fault::Unaligned);
-        }
         if !self.may_touch(request.side, request.size, addr) {
             return Err(Fault::Violation(addr));
         }
@@ -113,6 +180,38 @@ impl Bus {
             return Ok(Place::System);
         }
         Err(Fault::Precise(addr))
+    }
+
+    /// The same of an access whose bytes lie in one block below private space, by what is told of the block.
+    fn guard_block(&mut self, request: &Request) -> Result<Place, Fault>
+        requires aligned { is_crooked request.now.size request.now.addr request.now.must_align ≡ false }
+        requires block { is_in_block request.now.addr (last_of request.now.size request.now.addr) ≡ true }
+        ensures verdict { MatchResult result
+            (λ place. (verdict self.old request.now ≡ place_verdict place self.old request.now) × (is_system place ≡ is_private request.now.addr))
+            (λ fault. verdict self.old request.now ≡ Some fault) }
+        ensures kept { self.new ≡ self.old }
+    {
+        self.know_regions();
+        let told = self.data_told(&asked_by(request));
+        block_verdict(&told, request)
+    }
+
+    /// All checks of an access but the map's.
+    #[tactic(auto, unfolding(tz_state::specs::Access::verdict))]
+    fn guard(&mut self, request: &Request) -> Result<Place, Fault>
+        ensures verdict { MatchResult result
+            (λ place. (verdict self.old request.now ≡ place_verdict place self.old request.now) × (is_system place ≡ is_private request.now.addr))
+            (λ fault. verdict self.old request.now ≡ Some fault) }
+        ensures kept { self.new ≡ self.old }
+    {
+        let addr = request.addr;
+        if is_crooked(request.size, addr, request.must_align) {
+            return Err(Fault::Unaligned);
+        }
+        if is_in_block(addr, last_of(request.size, addr)) {
+            return self.guard_block(request);
+        }
+        self.guard_bytes(request)
     }
 
     /// All checks of an access (DDI0553, `MemA`, `MemU`), in their order: alignment, attribution, protection,
@@ -145,16 +244,17 @@ impl Bus {
     ///
     /// UNALIGNED, AUVIOL, DACCVIOL or PRECISERR, the first check that fails.
     pub fn load(
-        &self,
+        &mut self,
         asker: &Asker,
         size: Size,
         addr: u32,
         must_align: bool,
         user: bool,
     ) -> Result<Option<u32>, Fault>
-        ensures { MatchResult result
-            (λ found. (verdict self.now (request_by asker.now Read size addr must_align user) ≡ None) × (found ≡ (if is_private addr then None else Some (value_at self.now.memory size addr))))
-            (λ fault. verdict self.now (request_by asker.now Read size addr must_align user) ≡ Some fault) }
+        ensures found { MatchResult result
+            (λ found. (verdict self.old (request_by asker.now Read size addr must_align user) ≡ None) × (found ≡ (if is_private addr then None else Some (value_at self.old.memory size addr))))
+            (λ fault. verdict self.old (request_by asker.now Read size addr must_align user) ≡ Some fault) }
+        ensures kept { self.new ≡ self.old }
     {
         let request = request_by(asker, Kind::Read, size, addr, must_align, user);
         match self.guard(&request)? {

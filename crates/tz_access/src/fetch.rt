@@ -1,20 +1,22 @@
 //! Fetches (DDI0553, `FetchInstr`).
 
-ghost use Rattle.std.specs.Prelude.{◌≡◌, ◌+◌, true, MatchOption, MatchResult, None, Some};
+ghost use Rattle.std.specs.Prelude.{◌≡◌, ◌+◌, true, false, MatchOption, MatchResult, None, Some};
 ghost use Rattle.tz_table.specs.declared.units.Side.TheVariants.{Secure, NonSecure};
 ghost use Rattle.tz_model.specs.Words.{wrap};
 ghost use Rattle.tz_state.specs.Attribution.{fetch_attribution};
 ghost use Rattle.tz_state.specs.Fetch.{is_own_byte, is_own_fetch, is_runnable, wrong_side, lets_run, own_fetch, is_entry as is_entry_at, gateway_fetch, is_entry_fault, fetch, needs_second, narrow, wide};
 ghost use Rattle.tz_state.specs.State.{map_in};
-ghost use Rattle.tz_access.specs.Checks.{IsByBlocks, is_own};
+ghost use Rattle.tz_access.specs.Checks.{IsByBlocks, is_own, is_in_block};
+ghost use Rattle.tz_access.specs.LookUps.{asked_by_fetch};
 
 use crate::bus::Bus;
-use crate::span::is_one_block;
+use crate::kept::Asked;
+use crate::span::{is_in_block, is_one_block};
 use tz_model::{Code, Fault, FetchAnswer, Fetched, RegionSide, Side};
 use tz_state::Fetcher;
 
 /// Whether memory of this attribution is of a side.
-fn is_own(side: Side, attributed: RegionSide) -> bool
+pub(crate) fn is_own(side: Side, attributed: RegionSide) -> bool
     ensures { result ≡ is_own side attributed }
 {
     let nonsecure = attributed == RegionSide::NonSecure;
@@ -64,6 +66,19 @@ fn is_entry_fault(answer: &Result<Fetched, Fault>) -> bool
     ensures { result ≡ is_entry_fault answer.now }
 {
     matches!(answer, Err(Fault::EntryPoint))
+}
+
+/// The look-up of a halfword that is fetched.
+fn asked_by_fetch(fetcher: &Fetcher, pc: u32) -> Asked
+    ensures { result ≡ asked_by_fetch fetcher.now pc }
+{
+    Asked {
+        block: pc / 32,
+        fetch: true,
+        side: fetcher.side,
+        privileged: fetcher.privileged,
+        negative: fetcher.negative,
+    }
 }
 
 impl Bus {
@@ -136,10 +151,12 @@ impl Bus {
             || self.sau.fetch_attribution(Side::NonSecure, next) == RegionSide::Nsc
     }
 
-    /// The instruction at PC, where its first halfword is of the side that fetches it.
+    /// The instruction at PC, where its first halfword is of the side that fetches it. `runs` says whether the MPU lets
+    /// code run there.
     #[tactic(auto, unfolding(tz_state::specs::Fetch::own_fetch, tz_state::specs::Fetch::half_verdict))]
-    fn own_fetch(&self, fetcher: &Fetcher, pc: u32) -> Result<Fetched, Fault>
-        requires { is_own_fetch (map_in self.now) fetcher.now.side pc ≡ true }
+    fn own_fetch(&self, fetcher: &Fetcher, pc: u32, runs: bool) -> Result<Fetched, Fault>
+        requires own { is_own_fetch (map_in self.now) fetcher.now.side pc ≡ true }
+        requires runs { runs ≡ is_runnable self.now fetcher.now.side fetcher.now.privileged fetcher.now.negative pc }
         ensures { result ≡ own_fetch self.now fetcher.now pc }
     {
         let Fetcher {
@@ -148,7 +165,7 @@ impl Bus {
             negative,
             ..
         } = *fetcher;
-        if !self.is_runnable(side, privileged, negative, pc) {
+        if !runs {
             return Err(Fault::Exec(side));
         }
         let (first, second) = match self.memory.read_code(pc) {
@@ -197,7 +214,32 @@ impl Bus {
         }
     }
 
-    /// The instruction at PC for Non-secure code.
+    /// The instruction at PC, whose first halfword is of the side that fetches it, with whether the fetch met Secure
+    /// memory.
+    #[tactic(auto, unfolding(tz_state::specs::Fetch::fetch))]
+    fn own_answer(&self, fetcher: &Fetcher, pc: u32, runs: bool) -> FetchAnswer
+        requires own { is_own_fetch (map_in self.now) fetcher.now.side pc ≡ true }
+        requires runs { runs ≡ is_runnable self.now fetcher.now.side fetcher.now.privileged fetcher.now.negative pc }
+        ensures { result ≡ fetch self.now fetcher.now pc }
+    {
+        let answer = self.own_fetch(fetcher, pc, runs);
+        FetchAnswer {
+            touched: match fetcher.side {
+                Side::Secure => true,
+                Side::NonSecure => is_entry_fault(&answer),
+            },
+            answer,
+        }
+    }
+
+    /// Whether the MPU lets code that fetches run at a halfword; the units are asked of both bytes.
+    fn lets_fetch(&self, fetcher: &Fetcher, pc: u32) -> bool
+        ensures { result ≡ is_runnable self.now fetcher.now.side fetcher.now.privileged fetcher.now.negative pc }
+    {
+        self.is_runnable(fetcher.side, fetcher.privileged, fetcher.negative, pc)
+    }
+
+    /// The instruction at PC for Non-secure code; the units are asked.
     #[tactic(auto, unfolding(tz_state::specs::Fetch::fetch))]
     fn nonsecure_fetch(&self, fetcher: &Fetcher, pc: u32) -> FetchAnswer
         requires { fetcher.now.side ≡ NonSecure }
@@ -205,11 +247,7 @@ impl Bus {
     {
         let attributed = self.sau.fetch_attribution(Side::NonSecure, pc);
         if self.is_own_rest(Side::NonSecure, pc, attributed) {
-            let answer = self.own_fetch(fetcher, pc);
-            return FetchAnswer {
-                touched: is_entry_fault(&answer),
-                answer,
-            };
+            return self.own_answer(fetcher, pc, self.lets_fetch(fetcher, pc));
         }
         FetchAnswer {
             touched: true,
@@ -217,21 +255,49 @@ impl Bus {
         }
     }
 
-    /// The instruction at PC, or its fault, and whether the fetch met Secure memory.
+    /// The instruction at PC for Secure code; the units are asked.
     #[tactic(auto, unfolding(tz_state::specs::Fetch::fetch, tz_state::specs::Fetch::own_fetch, tz_state::specs::Fetch::half_verdict))]
-    pub fn fetch_told(&self, pc: u32, fetcher: &Fetcher) -> FetchAnswer
+    fn secure_fetch(&self, fetcher: &Fetcher, pc: u32) -> FetchAnswer
+        requires { fetcher.now.side ≡ Secure }
         ensures { result ≡ fetch self.now fetcher.now pc }
     {
+        if self.is_own_fetch(fetcher.side, pc) {
+            return self.own_answer(fetcher, pc, self.lets_fetch(fetcher, pc));
+        }
+        FetchAnswer {
+            touched: true,
+            answer: Err(Fault::Transition),
+        }
+    }
+
+    /// Whether the MPU lets code that fetches run at a halfword whose bytes lie in one block, by what is told of the
+    /// block; none where it isn't of the side.
+    fn runs_in_block(&mut self, fetcher: &Fetcher, pc: u32) -> Option<bool>
+        requires { is_in_block pc (wrap (pc + 1)) ≡ true }
+        ensures runs { MatchOption result (is_own_fetch (map_in self.old) fetcher.now.side pc ≡ false)
+            (λ runs. (is_own_fetch (map_in self.old) fetcher.now.side pc ≡ true) × (runs ≡ is_runnable self.old fetcher.now.side fetcher.now.privileged fetcher.now.negative pc)) }
+        ensures kept { self.new ≡ self.old }
+    {
+        self.know_regions();
+        match self.code_told(&asked_by_fetch(fetcher, pc)) {
+            None => None,
+            Some(told) => Some(told.execute),
+        }
+    }
+
+    /// The instruction at PC, or its fault, and whether the fetch met Secure memory.
+    pub fn fetch_told(&mut self, pc: u32, fetcher: &Fetcher) -> FetchAnswer
+        ensures answer { result ≡ fetch self.old fetcher.now pc }
+        ensures kept { self.new ≡ self.old }
+    {
+        if is_in_block(pc, pc.wrapping_add(1)) {
+            if let Some(runs) = self.runs_in_block(fetcher, pc) {
+                return self.own_answer(fetcher, pc, runs);
+            }
+        }
         match fetcher.side {
             Side::NonSecure => self.nonsecure_fetch(fetcher, pc),
-            Side::Secure => FetchAnswer {
-                touched: true,
-                answer: if self.is_own_fetch(Side::Secure, pc) {
-                    self.own_fetch(fetcher, pc)
-                } else {
-                    Err(Fault::Transition)
-                },
-            },
+            Side::Secure => self.secure_fetch(fetcher, pc),
         }
     }
 

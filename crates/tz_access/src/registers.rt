@@ -1,4 +1,5 @@
-//! The registers of the SAU and of the MPUs, by their names and by their addresses (DDI0553, chapter D1.2).
+//! The registers of the SAU and of the MPUs, by their names and by their addresses (DDI0553, chapter D1.2). A write of
+//! one empties all places of look-ups.
 
 ghost use Rattle.std.specs.Prelude.{◌≡◌};
 ghost use Rattle.tz_state.specs.State.{mpu_of, with_mpu};
@@ -30,6 +31,7 @@ impl Bus {
         ensures { self.new ≡ record self.old { sau = with_sau_value self.old.sau register value } }
     {
         self.sau.set(register, value);
+        self.lookups.clear();
     }
 
     /// The value of a register of the MPU of a side.
@@ -47,6 +49,7 @@ impl Bus {
             Side::Secure => self.mpu_s.set(register, value),
             Side::NonSecure => self.mpu_ns.set(register, value),
         }
+        self.lookups.clear();
     }
 
     /// The register of the SAU, or of the MPU of a side, at an address; one that isn't there reads zero.
@@ -73,5 +76,6 @@ impl Bus {
                 Side::NonSecure => self.mpu_ns.write(addr, value),
             }
         }
+        self.lookups.clear();
     }
 }

@@ -1,9 +1,10 @@
 //! The bytes of an access, and blocks of 32 bytes.
 
 ghost use Rattle.std.specs.Prelude.{◌≡◌, ◌/◌, ◌==◌};
-ghost use Rattle.tz_access.specs.Checks.{last_of};
+ghost use Rattle.tz_access.specs.Checks.{last_of, is_in_block};
 
 use tz_model::Size;
+use tz_model::address_map::PRIVATE_FIRST;
 
 /// The last byte of an access.
 pub fn last_of(size: Size, addr: u32) -> u32
@@ -21,4 +22,11 @@ pub fn is_one_block(addr: u32, other: u32) -> bool
     ensures { result ≡ (addr / 32 == other / 32) }
 {
     addr / 32 == other / 32
+}
+
+/// Whether the bytes from an address to another, a few bytes after it, lie in one block below private space.
+pub fn is_in_block(addr: u32, last: u32) -> bool
+    ensures { result ≡ is_in_block addr last }
+{
+    addr < PRIVATE_FIRST && is_one_block(addr, last)
 }

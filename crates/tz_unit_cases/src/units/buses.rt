@@ -36,7 +36,7 @@ enum Step {
     Frame(FrameStep),
 }
 
-static STEPS: [(&str, Step); 25] = [
+static STEPS: [(&str, Step); 26] = [
     ("write", Step::Plain(PlainStep::Write)),
     ("read", Step::Plain(PlainStep::Read)),
     ("place", Step::Plain(PlainStep::Place)),
@@ -53,6 +53,7 @@ static STEPS: [(&str, Step); 25] = [
     ("mpu_region", Step::Unit(UnitStep::MpuRegion)),
     ("attribute", Step::Unit(UnitStep::Attribute)),
     ("target", Step::Unit(UnitStep::Target)),
+    ("kept", Step::Unit(UnitStep::Kept)),
     ("check", Step::Access(AccessStep::Check)),
     ("store", Step::Access(AccessStep::Store)),
     ("load", Step::Access(AccessStep::Load)),

@@ -2,7 +2,8 @@
 
 use crate::units::asked::Asked;
 use crate::units::faults::{tell_index, tell_region};
-use tz_access::Bus;
+use tz_access::{Bus, Kept};
+use tz_model::RegionSide;
 use tz_state::Kind;
 use tz_testing::{Case, side_word};
 
@@ -32,6 +33,30 @@ fn tell_attribute(bus: &Bus, asked: &Asked, case: &mut Case<'_>) {
     tell_index(case, word.iregion, "none")
 }
 
+/// Tells a look-up that is kept: its block, who asked for it and how, its attribution, and what is permitted.
+fn tell_kept(case: &mut Case<'_>, kept: &Option<Kept>) {
+    let Some(kept) = kept else {
+        return case.tell("none");
+    };
+    case.tell_hex(kept.block);
+    case.tell(if kept.fetch { " fetch " } else { " data " });
+    case.tell(side_word(kept.side));
+    case.tell(if kept.privileged {
+        " privileged"
+    } else {
+        " user"
+    });
+    case.tell(if kept.negative { " negative" } else { "" });
+    case.tell(match kept.attribute {
+        RegionSide::Secure => ", s,",
+        RegionSide::Nsc => ", s callable,",
+        RegionSide::NonSecure => ", ns,",
+    });
+    case.tell(if kept.read { " read" } else { "" });
+    case.tell(if kept.write { " write" } else { "" });
+    case.tell(if kept.execute { " execute" } else { "" })
+}
+
 /// A step of the SAU and of the MPUs.
 pub enum UnitStep {
     Set,
@@ -42,11 +67,12 @@ pub enum UnitStep {
     MpuRegion,
     Attribute,
     Target,
+    Kept,
 }
 
 /// Takes a step: `set REGISTER NUMBER` and `get REGISTER` of a side; `sau REGION RBAR RLAR`, and `mpu` of a side;
-/// `sau_region REGION`, and `mpu_region` of a side, RBAR and RLAR of it; `attribute ADDRESS` of a side; and `target
-/// ADDRESS` of a side, the word of TT.
+/// `sau_region REGION`, and `mpu_region` of a side, RBAR and RLAR of it; `attribute ADDRESS` of a side; `target
+/// ADDRESS` of a side, the word of TT; and `kept PLACE`, the look-up there.
 pub fn step(bus: &mut Bus, step: &UnitStep, asked: &Asked, case: &mut Case<'_>) {
     let [first, second, ..] = asked.numbers;
     let side = asked.side;
@@ -75,6 +101,7 @@ pub fn step(bus: &mut Bus, step: &UnitStep, asked: &Asked, case: &mut Case<'_>) 
             asked.alternate,
             asked.unprivileged,
         )),
+        (UnitStep::Kept, 1) => tell_kept(case, &bus.kept(first as usize)),
         _ => case.refuse(),
     }
 }

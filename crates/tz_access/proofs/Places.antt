@@ -1,0 +1,156 @@
+-- Look-ups in their places: what a tag tells, and that places stay right.
+use Rattle.std.proofs.Common.{◌≡◌, ◌≢◌, ℕ, ◌+◌, ◌*◌, ◌/◌, ◌%◌, ◌^◌, ◌<◌, ◌≤◌, ◌==◌, eqb, leb, ◌⊎◌, inl, inr, Bool, true, false, if◌then◌else◌, List, length, slice_set, slice_index_or, replicate, Some, None, Option, IfSome, refl, sym, ap, subst, ◌∙◌, arith}
+use Rattle.std.proofs.lemmas.Bool.{ne_eqb, eqb-true}
+use Rattle.std.proofs.lemmas.Bool.Decides.{eqb_tells, leb_tells}
+use Rattle.std.proofs.lemmas.List.{get_or-set_same, get_or-set_other, get_or-replicate, get_or_past}
+use Rattle.tz_table.specs.declared.units.Side.{Side}
+use Rattle.tz_table.specs.declared.units.Side.TheVariants.{Secure, NonSecure}
+use Rattle.tz_model.specs.declared.board.Profile.{Profile}
+use Rattle.tz_model.specs.declared.board.Region.{Region}
+use Rattle.tz_mpu.specs.Units.{MpuValue}
+use Rattle.tz_regs.specs.Special.{number_of}
+use Rattle.tz_state.specs.Attribution.{MapState}
+use Rattle.tz_access.specs.declared.kept.Asked.{Asked}
+use Rattle.tz_access.specs.declared.kept.Told.{Told}
+use Rattle.tz_access.specs.declared.kept.Kept.{Kept}
+use Rattle.tz_access.specs.declared.kept.Entry.{Entry}
+use Rattle.tz_access.specs.declared.kept.LookUps.{LookUps}
+use Rattle.tz_access.specs.Checks.{is_own}
+use Rattle.tz_access.specs.LookUps.{UnitsState, units_by, told_of, place_of, side_bit, tag_of, free_tag, free_entry, entry_of, entry_at, found_in, kept_in, kept_at, kept_of, IsRight, AllRight}
+
+-- ---- what a tag tells
+
+number_small : (x : Bool) → number_of x ≤ 1
+number_small true = omega arith
+number_small false = omega arith
+
+side_small : (s : Side) → side_bit s ≤ 1
+side_small Secure = omega arith
+side_small NonSecure = omega arith
+
+number_told : (x : Bool) → (number_of x == 1) ≡ x
+number_told true = refl
+number_told false = refl
+
+side_told : (s : Side) → (if side_bit s == 1 then NonSecure else Secure) ≡ s
+side_told Secure = refl
+side_told NonSecure = refl
+
+block_part : (b f s p n : ℕ) → f ≤ 1 → s ≤ 1 → p ≤ 1 → n ≤ 1 → (b * 16 + 8 * f + 4 * s + 2 * p + 1 * n) / 16 ≡ b
+block_part b f s p n hf hs hp hn = omega arith
+
+fetch_part : (b f s p n : ℕ) → f ≤ 1 → s ≤ 1 → p ≤ 1 → n ≤ 1 → (b * 16 + 8 * f + 4 * s + 2 * p + 1 * n) / 8 % 2 ≡ f
+fetch_part b f s p n hf hs hp hn = omega arith
+
+side_part : (b f s p n : ℕ) → f ≤ 1 → s ≤ 1 → p ≤ 1 → n ≤ 1 → (b * 16 + 8 * f + 4 * s + 2 * p + 1 * n) / 4 % 2 ≡ s
+side_part b f s p n hf hs hp hn = omega arith
+
+privileged_part : (b f s p n : ℕ) → f ≤ 1 → s ≤ 1 → p ≤ 1 → n ≤ 1 → (b * 16 + 8 * f + 4 * s + 2 * p + 1 * n) / 2 % 2 ≡ p
+privileged_part b f s p n hf hs hp hn = omega arith
+
+negative_part : (b f s p n : ℕ) → f ≤ 1 → s ≤ 1 → p ≤ 1 → n ≤ 1 → (b * 16 + 8 * f + 4 * s + 2 * p + 1 * n) % 2 ≡ n
+negative_part b f s p n hf hs hp hn = omega arith
+
+not_free : (b f s p n : ℕ) → b < 134217728 → f ≤ 1 → s ≤ 1 → p ≤ 1 → n ≤ 1 → (b * 16 + 8 * f + 4 * s + 2 * p + 1 * n) ≡ 0xFFFFFFFF → ⊥
+not_free b f s p n hb hf hs hp hn e = omega arith
+
+-- a look-up under its tag is that look-up
+same_kept : (q : Asked) (t : Told) (tag : ℕ) → (tag == free_tag) ≡ false → tag / 16 ≡ q.block → (tag / 8 % 2 == 1) ≡ q.fetch → (if tag / 4 % 2 == 1 then NonSecure else Secure) ≡ q.side → (tag / 2 % 2 == 1) ≡ q.privileged → (tag % 2 == 1) ≡ q.negative → kept_in (record { tag = tag; told = t }) ≡ Some (kept_of q t)
+same_kept q t tag free block fetch side privileged negative = rw (free, block, fetch, side, privileged, negative) refl
+
+pub kept_under : (q : Asked) (t : Told) → q.block < 134217728 → kept_in (entry_of q t) ≡ Some (kept_of q t)
+kept_under q t small =
+    let b = q.block in
+    let f = number_of q.fetch in
+    let s = side_bit q.side in
+    let p = number_of q.privileged in
+    let n = number_of q.negative in
+    let hf : f ≤ 1 = number_small q.fetch in
+    let hs : s ≤ 1 = side_small q.side in
+    let hp : p ≤ 1 = number_small q.privileged in
+    let hn : n ≤ 1 = number_small q.negative in
+    same_kept q t (tag_of q) (ne_eqb (tag_of q) free_tag (not_free b f s p n small hf hs hp hn)) (block_part b f s p n hf hs hp hn)
+    (ap (λ k. k == 1) (fetch_part b f s p n hf hs hp hn) ∙ number_told q.fetch)
+    (ap (λ k. if k == 1 then NonSecure else Secure) (side_part b f s p n hf hs hp hn) ∙ side_told q.side)
+    (ap (λ k. k == 1) (privileged_part b f s p n hf hs hp hn) ∙ number_told q.privileged)
+    (ap (λ k. k == 1) (negative_part b f s p n hf hs hp hn) ∙ number_told q.negative)
+
+-- ---- a look-up that is found
+
+entry_by : (b : Bool) (t u : Told) → (if b then Some t else None) ≡ Some u → (b ≡ true) × (t ≡ u)
+entry_by true t u e = (refl, cc)
+entry_by false t u e = cc
+
+entry_is : (e : Entry) (n : ℕ) (t : Told) → (if e.tag == n then Some e.told else None) ≡ Some t → e ≡ record { tag = n; told = t }
+entry_is e n t h =
+    let parts = entry_by (e.tag == n) e.told t h in
+    let tag : e.tag ≡ n = eqb-true e.tag n parts.0 in
+    rw (← tag, ← parts.1) refl
+
+-- what is found is kept so
+pub found_kept : (l : LookUps) (q : Asked) (t : Told) → q.block < 134217728 → found_in l q ≡ Some t → kept_at l (place_of q) ≡ Some (kept_of q t)
+found_kept l q t small h = ap kept_in (entry_is (entry_at l (place_of q)) (tag_of q) t h) ∙ kept_under q t small
+
+right_of : (u : UnitsState) (i : ℕ) (o : Option Kept) (k : Kept) → o ≡ Some k → IfSome o (IsRight u i) → IsRight u i k
+right_of u i o k e h = subst (λ (p : Option Kept). IfSome p (IsRight u i)) e h
+
+found_right : (u : UnitsState) (l : LookUps) (q : Asked) (t : Told) → AllRight u l → q.block < 134217728 → found_in l q ≡ Some t → IsRight u (place_of q) (kept_of q t)
+found_right u l q t all small h = right_of u (place_of q) (kept_at l (place_of q)) (kept_of q t) (found_kept l q t small h) (all.each (place_of q))
+
+-- and tells what the units say
+pub found_told : (u : UnitsState) (l : LookUps) (q : Asked) (t : Told) → AllRight u l → q.block < 134217728 → found_in l q ≡ Some t → t ≡ told_of u q
+found_told u l q t all small h = (found_right u l q t all small h).told
+
+-- of code, of its own side
+pub found_own : (u : UnitsState) (l : LookUps) (q : Asked) (t : Told) → AllRight u l → q.block < 134217728 → q.fetch ≡ true → found_in l q ≡ Some t → is_own q.side t.attribute ≡ true
+found_own u l q t all small code h = (found_right u l q t all small h).own code
+
+-- ---- a look-up that is kept
+
+abbrev pub with_kept : LookUps → Asked → Told → LookUps
+with_kept l q t = record { entries = slice_set l.entries (place_of q) (entry_of q t) }
+
+place_below : (q : Asked) → place_of q < 16
+place_below q = omega arith
+
+pub kept_there : (l : LookUps) (q : Asked) (t : Told) → q.block < 134217728 → length l.entries ≡ 16 → kept_at (with_kept l q t) (place_of q) ≡ Some (kept_of q t)
+kept_there l q t small room =
+    let there : place_of q < length l.entries = omega (arith, place_below q) in
+    ap kept_in (get_or-set_same l.entries (place_of q) (entry_of q t) free_entry there) ∙ kept_under q t small
+
+right_at : (u : UnitsState) (l : LookUps) (q : Asked) (t : Told) (i : ℕ) → AllRight u l → q.block < 134217728 → length l.entries ≡ 16 → t ≡ told_of u q → (q.fetch ≡ true → is_own q.side t.attribute ≡ true) → ((eqb i (place_of q) ≡ true) × (i ≡ place_of q)) ⊎ ((eqb i (place_of q) ≡ false) × (i ≢ place_of q)) → IfSome (kept_at (with_kept l q t) i) (IsRight u i)
+right_at u l q t i all small room told own (inl e) =
+    let here : IsRight u (place_of q) (kept_of q t) = record { place = refl; told = told; own = own } in
+    let there : IfSome (kept_at (with_kept l q t) (place_of q)) (IsRight u (place_of q)) =
+      subst (λ (o : Option Kept). IfSome o (IsRight u (place_of q))) (sym (kept_there l q t small room)) here
+    in
+    subst (λ (k : ℕ). IfSome (kept_at (with_kept l q t) k) (IsRight u k)) (sym e.1) there
+right_at u l q t i all small room told own (inr e) =
+    subst (λ (x : Entry). IfSome (kept_in x) (IsRight u i)) (sym (get_or-set_other l.entries (place_of q) i (entry_of q t) free_entry e.1)) (all.each i)
+
+pub right_with : (u : UnitsState) (l : LookUps) (q : Asked) (t : Told) → AllRight u l → q.block < 134217728 → length l.entries ≡ 16 → t ≡ told_of u q → (q.fetch ≡ true → is_own q.side t.attribute ≡ true) → AllRight u (with_kept l q t)
+right_with u l q t all small room told own = record { each = λ i. right_at u l q t i all small room told own (eqb_tells i (place_of q)) }
+
+-- ---- no look-up
+
+free_by : (i : ℕ) → ((leb 16 i ≡ true) × (16 ≤ i)) ⊎ ((leb 16 i ≡ false) × (i < 16)) → slice_index_or (replicate 16 free_entry) i free_entry ≡ free_entry
+free_by i (inl past) = get_or_past (replicate 16 free_entry) i free_entry past.1
+free_by i (inr there) = get_or-replicate 16 i free_entry free_entry there.1
+
+pub right_empty : (u : UnitsState) → AllRight u (record { entries = replicate 16 free_entry })
+right_empty u = record { each = λ i. subst (λ (x : Entry). IfSome (kept_in x) (IsRight u i)) (sym (free_by i (leb_tells 16 i))) tt }
+
+-- ---- the units of the bus
+
+map_same : (m : MapState) (rs : List Region) → m.regions ≡ rs → m ≡ record { regions = rs; sau = m.sau }
+map_same m rs h = rw (← h) refl
+
+mpu_same : (m : MpuValue) (p : Profile) → m.profile ≡ p → m ≡ record { profile = p; mpu = m.mpu }
+mpu_same m p h = rw (← h) refl
+
+-- the units that the bus has are those of its state
+pub same_units : (m : MapState) (rs : List Region) (p : Profile) (s ns : MpuValue) → m.regions ≡ rs → s.profile ≡ p → ns.profile ≡ p → units_by m s ns ≡ units_by (record { regions = rs; sau = m.sau }) (record { profile = p; mpu = s.mpu }) (record { profile = p; mpu = ns.mpu })
+same_units m rs p s ns hm hs hn =
+    ap (λ (x : MapState). units_by x s ns) (map_same m rs hm)
+    ∙ (ap (λ (x : MpuValue). units_by (record { regions = rs; sau = m.sau }) x ns) (mpu_same s p hs)
+    ∙ ap (λ (x : MpuValue). units_by (record { regions = rs; sau = m.sau }) (record { profile = p; mpu = s.mpu }) x) (mpu_same ns p hn))
