@@ -14,9 +14,8 @@ use Rattle.tz_state.specs.declared.request.Kind.{Kind}
 use Rattle.tz_state.specs.declared.request.Kind.TheVariants as kinds
 use Rattle.tz_state.specs.declared.request.Request.{Request}
 use Rattle.tz_state.specs.declared.fetcher.Fetcher.{Fetcher}
-use Rattle.tz_state.specs.declared.asker.Asker.{Asker}
 use Rattle.tz_state.specs.Memory.{every}
-use Rattle.tz_state.specs.Attribution.{MapState, data_attribution, fetch_attribution, is_open}
+use Rattle.tz_state.specs.Attribution.{MapState, attributed, data_attribution, fetch_attribution, is_open}
 use Rattle.tz_state.specs.Protection.{permits}
 use Rattle.tz_state.specs.State.{Bus, map_in, mpu_of}
 use Rattle.tz_state.specs.Access.{is_crooked, may_touch, is_private, lets, is_let, verdict}
@@ -26,7 +25,7 @@ use Rattle.tz_access.specs.declared.kept.Told.{Told}
 use Rattle.tz_access.specs.declared.place.Place.{Place}
 use Rattle.tz_access.specs.declared.place.Place.TheVariants.{Memory, System}
 use Rattle.tz_access.specs.Checks.{IsByBlocks, last_of, is_own, is_in_block, is_system, by_map, place_verdict}
-use Rattle.tz_access.specs.LookUps.{units_in, told_of, told_for, permits_block, asked_by, asked_at, asked_by_fetch, touches, block_verdict}
+use Rattle.tz_access.specs.LookUps.{units_in, told_of, told_for, attributes_block, asked_by, asked_by_fetch, touches, block_verdict}
 use Rattle.tz_access.proofs.Blocks.{and_self, every_by_ends, open_by_blocks, own_by_blocks, lets_by_blocks, runs_by_blocks}
 
 -- ---- an access in one block
@@ -67,16 +66,17 @@ told_permits b q kinds.Write = permits_side b q.side (q.block * 32) kinds.Write 
 told_permits b q kinds.Fetch = permits_side b q.side (q.block * 32) kinds.Fetch q.privileged q.negative
 
 -- what is told of the block answers for attribution
-pub told_touches : (b : Bus) (side : Side) (privileged negative : Bool) (size : Size) (a : ℕ) → are_regions b.board.regions ≡ true → is_in_block a (last_of size a) ≡ true → may_touch (map_in b) side size a ≡ touches side (told_of (units_in b) (record { block = a / 32; fetch = false; side = side; privileged = privileged; negative = negative })).attribute
-told_touches b side privileged negative size a is block =
+pub told_touches : (b : Bus) (q : Asked) (t : Told) (size : Size) (a : ℕ) → are_regions b.board.regions ≡ true → is_in_block a (last_of size a) ≡ true → q.fetch ≡ false → q.block ≡ a / 32 → t ≡ told_of (units_in b) q → may_touch (map_in b) q.side size a ≡ touches q.side t.attribute
+told_touches b q t size a is block data same told =
     let parts = in_block_parts a (last_of size a) block in
-    touches_block (map_in b) side size a is (omega (arith, parts.0)) parts.1
+    let attribute : t.attribute ≡ attributed (map_in b) q.fetch q.side (q.block * 32) = ap (λ (x : Told). x.attribute) told in
+    touches_block (map_in b) q.side size a is (omega (arith, parts.0)) parts.1 ∙ ap (touches q.side) (sym (rw (data, same) at attribute))
 
 -- and for protection
-told_lets : (b : Bus) (q : Request) → is_in_block q.addr (last_of q.size q.addr) ≡ true → is_let b q ≡ told_for q.kind (told_of (units_in b) (asked_by q))
-told_lets b q block =
+told_lets : (b : Bus) (q : Request) (t : Told) → is_in_block q.addr (last_of q.size q.addr) ≡ true → t ≡ told_of (units_in b) (asked_by q) → is_let b q ≡ told_for q.kind t
+told_lets b q t block told =
     let parts = in_block_parts q.addr (last_of q.size q.addr) block in
-    lets_block b q parts.0 parts.1 ∙ sym (told_permits b (asked_by q) q.kind)
+    lets_block b q parts.0 parts.1 ∙ (sym (told_permits b (asked_by q) q.kind) ∙ ap (told_for q.kind) (sym told))
 
 abbrev or_else : Option Fault → Option Fault → Option Fault
 or_else (Some fault) other = Some fault
@@ -93,10 +93,9 @@ unfolding verdict
 block_verdict_is b q t is aligned block told =
     rw (
       aligned,
-      told_touches b q.side q.privileged q.negative q.size q.addr is block,
-      told_lets b q block,
+      told_touches b (asked_by q) t q.size q.addr is block refl refl told,
+      told_lets b q t block told,
       is_below q.addr (in_block_parts q.addr (last_of q.size q.addr) block).0,
-      ← told,
     ) (checks (touches q.side t.attribute) (told_for q.kind t) _ _ _)
 
 guarded_by : (b : Bus) (q : Request) (o : Option Fault) (r : Result Place Fault) → verdict b q ≡ or_else o (by_map b q) → is_private q.addr ≡ false → MatchResult r (λ place. (o ≡ None) × (place ≡ Memory)) (λ fault. o ≡ Some fault) → MatchResult r (λ place. (verdict b q ≡ place_verdict place b q) × (is_system place ≡ is_private q.addr)) (λ fault. verdict b q ≡ Some fault)
@@ -115,19 +114,21 @@ own_block m Secure a = refl
 own_block m NonSecure a = refl
 
 -- what is told of the block tells whose the halfword is
-pub told_own : (m : MapState) (side : Side) (a : ℕ) → are_regions m.regions ≡ true → is_in_block a (wrap (a + 1)) ≡ true → is_own_fetch m side a ≡ is_own side (fetch_attribution m side (a / 32 * 32))
+pub told_own : (m : MapState) (f : Fetcher) (a : ℕ) (own : Bool) → are_regions m.regions ≡ true → is_in_block a (wrap (a + 1)) ≡ true → is_own f.side (attributes_block m (asked_by_fetch f a)) ≡ own → is_own_fetch m f.side a ≡ own
 unfolding is_own_fetch
-told_own m side a is block =
+told_own m f a own is block told =
     let parts = in_block_parts a (wrap (a + 1)) block in
-    every_in_block (is_own_byte m side) a Half (own_by_blocks m side is) (omega (arith, parts.0)) parts.1 ∙ own_block m side (a / 32 * 32)
+    every_in_block (is_own_byte m f.side) a Half (own_by_blocks m f.side is) (omega (arith, parts.0)) parts.1 ∙ (own_block m f.side (a / 32 * 32) ∙ told)
 
 below_block : (a : ℕ) → a < 0xE0000000 → nat_lt (a / 32 * 32) 0xE0000000 ≡ true
 below_block a below = grind (arith, nat_tests)
 
 -- and whether code may run there
-pub told_runs : (b : Bus) (f : Fetcher) (a : ℕ) → is_in_block a (wrap (a + 1)) ≡ true → is_runnable b f.side f.privileged f.negative a ≡ (told_of (units_in b) (asked_by_fetch f a)).execute
+pub told_runs : (b : Bus) (f : Fetcher) (t : Told) (a : ℕ) → is_in_block a (wrap (a + 1)) ≡ true → t ≡ told_of (units_in b) (asked_by_fetch f a) → t.execute ≡ is_runnable b f.side f.privileged f.negative a
 unfolding is_runnable
-told_runs b f a block =
+told_runs b f t a block told =
     let parts = in_block_parts a (wrap (a + 1)) block in
-    every_in_block (lets_run b f.side f.privileged f.negative) a Half (runs_by_blocks b f.side f.privileged f.negative) (omega (arith, parts.0)) parts.1
-    ∙ (rw (below_block a parts.0) refl ∙ sym (permits_side b f.side (a / 32 * 32) kinds.Fetch f.privileged f.negative))
+    ap (λ (x : Told). x.execute) told
+    ∙ (permits_side b f.side (a / 32 * 32) kinds.Fetch f.privileged f.negative
+    ∙ sym (every_in_block (lets_run b f.side f.privileged f.negative) a Half (runs_by_blocks b f.side f.privileged f.negative) (omega (arith, parts.0)) parts.1
+    ∙ rw (below_block a parts.0) refl))

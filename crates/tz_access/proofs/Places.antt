@@ -5,18 +5,14 @@ use Rattle.std.proofs.lemmas.Bool.Decides.{eqb_tells, leb_tells}
 use Rattle.std.proofs.lemmas.List.{get_or-set_same, get_or-set_other, get_or-replicate, get_or_past}
 use Rattle.tz_table.specs.declared.units.Side.{Side}
 use Rattle.tz_table.specs.declared.units.Side.TheVariants.{Secure, NonSecure}
-use Rattle.tz_model.specs.declared.board.Profile.{Profile}
-use Rattle.tz_model.specs.declared.board.Region.{Region}
-use Rattle.tz_mpu.specs.Units.{MpuValue}
 use Rattle.tz_regs.specs.Special.{number_of}
-use Rattle.tz_state.specs.Attribution.{MapState}
 use Rattle.tz_access.specs.declared.kept.Asked.{Asked}
 use Rattle.tz_access.specs.declared.kept.Told.{Told}
 use Rattle.tz_access.specs.declared.kept.Kept.{Kept}
 use Rattle.tz_access.specs.declared.kept.Entry.{Entry}
 use Rattle.tz_access.specs.declared.kept.LookUps.{LookUps}
 use Rattle.tz_access.specs.Checks.{is_own}
-use Rattle.tz_access.specs.LookUps.{UnitsState, units_by, told_of, place_of, side_bit, tag_of, free_tag, free_entry, entry_of, entry_at, found_in, kept_in, kept_at, kept_of, IsRight, AllRight}
+use Rattle.tz_access.specs.LookUps.{UnitsState, told_of, place_of, side_bit, tag_of, free_tag, free_entry, entry_of, entry_at, found_in, kept_in, kept_at, kept_of, IsRight, AllRight}
 
 -- ---- what a tag tells
 
@@ -139,18 +135,3 @@ free_by i (inr there) = get_or-replicate 16 i free_entry free_entry there.1
 
 pub right_empty : (u : UnitsState) → AllRight u (record { entries = replicate 16 free_entry })
 right_empty u = record { each = λ i. subst (λ (x : Entry). IfSome (kept_in x) (IsRight u i)) (sym (free_by i (leb_tells 16 i))) tt }
-
--- ---- the units of the bus
-
-map_same : (m : MapState) (rs : List Region) → m.regions ≡ rs → m ≡ record { regions = rs; sau = m.sau }
-map_same m rs h = rw (← h) refl
-
-mpu_same : (m : MpuValue) (p : Profile) → m.profile ≡ p → m ≡ record { profile = p; mpu = m.mpu }
-mpu_same m p h = rw (← h) refl
-
--- the units that the bus has are those of its state
-pub same_units : (m : MapState) (rs : List Region) (p : Profile) (s ns : MpuValue) → m.regions ≡ rs → s.profile ≡ p → ns.profile ≡ p → units_by m s ns ≡ units_by (record { regions = rs; sau = m.sau }) (record { profile = p; mpu = s.mpu }) (record { profile = p; mpu = ns.mpu })
-same_units m rs p s ns hm hs hn =
-    ap (λ (x : MapState). units_by x s ns) (map_same m rs hm)
-    ∙ (ap (λ (x : MpuValue). units_by (record { regions = rs; sau = m.sau }) x ns) (mpu_same s p hs)
-    ∙ ap (λ (x : MpuValue). units_by (record { regions = rs; sau = m.sau }) (record { profile = p; mpu = s.mpu }) x) (mpu_same ns p hn))

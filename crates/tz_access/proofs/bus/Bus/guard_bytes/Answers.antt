@@ -1,13 +1,9 @@
 use Rattle.std.proofs.Common.{arith, rules, tests}
 use Rattle.std.proofs.lemmas.Grind.{common_steps, elements}
 use Rattle.tz_state.specs.Access.{verdict}
-use Rattle.tz_access.proofs.bus.Bus.guard.Goals as goal
+use Rattle.tz_access.proofs.bus.Bus.guard_bytes.Goals as goal
 
 -- What the tactics try, by name: a body that is refused is then told without a search for what to offer.
-pub returns-then-is_crooked : goal.returns-then-is_crooked
-unfolding verdict
-returns-then-is_crooked c = first_of (assumption, search (tests, rules), grind (arith, common_steps), grind (arith, elements))
-
 pub returns-then-not-may_touch : goal.returns-then-not-may_touch
 unfolding verdict
 returns-then-not-may_touch c = first_of (assumption, search (tests, rules), grind (arith, common_steps), grind (arith, elements))
