@@ -67,10 +67,10 @@ told_permits b q kinds.Fetch = permits_side b q.side (q.block * 32) kinds.Fetch 
 
 -- what is told of the block answers for attribution
 pub told_touches : (b : Bus) (q : Asked) (t : Told) (size : Size) (a : ℕ) → are_regions b.board.regions ≡ true → is_in_block a (last_of size a) ≡ true → q.fetch ≡ false → q.block ≡ a / 32 → t ≡ told_of (units_in b) q → may_touch (map_in b) q.side size a ≡ touches q.side t.attribute
-told_touches b q t size a is block data same told =
+told_touches b q t size a is block plain same told =
     let parts = in_block_parts a (last_of size a) block in
     let attribute : t.attribute ≡ attributed (map_in b) q.fetch q.side (q.block * 32) = ap (λ (x : Told). x.attribute) told in
-    touches_block (map_in b) q.side size a is (omega (arith, parts.0)) parts.1 ∙ ap (touches q.side) (sym (rw (data, same) at attribute))
+    touches_block (map_in b) q.side size a is (omega (arith, parts.0)) parts.1 ∙ ap (touches q.side) (sym (rw (plain, same) at attribute))
 
 -- and for protection
 told_lets : (b : Bus) (q : Request) (t : Told) → is_in_block q.addr (last_of q.size q.addr) ≡ true → t ≡ told_of (units_in b) (asked_by q) → is_let b q ≡ told_for q.kind t

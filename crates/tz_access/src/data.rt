@@ -113,7 +113,7 @@ fn block_verdict(told: &Told, request: &Request) -> Result<Place, Fault>
 impl Bus {
     /// Whether attribution lets code of a side access each byte.
     #[tactic(auto, unfolding(tz_state::specs::Access::may_touch))]
-    pub(crate) fn may_touch(&self, side: Side, size: Size, addr: u32) -> bool
+    fn may_touch(&self, side: Side, size: Size, addr: u32) -> bool
         ensures { result ≡ may_touch (map_in self.now) side size addr }
     {
         match side {
@@ -215,7 +215,8 @@ impl Bus {
     }
 
     /// All checks of an access (DDI0553, `MemA`, `MemU`), in their order: alignment, attribution, protection,
-    /// the map. Ok tells where its bytes are. It reads and changes nothing.
+    /// the map. Ok tells where its bytes are. It reads and changes no byte; where the bytes lie in one block below
+    /// private space and it isn't refused for alignment, the look-up of the block is kept.
     ///
     /// # Errors
     ///

@@ -285,7 +285,8 @@ impl Bus {
         }
     }
 
-    /// The instruction at PC, or its fault, and whether the fetch met Secure memory.
+    /// The instruction at PC, or its fault, and whether the fetch met Secure memory. Where the first halfword is of
+    /// the side that fetches, and lies in one block, the look-up of the block is kept.
     pub fn fetch_told(&mut self, pc: u32, fetcher: &Fetcher) -> FetchAnswer
         ensures answer { result ≡ fetch self.old fetcher.now pc }
         ensures kept { self.new ≡ self.old }
@@ -303,7 +304,7 @@ impl Bus {
 
     /// The instruction at PC for code of a side, as tests ask for it. `secure_privileged` says that Secure code would be
     /// privileged, which a gateway asks; `negative` that the execution priority is below 0. It changes
-    /// nothing.
+    /// nothing but which look-ups are kept.
     ///
     /// # Errors
     ///

@@ -1,9 +1,9 @@
 //! Look-ups that are kept: what the units say of a block of 32 bytes to code that asks for it.
 //!
-//! A block has one place among 16, which holds the last look-up made of a block that stands there. A look-up serves
-//! who asks alike: for the same block, as code or as data, of the same side, with the same privilege, at a priority that
-//! is as much below 0. Those parts make its tag, one number, so that a place is compared at once. What is told here
-//! knows nothing of the units: the bus makes look-ups, and empties all places as a register of a unit is written.
+//! A block has one place among 16, which holds the last look-up of a block that stands there. A look-up serves those
+//! who ask alike: for the same block, as code or as data, as code of the same side and privilege, both at a priority
+//! below 0 or neither. Those parts make its tag, one number, so that a place is compared at once. This file knows
+//! nothing of the units: the bus makes look-ups, and empties all places as a register of a unit is written.
 
 ghost use Rattle.std.specs.Prelude.{◌≡◌, ◌+◌, ◌*◌, ◌<◌, ◌≤◌, ◌%◌, replicate, slice_set};
 ghost use Rattle.tz_access.specs.LookUps.{tag_of, free_entry, entry_at, found_in, entry_of, kept_in, kept_at, told_for, place_of, side_bit};
