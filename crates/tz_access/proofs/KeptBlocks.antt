@@ -1,12 +1,12 @@
 -- What a look-up of its block tells of an access, and of a halfword that is fetched.
-use Rattle.std.proofs.Common.{◌≡◌, ℕ, ◌+◌, ◌*◌, ◌/◌, ◌^◌, ◌<◌, ◌==◌, Bool, true, false, not, ◌&&◌, if◌then◌else◌, Option, Some, None, Result, Ok, Err, MatchResult, refl, sym, ap, subst, ◌∙◌, arith}
+use Rattle.std.proofs.Common.{◌≡◌, ℕ, ◌+◌, ◌*◌, ◌/◌, ◌^◌, ◌<◌, Bool, true, false, not, ◌&&◌, if◌then◌else◌, Option, Some, None, Result, Ok, Err, MatchResult, refl, sym, ap, ◌∙◌, arith}
 use Rattle.std.specs.Prelude.{nat_lt}
 use Rattle.std.proofs.lemmas.Bool.Decides.{nat_tests}
 use Rattle.tz_table.specs.declared.units.Side.{Side}
 use Rattle.tz_table.specs.declared.units.Side.TheVariants.{Secure, NonSecure}
 use Rattle.tz_table.specs.declared.units.Size.{Size}
-use Rattle.tz_table.specs.declared.units.Size.TheVariants.{Half, Word}
-use Rattle.tz_model.specs.Board.{within, are_regions, is_nonsecure}
+use Rattle.tz_table.specs.declared.units.Size.TheVariants.{Half}
+use Rattle.tz_model.specs.Board.{are_regions}
 use Rattle.tz_model.specs.Words.{wrap}
 use Rattle.tz_model.specs.declared.report.Fault.{Fault}
 use Rattle.tz_regs.specs.Banks.{of_side}
@@ -23,7 +23,7 @@ use Rattle.tz_state.specs.Fetch.{is_own_byte, is_own_fetch, lets_run, is_runnabl
 use Rattle.tz_access.specs.declared.kept.Asked.{Asked}
 use Rattle.tz_access.specs.declared.kept.Told.{Told}
 use Rattle.tz_access.specs.declared.place.Place.{Place}
-use Rattle.tz_access.specs.declared.place.Place.TheVariants.{Memory, System}
+use Rattle.tz_access.specs.declared.place.Place.TheVariants.{Memory}
 use Rattle.tz_access.specs.Checks.{IsByBlocks, last_of, is_own, is_in_block, is_system, by_map, place_verdict}
 use Rattle.tz_access.specs.LookUps.{units_in, told_of, told_for, attributes_block, asked_by, asked_by_fetch, touches, block_verdict}
 use Rattle.tz_access.proofs.Blocks.{and_self, every_by_ends, open_by_blocks, own_by_blocks, lets_by_blocks, runs_by_blocks}

@@ -1,5 +1,5 @@
 -- Look-ups in their places: what a tag tells, and that places stay right.
-use Rattle.std.proofs.Common.{◌≡◌, ◌≢◌, ℕ, ◌+◌, ◌*◌, ◌/◌, ◌%◌, ◌^◌, ◌<◌, ◌≤◌, ◌==◌, eqb, leb, ◌⊎◌, inl, inr, Bool, true, false, if◌then◌else◌, List, length, slice_set, slice_index_or, replicate, Some, None, Option, IfSome, refl, sym, ap, subst, ◌∙◌, arith}
+use Rattle.std.proofs.Common.{◌≡◌, ◌≢◌, ℕ, ◌+◌, ◌*◌, ◌/◌, ◌%◌, ◌<◌, ◌≤◌, ◌==◌, eqb, leb, ◌⊎◌, inl, inr, Bool, true, false, if◌then◌else◌, length, slice_set, slice_index_or, replicate, Some, None, Option, IfSome, refl, sym, ap, subst, ◌∙◌, arith}
 use Rattle.std.proofs.lemmas.Bool.{ne_eqb, eqb-true}
 use Rattle.std.proofs.lemmas.Bool.Decides.{eqb_tells, leb_tells}
 use Rattle.std.proofs.lemmas.List.{get_or-set_same, get_or-set_other, get_or-replicate, get_or_past}
@@ -118,7 +118,7 @@ right_at : (u : UnitsState) (l : LookUps) (q : Asked) (t : Told) (i : ℕ) → A
 right_at u l q t i all small room told own (inl e) =
     let here : IsRight u (place_of q) (kept_of q t) = record { place = refl; told = told; own = own } in
     let there : IfSome (kept_at (with_kept l q t) (place_of q)) (IsRight u (place_of q)) =
-      subst (λ (o : Option Kept). IfSome o (IsRight u (place_of q))) (sym (kept_there l q t small room)) here
+    subst (λ (o : Option Kept). IfSome o (IsRight u (place_of q))) (sym (kept_there l q t small room)) here
     in
     subst (λ (k : ℕ). IfSome (kept_at (with_kept l q t) k) (IsRight u k)) (sym e.1) there
 right_at u l q t i all small room told own (inr e) =

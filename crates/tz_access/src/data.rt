@@ -159,6 +159,7 @@ impl Bus {
     }
 
     /// All checks of an access that is aligned but the map's, byte by byte.
+    #[inline(never)]
     #[tactic(auto, unfolding(tz_state::specs::Access::verdict))]
     fn guard_bytes(&self, request: &Request) -> Result<Place, Fault>
         requires { is_crooked request.now.size request.now.addr request.now.must_align ≡ false }
@@ -183,6 +184,7 @@ impl Bus {
     }
 
     /// The same of an access whose bytes lie in one block below private space, by what is told of the block.
+    #[inline(always)]
     fn guard_block(&mut self, request: &Request) -> Result<Place, Fault>
         requires aligned { is_crooked request.now.size request.now.addr request.now.must_align ≡ false }
         requires block { is_in_block request.now.addr (last_of request.now.size request.now.addr) ≡ true }

@@ -270,8 +270,20 @@ impl Bus {
         }
     }
 
+    /// The instruction at PC, with whether the fetch met Secure memory; the units are asked.
+    #[inline(never)]
+    fn asked_fetch(&self, fetcher: &Fetcher, pc: u32) -> FetchAnswer
+        ensures { result ≡ fetch self.now fetcher.now pc }
+    {
+        match fetcher.side {
+            Side::NonSecure => self.nonsecure_fetch(fetcher, pc),
+            Side::Secure => self.secure_fetch(fetcher, pc),
+        }
+    }
+
     /// Whether the MPU lets code that fetches run at a halfword whose bytes lie in one block, by what is told of the
     /// block; none where it isn't of the side.
+    #[inline(always)]
     fn runs_in_block(&mut self, fetcher: &Fetcher, pc: u32) -> Option<bool>
         requires { is_in_block pc (wrap (pc + 1)) ≡ true }
         ensures runs { MatchOption result (is_own_fetch (map_in self.old) fetcher.now.side pc ≡ false)
@@ -296,10 +308,7 @@ impl Bus {
                 return self.own_answer(fetcher, pc, runs);
             }
         }
-        match fetcher.side {
-            Side::NonSecure => self.nonsecure_fetch(fetcher, pc),
-            Side::Secure => self.secure_fetch(fetcher, pc),
-        }
+        self.asked_fetch(fetcher, pc)
     }
 
     /// The instruction at PC for code of a side, as tests ask for it. `secure_privileged` says that Secure code would be

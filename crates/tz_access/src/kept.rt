@@ -103,6 +103,7 @@ fn side_bit(side: Side) -> u32
 
 impl Asked {
     /// The tag of a look-up.
+    #[inline(always)]
     fn tag(&self) -> u32
         requires { self.now.block < 0x8000000 }
         ensures { result ≡ tag_of self.now }
@@ -172,6 +173,7 @@ impl LookUps {
     }
 
     /// What was told who asked so, where the place of the block holds that look-up.
+    #[inline(always)]
     pub fn find(&self, asked: &Asked) -> Option<Told>
         requires { asked.now.block < 0x8000000 }
         ensures { result ≡ found_in self.now asked.now }

@@ -58,7 +58,24 @@ fn told_by(attribute: RegionSide, mpu: &Mpu, asked: &Asked) -> Told
     }
 }
 
-/// What the units say of a block as data. The look-up is kept.
+/// What the units say of a block as data, asked of them. The look-up is kept.
+#[inline(never)]
+fn ask_data(sau: &Sau, mpu_s: &Mpu, mpu_ns: &Mpu, lookups: &mut LookUps, asked: &Asked) -> Told
+    requires block { asked.now.block < 0x8000000 }
+    requires data { asked.now.fetch ≡ false }
+    requires right { AllRight (units_by sau.now mpu_s.now mpu_ns.now) lookups.old }
+    ensures told { result ≡ told_of (units_by sau.now mpu_s.now mpu_ns.now) asked.now }
+    ensures right { AllRight (units_by sau.now mpu_s.now mpu_ns.now) lookups.new }
+    ensures holds { kept_at lookups.new (place_of asked.now) ≡ Some (kept_of asked.now result) }
+{
+    let attribute = attributes_block(sau, asked);
+    let told = told_by(attribute, of_side(asked.side, mpu_s, mpu_ns), asked);
+    lookups.keep(asked, told);
+    told
+}
+
+/// What the units say of a block as data, by the look-up that is kept, or asked of them. The look-up is kept then.
+#[inline(always)]
 fn look_up_data(
     sau: &Sau,
     mpu_s: &Mpu,
@@ -76,13 +93,39 @@ fn look_up_data(
     if let Some(told) = lookups.find(asked) {
         return told;
     }
-    let attribute = attributes_block(sau, asked);
-    let told = told_by(attribute, of_side(asked.side, mpu_s, mpu_ns), asked);
-    lookups.keep(asked, told);
-    told
+    ask_data(sau, mpu_s, mpu_ns, lookups, asked)
 }
 
-/// What the units say of a block as code, where it is of the side that fetches from it; then the look-up is kept.
+/// What the units say of a block as code, asked of them, where it is of the side that fetches from it; then the look-up
+/// is kept.
+#[inline(never)]
+fn ask_code(
+    sau: &Sau,
+    mpu_s: &Mpu,
+    mpu_ns: &Mpu,
+    lookups: &mut LookUps,
+    asked: &Asked,
+) -> Option<Told>
+    requires block { asked.now.block < 0x8000000 }
+    requires code { asked.now.fetch ≡ true }
+    requires right { AllRight (units_by sau.now mpu_s.now mpu_ns.now) lookups.old }
+    ensures told { MatchOption result (is_own asked.now.side (attributes_block sau.now asked.now) ≡ false)
+        (λ told. (is_own asked.now.side (attributes_block sau.now asked.now) ≡ true) × (told ≡ told_of (units_by sau.now mpu_s.now mpu_ns.now) asked.now)) }
+    ensures right { AllRight (units_by sau.now mpu_s.now mpu_ns.now) lookups.new }
+    ensures holds { MatchOption result (lookups.new ≡ lookups.old) (λ told. kept_at lookups.new (place_of asked.now) ≡ Some (kept_of asked.now told)) }
+{
+    let attribute = attributes_block(sau, asked);
+    if !is_own(asked.side, attribute) {
+        return None;
+    }
+    let told = told_by(attribute, of_side(asked.side, mpu_s, mpu_ns), asked);
+    lookups.keep(asked, told);
+    Some(told)
+}
+
+/// What the units say of a block as code, by the look-up that is kept, or asked of them, where the block is of the side
+/// that fetches from it. The look-up is kept then.
+#[inline(always)]
 fn look_up_code(
     sau: &Sau,
     mpu_s: &Mpu,
@@ -101,17 +144,12 @@ fn look_up_code(
     if let Some(told) = lookups.find(asked) {
         return Some(told);
     }
-    let attribute = attributes_block(sau, asked);
-    if !is_own(asked.side, attribute) {
-        return None;
-    }
-    let told = told_by(attribute, of_side(asked.side, mpu_s, mpu_ns), asked);
-    lookups.keep(asked, told);
-    Some(told)
+    ask_code(sau, mpu_s, mpu_ns, lookups, asked)
 }
 
 impl Bus {
     /// What the units say of a block as data, asked or kept.
+    #[inline(always)]
     pub(crate) fn data_told(&mut self, asked: &Asked) -> Told
         requires block { asked.now.block < 0x8000000 }
         requires data { asked.now.fetch ≡ false }
@@ -128,6 +166,7 @@ impl Bus {
     }
 
     /// What the units say of a block as code, asked or kept; none where it isn't of the side that fetches from it.
+    #[inline(always)]
     pub(crate) fn code_told(&mut self, asked: &Asked) -> Option<Told>
         requires block { asked.now.block < 0x8000000 }
         requires code { asked.now.fetch ≡ true }

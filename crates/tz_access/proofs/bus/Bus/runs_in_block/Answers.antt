@@ -9,6 +9,7 @@ returns-in-None-clause-runs c =
 
 pub returns-in-Some-clause-runs : goal.returns-in-Some-clause-runs
 returns-in-Some-clause-runs c =
-    let told = rw c.asked_by_fetch.ensures at c.in-Some.ensures.told in
-    (told_own (map_in c.args.self.now) c.args.fetcher.now c.args.pc true c.know_regions.ensures c.requires told.0,
-    told_runs c.args.self.now c.args.fetcher.now c.in-Some.told c.args.pc c.requires told.1)
+    let told = rw c.asked_by_fetch.ensures at c.in-Some.ensures.told in (
+      told_own (map_in c.args.self.now) c.args.fetcher.now c.args.pc true c.know_regions.ensures c.requires told.0,
+      told_runs c.args.self.now c.args.fetcher.now c.in-Some.told c.args.pc c.requires told.1,
+    )
