@@ -1,5 +1,5 @@
 -- Look-ups that the bus keeps: what the units say of a block of 32 bytes to code that asks for it.
-use Rattle.std.specs.Prelude.{◌≡◌, ℕ, ◌+◌, ◌*◌, ◌/◌, ◌%◌, ◌==◌, Bool, true, false, not, if◌then◌else◌, slice_index_or, Option, Some, None, IfSome}
+use Rattle.std.specs.Prelude.{◌≡◌, ℕ, ◌+◌, ◌*◌, ◌/◌, ◌%◌, ◌==◌, Bool, true, false, not, if◌then◌else◌, slice_index_or, slice_set, Option, Some, None, IfSome}
 use Rattle.tz_table.specs.declared.units.Side.{Side}
 use Rattle.tz_table.specs.declared.units.Side.TheVariants as sides
 use Rattle.tz_model.specs.declared.board.RegionSide.{RegionSide}
@@ -77,24 +77,24 @@ abbrev pub side_bit : Side → ℕ
 side_bit sides.Secure = 0
 side_bit sides.NonSecure = 1
 
--- what a look-up asks, as one number
+-- what a look-up asks, as one number, but for whether it asks as code: below private space code and data are told the same
 abbrev pub tag_of : Asked → ℕ
-tag_of q = q.block * 16 + 8 * number_of q.fetch + 4 * side_bit q.side + 2 * number_of q.privileged + 1 * number_of q.negative
+tag_of q = q.block * 8 + 4 * side_bit q.side + 2 * number_of q.privileged + 1 * number_of q.negative
 
 abbrev pub free_tag : ℕ
 free_tag = 0xFFFFFFFF
 
 abbrev pub free_entry : Entry
-free_entry = record { tag = free_tag; told = record { attribute = Secure; read = false; write = false; execute = false } }
+free_entry = record { tag = free_tag; told = record { attribute = Secure; read = false; write = false; execute = false }; fetch = false }
 
 abbrev pub entry_of : Asked → Told → Entry
-entry_of q t = record { tag = tag_of q; told = t }
+entry_of q t = record { tag = tag_of q; told = t; fetch = q.fetch }
 
 -- the entry at a place, of which there are 16
 abbrev pub entry_at : LookUps → ℕ → Entry
 entry_at l i = slice_index_or l.entries i free_entry
 
--- what was told who asked so, where the look-up is kept
+-- what was told who asked so, as code or as data, where the look-up is kept
 abbrev pub found_in : LookUps → Asked → Option Told
 found_in l q = let e = entry_at l (place_of q) in if e.tag == tag_of q then Some e.told else None
 
@@ -103,8 +103,8 @@ abbrev pub kept_in : Entry → Option Kept
 kept_in e =
     if e.tag == free_tag then None
     else Some (record {
-      block = e.tag / 16;
-      fetch = e.tag / 8 % 2 == 1;
+      block = e.tag / 8;
+      fetch = e.fetch;
       side = if e.tag / 4 % 2 == 1 then sides.NonSecure else sides.Secure;
       privileged = e.tag / 2 % 2 == 1;
       negative = e.tag % 2 == 1;
@@ -116,6 +116,10 @@ kept_in e =
 
 abbrev pub kept_at : LookUps → ℕ → Option Kept
 kept_at l i = kept_in (entry_at l i)
+
+-- a look-up that is put at its place
+abbrev pub with_kept : LookUps → Asked → Told → LookUps
+with_kept l q t = record { entries = slice_set l.entries (place_of q) (entry_of q t) }
 
 abbrev pub asked_in : Kept → Asked
 asked_in k = record { block = k.block; fetch = k.fetch; side = k.side; privileged = k.privileged; negative = k.negative }

@@ -1,12 +1,13 @@
 //! Look-ups that are kept: what the units say of a block of 32 bytes to code that asks for it.
 //!
 //! A block has one place among 16, which holds the last look-up of a block that stands there. A look-up serves those
-//! who ask alike: for the same block, as code or as data, as code of the same side and privilege, both at a priority
-//! below 0 or neither. Those parts make its tag, one number, so that a place is compared at once. This file knows
+//! who ask alike: for the same block, as code of the same side and privilege, both at a priority below 0 or neither.
+//! Those parts make its tag, one number, so that a place is compared at once. Whether the block was asked for as code
+//! stands beside it: below private space, where blocks are kept, code and data are told the same. This file knows
 //! nothing of the units: the bus makes look-ups, and empties all places as a register of a unit is written.
 
-ghost use Rattle.std.specs.Prelude.{◌≡◌, ◌+◌, ◌*◌, ◌<◌, ◌≤◌, ◌%◌, replicate, slice_set};
-ghost use Rattle.tz_access.specs.LookUps.{tag_of, free_entry, entry_at, found_in, entry_of, kept_in, kept_at, told_for, place_of, side_bit};
+ghost use Rattle.std.specs.Prelude.{◌≡◌, ◌+◌, ◌*◌, ◌<◌, ◌≤◌, ◌%◌, replicate};
+ghost use Rattle.tz_access.specs.LookUps.{tag_of, free_entry, found_in, with_kept, kept_in, kept_at, told_for, side_bit};
 ghost use Rattle.tz_regs.specs.Special.{number_of};
 
 use tz_model::{RegionSide, Side};
@@ -60,6 +61,8 @@ pub struct Told {
 pub struct Entry {
     pub tag: u32,
     pub told: Told,
+    /// The block was asked for as code.
+    pub fetch: bool,
 }
 
 /// The places.
@@ -80,6 +83,7 @@ const FREE_ENTRY: Entry = Entry {
         write: false,
         execute: false,
     },
+    fetch: false,
 };
 
 /// A bit of a tag, which tells a flag.
@@ -105,11 +109,10 @@ impl Asked {
     /// The tag of a look-up.
     #[inline(always)]
     fn tag(&self) -> u32
-        requires { self.now.block < 0x8000000 }
+        requires { self.now.block < 0x7000000 }
         ensures { result ≡ tag_of self.now }
     {
-        self.block * 16
-            + bit(8, self.fetch)
+        self.block * 8
             + side_bit(self.side)
             + bit(2, self.privileged)
             + bit(1, self.negative)
@@ -138,8 +141,8 @@ impl Entry {
             return None;
         }
         Some(Kept {
-            block: self.tag / 16,
-            fetch: self.tag / 8 % 2 == 1,
+            block: self.tag / 8,
+            fetch: self.fetch,
             side: if self.tag / 4 % 2 == 1 {
                 Side::NonSecure
             } else {
@@ -172,10 +175,10 @@ impl LookUps {
         self.entries = [FREE_ENTRY; 16];
     }
 
-    /// What was told who asked so, where the place of the block holds that look-up.
+    /// What was told who asked so, as code or as data, where the place of the block holds that look-up.
     #[inline(always)]
     pub fn find(&self, asked: &Asked) -> Option<Told>
-        requires { asked.now.block < 0x8000000 }
+        requires { asked.now.block < 0x7000000 }
         ensures { result ≡ found_in self.now asked.now }
     {
         let entry = self.entries[(asked.block % 16) as usize];
@@ -188,12 +191,13 @@ impl LookUps {
 
     /// Keeps a look-up at the place of its block.
     pub fn keep(&mut self, asked: &Asked, told: Told)
-        requires { asked.now.block < 0x8000000 }
-        ensures { self.new ≡ record { entries = slice_set self.old.entries (place_of asked.now) (entry_of asked.now told) } }
+        requires { asked.now.block < 0x7000000 }
+        ensures { self.new ≡ with_kept self.old asked.now told }
     {
         self.entries[(asked.block % 16) as usize] = Entry {
             tag: asked.tag(),
             told,
+            fetch: asked.fetch,
         };
     }
 

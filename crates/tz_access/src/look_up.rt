@@ -2,7 +2,7 @@
 
 ghost use Rattle.std.specs.Prelude.{◌≡◌, ◌<◌, ◌≤◌, ◌/◌, IfSome, MatchOption, Some, None, true, false};
 ghost use Rattle.tz_access.specs.Checks.{is_own};
-ghost use Rattle.tz_access.specs.LookUps.{AllRight, IsRight, attributes_block, told_by, permits_block, told_of, units_by, units_in, place_of, kept_at, kept_of};
+ghost use Rattle.tz_access.specs.LookUps.{AllRight, IsRight, attributes_block, told_by, permits_block, told_of, units_by, units_in, place_of, with_kept, kept_at, kept_of};
 ghost use Rattle.tz_regs.specs.Banks.{of_side};
 ghost use Rattle.tz_state.specs.State.{map_in};
 
@@ -26,7 +26,7 @@ fn of_side<'a>(side: Side, s: &'a Mpu, ns: &'a Mpu) -> &'a Mpu
 
 /// How the SAU and the board attribute a block.
 fn attributes_block(sau: &Sau, asked: &Asked) -> RegionSide
-    requires { asked.now.block < 0x8000000 }
+    requires { asked.now.block < 0x7000000 }
     ensures { result ≡ attributes_block sau.now asked.now }
 {
     if asked.fetch {
@@ -38,7 +38,7 @@ fn attributes_block(sau: &Sau, asked: &Asked) -> RegionSide
 
 /// Whether an MPU permits an access of a kind to a block.
 fn permits_block(mpu: &Mpu, asked: &Asked, kind: Kind) -> bool
-    requires { asked.now.block < 0x8000000 }
+    requires { asked.now.block < 0x7000000 }
     ensures { result ≡ permits_block mpu.now asked.now kind }
 {
     mpu.check(asked.block * 32, kind, asked.privileged, asked.negative)
@@ -47,7 +47,7 @@ fn permits_block(mpu: &Mpu, asked: &Asked, kind: Kind) -> bool
 
 /// What an MPU says of a block that is attributed so.
 fn told_by(attribute: RegionSide, mpu: &Mpu, asked: &Asked) -> Told
-    requires { asked.now.block < 0x8000000 }
+    requires { asked.now.block < 0x7000000 }
     ensures { result ≡ told_by attribute mpu.now asked.now }
 {
     Told {
@@ -61,7 +61,7 @@ fn told_by(attribute: RegionSide, mpu: &Mpu, asked: &Asked) -> Told
 /// What the units say of a block as data, asked of them. The look-up is kept.
 #[inline(never)]
 fn ask_data(sau: &Sau, mpu_s: &Mpu, mpu_ns: &Mpu, lookups: &mut LookUps, asked: &Asked) -> Told
-    requires block { asked.now.block < 0x8000000 }
+    requires block { asked.now.block < 0x7000000 }
     requires data { asked.now.fetch ≡ false }
     requires right { AllRight (units_by sau.now mpu_s.now mpu_ns.now) lookups.old }
     ensures told { result ≡ told_of (units_by sau.now mpu_s.now mpu_ns.now) asked.now }
@@ -83,7 +83,7 @@ fn look_up_data(
     lookups: &mut LookUps,
     asked: &Asked,
 ) -> Told
-    requires block { asked.now.block < 0x8000000 }
+    requires block { asked.now.block < 0x7000000 }
     requires data { asked.now.fetch ≡ false }
     requires right { AllRight (units_by sau.now mpu_s.now mpu_ns.now) lookups.old }
     ensures told { result ≡ told_of (units_by sau.now mpu_s.now mpu_ns.now) asked.now }
@@ -91,9 +91,25 @@ fn look_up_data(
     ensures holds { kept_at lookups.new (place_of asked.now) ≡ Some (kept_of asked.now result) }
 {
     if let Some(told) = lookups.find(asked) {
+        lookups.keep(asked, told);
         return told;
     }
     ask_data(sau, mpu_s, mpu_ns, lookups, asked)
+}
+
+/// A look-up that was found, where the block is of the side that asks for it as code; then it is kept so.
+#[inline(always)]
+fn keep_own(lookups: &mut LookUps, asked: &Asked, told: Told) -> Option<Told>
+    requires { asked.now.block < 0x7000000 }
+    ensures { MatchOption result
+        ((is_own asked.now.side told.attribute ≡ false) × (lookups.new ≡ lookups.old))
+        (λ found. (is_own asked.now.side told.attribute ≡ true) × (found ≡ told) × (lookups.new ≡ with_kept lookups.old asked.now told)) }
+{
+    if !is_own(asked.side, told.attribute) {
+        return None;
+    }
+    lookups.keep(asked, told);
+    Some(told)
 }
 
 /// What the units say of a block as code, asked of them, where it is of the side that fetches from it; then the look-up
@@ -106,7 +122,7 @@ fn ask_code(
     lookups: &mut LookUps,
     asked: &Asked,
 ) -> Option<Told>
-    requires block { asked.now.block < 0x8000000 }
+    requires block { asked.now.block < 0x7000000 }
     requires code { asked.now.fetch ≡ true }
     requires right { AllRight (units_by sau.now mpu_s.now mpu_ns.now) lookups.old }
     ensures told { MatchOption result (is_own asked.now.side (attributes_block sau.now asked.now) ≡ false)
@@ -133,7 +149,7 @@ fn look_up_code(
     lookups: &mut LookUps,
     asked: &Asked,
 ) -> Option<Told>
-    requires block { asked.now.block < 0x8000000 }
+    requires block { asked.now.block < 0x7000000 }
     requires code { asked.now.fetch ≡ true }
     requires right { AllRight (units_by sau.now mpu_s.now mpu_ns.now) lookups.old }
     ensures told { MatchOption result (is_own asked.now.side (attributes_block sau.now asked.now) ≡ false)
@@ -142,7 +158,7 @@ fn look_up_code(
     ensures holds { MatchOption result (lookups.new ≡ lookups.old) (λ told. kept_at lookups.new (place_of asked.now) ≡ Some (kept_of asked.now told)) }
 {
     if let Some(told) = lookups.find(asked) {
-        return Some(told);
+        return keep_own(lookups, asked, told);
     }
     ask_code(sau, mpu_s, mpu_ns, lookups, asked)
 }
@@ -151,7 +167,7 @@ impl Bus {
     /// What the units say of a block as data, asked or kept.
     #[inline(always)]
     pub(crate) fn data_told(&mut self, asked: &Asked) -> Told
-        requires block { asked.now.block < 0x8000000 }
+        requires block { asked.now.block < 0x7000000 }
         requires data { asked.now.fetch ≡ false }
         ensures told { result ≡ told_of (units_in self.old) asked.now }
         ensures kept { self.new ≡ self.old }
@@ -168,7 +184,7 @@ impl Bus {
     /// What the units say of a block as code, asked or kept; none where it isn't of the side that fetches from it.
     #[inline(always)]
     pub(crate) fn code_told(&mut self, asked: &Asked) -> Option<Told>
-        requires block { asked.now.block < 0x8000000 }
+        requires block { asked.now.block < 0x7000000 }
         requires code { asked.now.fetch ≡ true }
         ensures told { MatchOption result (is_own asked.now.side (attributes_block (map_in self.old) asked.now) ≡ false)
             (λ told. (is_own asked.now.side (attributes_block (map_in self.old) asked.now) ≡ true) × (told ≡ told_of (units_in self.old) asked.now)) }

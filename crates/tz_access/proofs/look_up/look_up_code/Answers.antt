@@ -1,16 +1,10 @@
-use Rattle.std.proofs.Common.{◌≡◌, true, sym, ap, ◌∙◌}
-use Rattle.tz_access.specs.declared.kept.Told.{Told}
-use Rattle.tz_access.specs.Checks.{is_own}
-use Rattle.tz_access.specs.LookUps.{told_of, units_by}
-use Rattle.tz_access.proofs.Places.{found_told, found_own}
+use Rattle.std.proofs.Common.{◌≡◌, length, sym, arith}
+use Rattle.tz_access.specs.LookUps.{units_by}
+use Rattle.tz_access.proofs.Places.{found_code}
 use Rattle.tz_access.proofs.look_up.look_up_code.Goals as goal
 
-pub returns-in-Some-clause-told : goal.returns-in-Some-clause-told
-returns-in-Some-clause-told c =
-    let told : c.in-Some.told ≡ told_of (units_by c.args.sau.now c.args.mpu_s.now c.args.mpu_ns.now) c.args.asked.now =
-    found_told _ c.args.lookups.now c.args.asked.now c.in-Some.told c.requires.right c.requires.block (sym c.in-Some.ensures)
-    in
-    let own : is_own c.args.asked.now.side c.in-Some.told.attribute ≡ true =
-    found_own _ c.args.lookups.now c.args.asked.now c.in-Some.told c.requires.right c.requires.block c.requires.code (sym c.in-Some.ensures)
-    in
-    (sym (ap (λ (t : Told). is_own c.args.asked.now.side t.attribute) told) ∙ own, told)
+pub returns-in-Some : goal.returns-in-Some
+returns-in-Some c =
+    let room : length c.args.lookups.now.entries ≡ 16 = omega arith in
+    let all = found_code (units_by c.args.sau.now c.args.mpu_s.now c.args.mpu_ns.now) c.args.lookups.now c.keep_own.new.lookups c.args.asked.now c.in-Some.told c.keep_own.result c.requires.right c.requires.block room (sym c.in-Some.ensures) c.keep_own.ensures in
+    record { told = all.0; right = all.1; holds = all.2 }
