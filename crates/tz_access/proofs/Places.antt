@@ -1,5 +1,5 @@
 -- Look-ups in their places: what a tag tells, and that places stay right.
-use Rattle.std.proofs.Common.{◌≡◌, ◌≢◌, ℕ, ◌+◌, ◌*◌, ◌/◌, ◌%◌, ◌<◌, ◌≤◌, ◌==◌, eqb, leb, ◌⊎◌, inl, inr, Bool, true, false, if◌then◌else◌, length, slice_set, slice_index_or, replicate, Some, None, Option, IfSome, MatchOption, lit≤, refl, sym, ap, subst, ◌∙◌, arith}
+use Rattle.std.proofs.Common.{◌≡◌, ◌≢◌, ℕ, ◌+◌, ◌*◌, ◌/◌, ◌%◌, ◌<◌, ◌≤◌, ◌==◌, eqb, leb, ◌⊎◌, inl, inr, Bool, true, false, if◌then◌else◌, length, slice_index_or, replicate, Some, None, Option, IfSome, MatchOption, lit≤, refl, sym, ap, subst, ◌∙◌, arith}
 use Rattle.std.proofs.lemmas.Bool.{ne_eqb, eqb-true}
 use Rattle.std.specs.Prelude.{nat_le}
 use Rattle.std.proofs.lemmas.Bool.Decides.{eqb_tells, leb_tells, nat_tests}
@@ -169,8 +169,7 @@ found_code u l new q t None all small room h kept =
     (sym (ap (λ (x : Told). is_own q.side x.attribute) told) ∙ kept.0, subst (AllRight u) (sym kept.1) all, kept.1)
 found_code u l new q t (Some found) all small room h kept =
     let told : t ≡ told_of u q = found_told u l q t all small h in
-    let own : q.fetch ≡ true → is_own q.side t.attribute ≡ true = λ (code : q.fetch ≡ true). kept.0 in
-    (
+    let own : q.fetch ≡ true → is_own q.side t.attribute ≡ true = λ (code : q.fetch ≡ true). kept.0 in (
       (sym (ap (λ (x : Told). is_own q.side x.attribute) told) ∙ kept.0, kept.1 ∙ told),
       subst (AllRight u) (sym kept.2) (right_with u l q t all small room told own),
       rw (kept.2, kept.1) (kept_there l q t small room),

@@ -112,10 +112,7 @@ impl Asked {
         requires { self.now.block < 0x7000000 }
         ensures { result ≡ tag_of self.now }
     {
-        self.block * 8
-            + side_bit(self.side)
-            + bit(2, self.privileged)
-            + bit(1, self.negative)
+        self.block * 8 + side_bit(self.side) + bit(2, self.privileged) + bit(1, self.negative)
     }
 }
 

@@ -76,13 +76,7 @@ fn ask_data(sau: &Sau, mpu_s: &Mpu, mpu_ns: &Mpu, lookups: &mut LookUps, asked: 
 
 /// What the units say of a block as data, by the look-up that is kept, or asked of them. The look-up is kept then.
 #[inline(always)]
-fn look_up_data(
-    sau: &Sau,
-    mpu_s: &Mpu,
-    mpu_ns: &Mpu,
-    lookups: &mut LookUps,
-    asked: &Asked,
-) -> Told
+fn look_up_data(sau: &Sau, mpu_s: &Mpu, mpu_ns: &Mpu, lookups: &mut LookUps, asked: &Asked) -> Told
     requires block { asked.now.block < 0x7000000 }
     requires data { asked.now.fetch ≡ false }
     requires right { AllRight (units_by sau.now mpu_s.now mpu_ns.now) lookups.old }

@@ -11,10 +11,10 @@ pub returns-in-Some-clause-right : goal.returns-in-Some-clause-right
 returns-in-Some-clause-right c =
     let room : length c.args.lookups.now.entries ≡ 16 = omega arith in
     let told : c.in-Some.told ≡ told_of (units_by c.args.sau.now c.args.mpu_s.now c.args.mpu_ns.now) c.args.asked.now =
-      found_told _ c.args.lookups.now c.args.asked.now c.in-Some.told c.requires.right c.requires.block (sym c.in-Some.ensures)
+    found_told _ c.args.lookups.now c.args.asked.now c.in-Some.told c.requires.right c.requires.block (sym c.in-Some.ensures)
     in
     let own : c.args.asked.now.fetch ≡ true → is_own c.args.asked.now.side c.in-Some.told.attribute ≡ true =
-      λ (code : c.args.asked.now.fetch ≡ true). cc
+    λ (code : c.args.asked.now.fetch ≡ true). cc
     in
     rw c.keep.ensures (right_with _ c.args.lookups.now c.args.asked.now c.in-Some.told c.requires.right c.requires.block room told own)
 
