@@ -55,7 +55,7 @@ fn vector_at(vtor: u32, number: u16) -> u32
     vtor.wrapping_add(4 * u32::from(number))
 }
 
-/// Whose words a frame has.
+/// Whose words a frame has, or a vector table, which is asked for as privileged code.
 fn framer(negative: bool, side: Side, privileged: bool) -> Asker
     ensures { result ≡ record { side = side; privileged = privileged; negative = negative; aligned = true } }
 {
