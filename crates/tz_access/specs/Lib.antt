@@ -1,2 +1,4 @@
 pub mod Registers
 pub mod Checks
+pub mod Written
+pub mod Units

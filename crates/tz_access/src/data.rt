@@ -1,16 +1,18 @@
 //! Data accesses: alignment, attribution, protection, the map, in this order.
 
-ghost use Rattle.std.specs.Prelude.{◌≡◌, MatchResult, None, Some, if◌then◌else◌};
+ghost use Rattle.std.specs.Prelude.{◌≡◌, ◌+◌, ◌<◌, ◌≤◌, MatchResult, None, Some, if◌then◌else◌};
 ghost use Rattle.tz_state.specs.declared.request.Kind.TheVariants.{Read, Write};
 ghost use Rattle.tz_state.specs.Memory.{every, value_at, with_value};
 ghost use Rattle.tz_state.specs.State.{map_in, with_memory};
 ghost use Rattle.tz_state.specs.Access.{is_aligned, is_crooked, may_touch, is_let, lets, is_accessible, is_private, verdict, request_by};
 ghost use Rattle.tz_access.specs.Checks.{is_system, place_verdict};
+ghost use Rattle.tz_access.specs.Written.{before_stores, noted_count};
 
 use crate::bus::Bus;
 use crate::place::Place;
 use crate::span::{is_one_block, last_of};
 use crate::units::is_private;
+use crate::written::Written;
 use tz_model::address_map::PRIVATE_FIRST;
 use tz_model::{Fault, Side, Size};
 use tz_state::{Asker, Kind, Request};
@@ -167,7 +169,8 @@ impl Bus {
     }
 
     /// A store of the low part of a number by the code that asks. In private space, where the system registers
-    /// are, nothing is written; nor does anything change on an error.
+    /// are, nothing is written; nor does anything change on an error. What it overwrites is noted, where that is
+    /// wanted.
     ///
     /// # Errors
     ///
@@ -180,15 +183,19 @@ impl Bus {
         value: u32,
         must_align: bool,
         user: bool,
+        written: &mut Option<Written>,
     ) -> Result<Place, Fault>
-        ensures { MatchResult result
+        requires room { noted_count written.old < 40 }
+        ensures answer { MatchResult result
             (λ place. (verdict self.old (request_by asker.now Write size addr must_align user) ≡ None) × (is_system place ≡ is_private addr) × (self.new ≡ (if is_private addr then self.old else with_memory self.old (with_value self.old.memory size addr value))))
             (λ fault. (verdict self.old (request_by asker.now Write size addr must_align user) ≡ Some fault) × (self.new ≡ self.old)) }
+        ensures noted { before_stores written.new self.new.memory ≡ before_stores written.old self.old.memory }
+        ensures few { noted_count written.new ≤ noted_count written.old + 1 }
     {
         let request = request_by(asker, Kind::Write, size, addr, must_align, user);
         match self.guard(&request)? {
             Place::System => Ok(Place::System),
-            Place::Memory => match self.memory.write(addr, size, value) {
+            Place::Memory => match self.write_noted(addr, size, value, written) {
                 Err(_) => Err(Fault::Precise(addr)),
                 Ok(()) => Ok(Place::Memory),
             },

@@ -1,6 +1,6 @@
 //! Frames over the bus: the words of entries and returns, which go through its checks.
 
-ghost use Rattle.std.specs.Prelude.{◌≡◌, ◌+◌, ◌*◌, true, MatchResult, Some, None};
+ghost use Rattle.std.specs.Prelude.{◌≡◌, ◌+◌, ◌*◌, ◌<◌, ◌≤◌, true, MatchResult, Some, None};
 ghost use Rattle.tz_table.specs.declared.units.Size.TheVariants.{Word};
 ghost use Rattle.tz_model.specs.Ports.{always_aligned, as_running};
 ghost use Rattle.tz_model.specs.Words.{wrap};
@@ -10,9 +10,11 @@ ghost use Rattle.tz_state.specs.declared.request.Kind.TheVariants.{Read, Write};
 ghost use Rattle.tz_state.specs.Access.{verdict, request_by};
 ghost use Rattle.tz_state.specs.State.{with_memory};
 ghost use Rattle.tz_frames.specs.Machine.{vector_verdict, in_map_alone};
+ghost use Rattle.tz_access.specs.Written.{before_stores, noted_count};
 
 use crate::bus::Bus;
 use crate::place::Place;
+use crate::written::Written;
 use tz_frames::Frames;
 use tz_model::{ALWAYS_ALIGNED, AS_RUNNING, Fault, Side, Size};
 use tz_state::Asker;
@@ -28,8 +30,8 @@ pub struct BusFrames<'a> {
     pub secure_privileged: bool,
     /// The execution priority is below 0.
     pub negative: bool,
-    /// How many stores they still take.
-    pub room: u32,
+    /// What their stores overwrite, where that is noted, behind what those before them did.
+    pub written: &'a mut Option<Written>,
 }
 
 /// The word of a vector table at an address.
@@ -90,12 +92,29 @@ fn load_word(bus: &Bus, asker: &Asker, addr: u32) -> Result<u32, Fault>
 }
 
 /// Writes a word of a frame, which no private space has.
-fn store_word(bus: &mut Bus, asker: &Asker, addr: u32, value: u32) -> Result<(), Fault>
-    ensures { MatchResult result
+fn store_word(
+    bus: &mut Bus,
+    asker: &Asker,
+    addr: u32,
+    value: u32,
+    written: &mut Option<Written>,
+) -> Result<(), Fault>
+    requires room { noted_count written.old < 40 }
+    ensures answer { MatchResult result
         (λ _. (in_map_alone addr (verdict bus.old (request_by asker.now Write Word addr always_aligned as_running)) ≡ None) × (bus.new ≡ with_memory bus.old (with_word bus.old.memory addr value)))
         (λ fault. (in_map_alone addr (verdict bus.old (request_by asker.now Write Word addr always_aligned as_running)) ≡ Some fault) × (bus.new ≡ bus.old)) }
+    ensures noted { before_stores written.new bus.new.memory ≡ before_stores written.old bus.old.memory }
+    ensures few { noted_count written.new ≤ noted_count written.old + 1 }
 {
-    match bus.store(asker, Size::Word, addr, value, ALWAYS_ALIGNED, AS_RUNNING) {
+    match bus.store(
+        asker,
+        Size::Word,
+        addr,
+        value,
+        ALWAYS_ALIGNED,
+        AS_RUNNING,
+        written,
+    ) {
         Ok(Place::Memory) => Ok(()),
         Ok(Place::System) => Err(Fault::Precise(addr)),
         Err(fault) => Err(fault),
@@ -103,7 +122,8 @@ fn store_word(bus: &mut Bus, asker: &Asker, addr: u32, value: u32) -> Result<(),
 }
 
 impl Frames for BusFrames<'_> {
-    ghost use Rattle.std.specs.Prelude.{ℕ};
+    ghost use Rattle.std.specs.Prelude.{ℕ, ◌-◌, Option};
+    ghost use Rattle.tz_state.specs.Memory.{Memory};
     ghost use Rattle.tz_frames.specs.Machine.{Framed, framed};
 
     ghost Held = { Framed };
@@ -112,11 +132,11 @@ impl Frames for BusFrames<'_> {
 
     ghost answer = { framed };
 
-    ghost room = { λ f. f.room };
+    ghost room = { λ f. 40 - noted_count f.written.now };
 
-    ghost Lent = { ℕ };
+    ghost Lent = { ℕ × ℕ × Option Memory };
 
-    ghost lent = { λ f. f.bus.ghost_name };
+    ghost lent = { λ f. (f.bus.ghost_name, f.written.ghost_name, before_stores f.written.now f.bus.now.memory) };
 
     fn vector(&mut self, number: u16, side: Side) -> Result<u32, Fault> {
         let vtor = of_side(side, self.vtor_s, self.vtor_ns);
@@ -141,7 +161,6 @@ impl Frames for BusFrames<'_> {
         value: u32,
     ) -> Result<(), Fault> {
         let asker = framer(self.negative, side, privileged);
-        self.room -= 1;
-        store_word(self.bus, &asker, addr, value)
+        store_word(self.bus, &asker, addr, value, self.written)
     }
 }

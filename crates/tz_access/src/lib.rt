@@ -14,13 +14,17 @@ mod difference;
 mod fetch;
 mod frames;
 mod monitor;
+mod noted_units;
 mod place;
 mod registers;
 mod span;
 mod target;
 mod units;
+mod written;
 
 pub use bus::Bus;
 pub use data::is_aligned;
 pub use frames::BusFrames;
+pub use noted_units::Units;
 pub use place::Place;
+pub use written::{Was, Written};

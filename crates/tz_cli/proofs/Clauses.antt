@@ -10,8 +10,8 @@ use Rattle.tz_twin.specs.Trace.{text_from}
 use Rattle.tz_run.specs.Events.{events_of}
 use Rattle.tz_twin.proofs.TwoRuns.{isolated}
 use Rattle.tz_cli.specs.Run.{RunWords}
-use Rattle.tz_cli.specs.Commands.{Command, Run, RunFull, Pair, Asm, Dis, Gates, Snap, Show, ShowSaved, Resume, Gen, command_of}
-use Rattle.tz_cli.specs.Told.{Stop, BadWords, TooManySteps, Unread, TooLong, BadBoard, BadImage, BadState, BadScript, BadSource, TooFar, Told, Unknown, Stops, Gives, told_then}
+use Rattle.tz_cli.specs.Commands.{Command, Run, RunFull, Pair, Asm, Dis, Gates, Snap, Show, ShowSaved, Resume, Back, Gen, command_of}
+use Rattle.tz_cli.specs.Told.{Stop, BadWords, TooManySteps, TooManyBack, Unread, TooLong, BadBoard, BadImage, BadState, BadScript, BadSource, TooFar, Told, Unknown, Stops, Gives, told_then}
 use Rattle.tz_cli.specs.Reads.{TellsOf}
 use Rattle.tz_cli.specs.Starts.{state_of}
 use Rattle.tz_cli.specs.Tasks.{Job, Task, run_task, told, reads_of, IsDone, job_told, trace_of}
@@ -35,11 +35,13 @@ done_below (Some (Snap s)) n h = omega arith
 done_below (Some (Show s)) n h = omega arith
 done_below (Some (ShowSaved w)) n h = omega arith
 done_below (Some (Resume w)) n h = omega arith
+done_below (Some (Back w)) n h = omega arith
 done_below (Some (Gen w)) n h = omega arith
 
 stop_above : (stop : Stop) → 2 ≤ status_of stop
 stop_above BadWords = omega arith
 stop_above TooManySteps = omega arith
+stop_above TooManyBack = omega arith
 stop_above (Unread name) = omega arith
 stop_above (TooLong name) = omega arith
 stop_above (BadBoard name refusal) = omega arith
@@ -52,6 +54,7 @@ stop_above (TooFar name) = omega arith
 not_broken : (stop : Stop) → status_of stop ≢ 4
 not_broken BadWords e = cc
 not_broken TooManySteps e = cc
+not_broken TooManyBack e = cc
 not_broken (Unread name) e = cc
 not_broken (TooLong name) e = cc
 not_broken (BadBoard name refusal) e = cc
@@ -64,6 +67,7 @@ not_broken (TooFar name) e = cc
 not_wanting : (stop : Stop) → status_of stop ≢ 7
 not_wanting BadWords e = cc
 not_wanting TooManySteps e = cc
+not_wanting TooManyBack e = cc
 not_wanting (Unread name) e = cc
 not_wanting (TooLong name) e = cc
 not_wanting (BadBoard name refusal) e = cc
@@ -102,6 +106,7 @@ no_words held o e = let stops : AllowsStop (told held None) BadWords = refl in s
 cause_of : (c : Call) (stop : Stop) → IsCaused c.command c.shelf stop → Cause c stop
 cause_of c BadWords h = OfTold (no_words c.shelf.held c.command h) tt (λ e. cc)
 cause_of c TooManySteps h = OfTold h.0 h.1 (λ e. cc)
+cause_of c TooManyBack h = OfTold h.0 h.1 (λ e. cc)
 cause_of c (Unread name) h = OfFile name refl h
 cause_of c (TooLong name) h = OfTold h.0 h.1 (λ e. cc)
 cause_of c (BadBoard name refusal) h = OfTold h.0 h.1 (λ e. cc)
@@ -116,6 +121,7 @@ cause_of c (TooFar name) h = OfTold h.0 h.1 (λ e. cc)
 usage_of_stop : (c : Call) (stop : Stop) → status_of stop ≡ 2 → IsCaused c.command c.shelf stop → c.command ≡ None
 usage_of_stop c BadWords e h = h
 usage_of_stop c TooManySteps e h = absurd (cc)
+usage_of_stop c TooManyBack e h = absurd (cc)
 usage_of_stop c (Unread name) e h = absurd (cc)
 usage_of_stop c (TooLong name) e h = absurd (cc)
 usage_of_stop c (BadBoard name refusal) e h = absurd (cc)
@@ -360,6 +366,7 @@ isolated_trace c result a is r e job told view image agree =
 stop_status : (o : Option Command) (stop : Stop) → IsStatus o (status_of stop)
 stop_status o BadWords = inr (inl refl)
 stop_status o TooManySteps = inr (inr (inr (inr (inr (inl refl)))))
+stop_status o TooManyBack = inr (inr (inr (inr (inr (inl refl)))))
 stop_status o (Unread name) = inr (inr (inl refl))
 stop_status o (TooLong name) = inr (inr (inr (inr (inr (inl refl)))))
 stop_status o (BadBoard name refusal) = inr (inr (inr (inr (inl refl))))

@@ -11,25 +11,26 @@ use Rattle.tz_iso.specs.declared.answer.What.{What}
 use Rattle.tz_iso.specs.Runs.{PairValue, difference}
 use Rattle.tz_cli.specs.StartWords.{StartWords}
 use Rattle.tz_cli.specs.Resume.{ResumeWords}
+use Rattle.tz_cli.specs.Back.{BackWords}
 use Rattle.tz_cli.specs.Pair.{PairWords}
 use Rattle.tz_cli.specs.PairLine.{is_agreed, pair_line, pair_status}
 use Rattle.tz_cli.specs.declared.words.start.Work.{Work}
 use Rattle.tz_cli.specs.declared.words.start.Work.TheVariants as works
 use Rattle.tz_cli.specs.declared.words.generated.GenWords.{GenWords}
-use Rattle.tz_cli.specs.Commands.{Command, Pair, Resume, Gen, command_of, command_with, longest, names_of}
+use Rattle.tz_cli.specs.Commands.{Command, Pair, Resume, Back, Gen, command_of, command_with, longest, names_of}
 use Rattle.tz_cli.specs.declared.stops.LoadError.{LoadError}
 use Rattle.tz_cli.specs.declared.stops.LoadError.TheVariants.{Unread, Long, Board, Image, State, Script, Source, Memory}
-use Rattle.tz_cli.specs.Told.{Stop, BadWords, TooManySteps, TooLong, BadBoard, BadImage, BadState, BadScript, BadSource, TooFar, Told, Stops, Gives, told_then, step_limit}
+use Rattle.tz_cli.specs.Told.{Stop, BadWords, TooManySteps, TooManyBack, TooLong, BadBoard, BadImage, BadState, BadScript, BadSource, TooFar, Told, Stops, Gives, told_then, step_limit, back_limit}
 use Rattle.tz_cli.specs.Told as stops
-use Rattle.tz_cli.specs.Reads.{AsBoard, AsImage, AsState, AsScript, AsSource, Reading, Settled, goes_on, read_where, no_files, settling, within_limit, IsOneOf}
+use Rattle.tz_cli.specs.Reads.{AsBoard, AsImage, AsState, AsScript, AsSource, Reading, Settled, goes_on, read_where, no_files, settling, within_limit, within_back, IsOneOf}
 use Rattle.tz_cli.specs.Starts.{Start, PairStart, SavedStart, board_files, start_files, kept_files, saved_files, pair_start_files}
-use Rattle.tz_cli.specs.Tasks.{Task, pair_task, gen_task, resumed_text, resume_next, work_task, told, reads_of, files_of, IsDone}
+use Rattle.tz_cli.specs.Tasks.{Task, pair_task, back_task, gen_task, resumed_text, resume_next, work_task, told, reads_of, files_of, IsDone}
 use Rattle.tz_cli.specs.Lines.{stop_line, status_of, put_status}
 use Rattle.tz_cli.specs.Answer.{Allows, AllowsStop, IsCaused, IsLine, Call, told_of, GainsFront, Exceeds, IsTold, Answer, Done, Broken, Stopped, Wanting, Silent}
 use Rattle.tz_cli.specs.Faults.{AllowsRefusal, IsFault, image_refusal, state_refusal, source_refusal, name_told, stop_of, stop_with, line_with, status_with}
 use Rattle.tz_cli.proofs.FileNames.{names_of-longest}
 use Rattle.tz_cli.proofs.Reached.{sure_command}
-use Rattle.tz_cli.proofs.Settling.{then_stop, after_stop, then_allows, allows_given, allowed_goes, goes_first, read_here, settling_twice, limit_kept, limit_passed, one_of_first, one_of_second, past, fits}
+use Rattle.tz_cli.proofs.Settling.{then_stop, after_stop, then_allows, allows_given, allowed_goes, goes_first, read_here, settling_twice, limit_kept, limit_passed, back_kept, back_passed, one_of_first, one_of_second, past, fits}
 
 pub gains_nothing : (w : Option (List ℕ)) → Gains w w []
 gains_nothing None = refl
@@ -205,6 +206,21 @@ module _ {A : Type 0} (c : Call) (command : Command) (steps : ℕ) (files : Sett
       subst (λ (x : Settled Task). AllowsStop x.told TooManySteps) (sym (comes.settles ∙ ap (settling next) (limit_passed steps files l))) refl in
       answer_stop c result TooManySteps (caused c command TooManySteps comes.is (stops, tt)) quiet (omega (arith, room)) h
 
+-- ---- the limit of steps that are undone
+
+module _ {A : Type 0} (c : Call) (command : Command) (back : ℕ) (files : Settled A) (next : A → Told Task) (comes : Comes c command (within_back back files) next) where
+  -- within it
+  near : back ≤ back_limit → Comes c command files next
+  near l = record { is = comes.is; room = comes.room; settles = comes.settles ∙ ap (settling next) (back_kept back files l) }
+
+  -- past it nothing is read
+  answer_back : (result : ℕ) → back_limit < back → Gains c.out.old c.out.new [] → IsRefused c result (codes "limit back\n") 6 → Answer c result
+  answer_back result l quiet h =
+      let room = comes.room in
+      let stops : AllowsStop (told c.shelf.held (Some command)) TooManyBack =
+      subst (λ (x : Settled Task). AllowsStop x.told TooManyBack) (sym (comes.settles ∙ ap (settling next) (back_passed back files l))) refl in
+      answer_stop c result TooManyBack (caused c command TooManyBack comes.is (stops, tt)) quiet (omega (arith, room)) h
+
 -- ---- texts that are put
 
 unfit : (space : Option ℕ) (n : ℕ) (error : SinkError) → IfSome space (λ room. n ≤ room → IsOk {T = Unit {0}} (Err error)) → Exceeds space n
@@ -273,6 +289,33 @@ state_read held w start allowed =
     let board = board_files held w.board in
     let goes : goes_on board.told ≡ true = goes_first board.told _ (allowed_goes (kept_files held w).told _ start allowed) in
     one_of_first (kept_files held w).reads _ file (one_of_second board.reads (read_where (goes_on board.told) file) file (read_here (goes_on board.told) file goes))
+
+-- ---- a run that goes back
+
+abbrev pub back_next : BackWords → Start → Told Task
+back_next w start = Gives (back_task w start)
+
+back_comes : (c : Call) (w : BackWords) → c.command ≡ Some (Back w) → c.room ≡ 64 + longest (names_of (Back w))
+    → Comes c (Back w) (within_limit w.start.steps (within_back w.back (start_files c.shelf.held w.start))) (back_next w)
+back_comes c w is room = record { is = is; room = room; settles = refl }
+
+-- past a limit
+pub back_steps : (c : Call) (w : BackWords) → c.command ≡ Some (Back w) → c.room ≡ 64 + longest (names_of (Back w)) → (result : ℕ) → step_limit < w.start.steps
+    → Gains c.out.old c.out.new [] → IsRefused c result (codes "limit steps\n") 6 → Answer c result
+back_steps c w is room result l quiet h = answer_steps c (Back w) w.start.steps _ (back_next w) (back_comes c w is room) result l quiet h
+
+pub back_far : (c : Call) (w : BackWords) → c.command ≡ Some (Back w) → c.room ≡ 64 + longest (names_of (Back w)) → w.start.steps ≤ step_limit → (result : ℕ) → back_limit < w.back
+    → Gains c.out.old c.out.new [] → IsRefused c result (codes "limit back\n") 6 → Answer c result
+back_far c w is room few result l quiet h =
+    answer_back c (Back w) w.back (start_files c.shelf.held w.start) (back_next w)
+    (within c (Back w) w.start.steps (within_back w.back (start_files c.shelf.held w.start)) (back_next w) (back_comes c w is room) few) result l quiet h
+
+-- within both
+pub back_within : (c : Call) (w : BackWords) → c.command ≡ Some (Back w) → c.room ≡ 64 + longest (names_of (Back w)) → w.start.steps ≤ step_limit → w.back ≤ back_limit
+    → Comes c (Back w) (start_files c.shelf.held w.start) (back_next w)
+back_within c w is room few l =
+    near c (Back w) w.back (start_files c.shelf.held w.start) (back_next w)
+    (within c (Back w) w.start.steps (within_back w.back (start_files c.shelf.held w.start)) (back_next w) (back_comes c w is room) few) l
 
 -- ---- a job that is made from a number
 

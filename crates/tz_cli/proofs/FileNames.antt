@@ -1,6 +1,7 @@
 -- The names of files are words.
-use Rattle.std.proofs.Common.{◌≡◌, ◌==◌, ℕ, ◌+◌, ◌≤◌, ◌++◌, Bool, true, false, cond, List, [], ◌∷◌, length, Option, Some, None, refl, subst, arith}
-use Rattle.std.specs.Prelude.{max, option_map, option_and_then, unwrap_or, codes}
+use Rattle.std.proofs.Common.{◌≡◌, ◌==◌, ℕ, ◌+◌, ◌≤◌, ◌++◌, Bool, true, false, cond, List, [], ◌∷◌, length, Option, Some, None, refl, sym, subst, arith}
+use Rattle.std.proofs.lemmas.Bool.Decides.{nat_tests}
+use Rattle.std.specs.Prelude.{max, nat_lt, option_map, option_and_then, unwrap_or, codes}
 use Rattle.std.specs.List.{list_any, after_first, position_or_len}
 use Rattle.std.proofs.lemmas.List.{length-drop}
 use Rattle.std.specs.Str.{bytes_eq}
@@ -19,6 +20,7 @@ use Rattle.tz_cli.specs.ShowWords.{ShowWords, SavedWords, ShowParts, no_parts, o
 use Rattle.tz_cli.specs.ShowWords as shown
 use Rattle.tz_cli.specs.Run.{view_of}
 use Rattle.tz_cli.specs.Resume.{ResumeWords, resume_behind, resume_names, resume_parts, resume_with}
+use Rattle.tz_cli.specs.Back.{BackWords, back_behind, back_names, back_of, back_parts, back_with}
 use Rattle.tz_cli.specs.Pair.{PairWords, pair_behind, pair_names, pair_parts, pair_with}
 use Rattle.tz_cli.specs.Asm.{AsmWords, asm_behind, asm_names, asm_parts, asm_with, form_of}
 use Rattle.tz_cli.specs.declared.words.asm.Form.{Form}
@@ -27,7 +29,7 @@ use Rattle.tz_cli.specs.declared.words.start.Work.TheVariants as works
 use Rattle.tz_cli.specs.GenWords.{gen_behind}
 use Rattle.tz_cli.specs.declared.words.generated.GenWords.{GenWords}
 use Rattle.tz_cli.specs.Dis.{DisWords, dis_behind, dis_names, dis_parts, dis_with, side_named}
-use Rattle.tz_cli.specs.Commands.{Command, Pair, Asm, Dis, Gates, Snap, Show, ShowSaved, Resume, Gen, command_with, run_with, run_parts, run_behind, work_of, show_with, show_next, show_parts, show_behind, command_behind, command_of, longest, names_of}
+use Rattle.tz_cli.specs.Commands.{Command, Pair, Asm, Dis, Gates, Snap, Show, ShowSaved, Resume, Back, Gen, command_with, run_with, run_parts, run_behind, work_of, show_with, show_next, show_parts, show_behind, command_behind, command_of, longest, names_of}
 
 -- no positional word is longer than a bound
 abbrev pub Within : ℕ → Option Parts → Type 0
@@ -119,6 +121,47 @@ resume_in (Some view) (a ∷ b ∷ c ∷ []) w e = absurd (cc)
 resume_in (Some view) (a ∷ b ∷ c ∷ d ∷ x ∷ more) w e = absurd (cc)
 resume_in (Some view) (a ∷ b ∷ c ∷ d ∷ []) w e =
     mapped_within (λ (n : ℕ). a ∷ b ∷ c ∷ []) resume_names (longest (a ∷ b ∷ c ∷ d ∷ [])) _ (count_of d) w (λ n. refl) (λ n h. omega arith) e
+
+-- so are those of a run that goes back, no further than its begin
+pub record GoesBack (names : List Text) (w : BackWords) : Type 0 where
+  pub are : back_names w ≡ names
+  pub near : w.back ≤ w.start.steps
+
+back_made : (view : View) (start : StartWords) (back : ℕ) (w : BackWords) → back_of view start back ≡ Some w → GoesBack (start_names start) w
+back_made view start back w e = by_test (nat_lt start.steps back) refl e
+  where
+    by_test : (b : Bool) → nat_lt start.steps back ≡ b → cond b None (Some (record { start = start; back = back; view = view })) ≡ Some w → GoesBack (start_names start) w
+    by_test true is e = absurd (cc)
+    by_test false is e =
+        let same : ◌≡◌ {A = BackWords} (record { start = start; back = back; view = view }) w = cc in
+        let near : back ≤ start.steps = grind (arith, nat_tests) in
+        subst (λ (x : BackWords). GoesBack (start_names start) x) same (record { are = refl; near = near })
+
+back_counted : (view : View) (start : ℕ → StartWords) (names : List Text) (steps back : Option ℕ) (w : BackWords) → ((n : ℕ) → start_names (start n) ≡ names)
+    → option_and_then (λ n. option_and_then (back_of view (start n)) back) steps ≡ Some w → GoesBack names w
+back_counted view start names None back w same e = absurd (cc)
+back_counted view start names (Some n) None w same e = absurd (cc)
+back_counted view start names (Some n) (Some m) w same e = subst (λ (x : List Text). GoesBack x w) (same n) (back_made view (start n) m w e)
+
+pub record BackIn (words : List Text) (w : BackWords) : Type 0 where
+  pub within : longest (back_names w) ≤ longest words
+  pub near : w.back ≤ w.start.steps
+
+pub back_in : (view : Option View) (words : List Text) (w : BackWords) → back_with view words ≡ Some w → BackIn words w
+back_in None words w e = absurd (cc)
+back_in (Some view) [] w e = absurd (cc)
+back_in (Some view) (a ∷ []) w e = absurd (cc)
+back_in (Some view) (a ∷ b ∷ []) w e = absurd (cc)
+back_in (Some view) (a ∷ b ∷ c ∷ []) w e = absurd (cc)
+back_in (Some view) (a ∷ b ∷ c ∷ d ∷ []) w e = absurd (cc)
+back_in (Some view) (a ∷ b ∷ c ∷ d ∷ f ∷ []) w e = absurd (cc)
+back_in (Some view) (a ∷ b ∷ c ∷ d ∷ f ∷ g ∷ x ∷ more) w e = absurd (cc)
+back_in (Some view) (a ∷ b ∷ c ∷ d ∷ f ∷ g ∷ []) w e =
+    let goes = back_counted view (λ n. record { board = a; secure = b; nonsecure = c; script = d; steps = n }) (a ∷ b ∷ c ∷ d ∷ []) (count_of f) (count_of g) w (λ n. refl) e in
+    record {
+      within = subst (λ (names : List Text). longest names ≤ longest (a ∷ b ∷ c ∷ d ∷ f ∷ g ∷ [])) (sym goes.are) (omega arith);
+      near = goes.near;
+    }
 
 -- so are those of a pair
 pair_in : (values words : List Text) (p : PairWords) → pair_with values words ≡ Some p → longest (pair_names p) ≤ longest words
@@ -283,8 +326,11 @@ names_command name words command =
     (either (bytes_eq name (codes "resume")) (option_map Resume (resume_behind words)) _ command n
     (mapped_within resume_names names_of n Resume (resume_behind words) command (λ w. refl)
     (behind_within resume_names (codes "view") resume_parts (λ p. resume_in (view_of p.values) p.positionals) words))
+    (either (bytes_eq name (codes "back")) (option_map Back (back_behind words)) _ command n
+    (mapped_within back_names names_of n Back (back_behind words) command (λ w. refl)
+    (behind_within back_names (codes "view") back_parts (λ p w e. (back_in (view_of p.values) p.positionals w e).within) words))
     (either (bytes_eq name (codes "gen")) (option_map Gen (gen_behind words)) None command n (gen_within n (gen_behind words) command)
-    (λ e. absurd (cc e))))))))))
+    (λ e. absurd (cc e)))))))))))
 
 -- a command's names are among the words
 pub names_of-longest : (words : List Text) (command : Command) → command_of words ≡ Some command → longest (names_of command) ≤ longest words

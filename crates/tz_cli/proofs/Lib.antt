@@ -15,6 +15,8 @@ pub mod Clauses
 pub mod PairClauses
 pub mod Regions
 pub mod RunClauses
+pub mod Histories
+pub mod Backs
 pub mod Exits
 pub mod Settling
 pub mod Reached

@@ -12,9 +12,9 @@ use Rattle.tz_cli.specs.Resume.{ResumeWords, resume_names}
 use Rattle.tz_cli.specs.Pair.{PairWords, pair_names}
 use Rattle.tz_cli.specs.Asm.{AsmWords, asm_names}
 use Rattle.tz_cli.specs.Dis.{DisWords, dis_names}
-use Rattle.tz_cli.specs.Commands.{Command, Run, RunFull, Pair, Asm, Dis, Gates, Snap, Show, ShowSaved, Resume, Gen, longest, names_of}
-use Rattle.tz_cli.specs.Told.{Stop, TooManySteps, Unread, Told, Unknown, Stops, Gives, told_then, is_demo, is_none_script, board_told, board_file, image_told, state_told, script_told, script_file, source_told, step_limit}
-use Rattle.tz_cli.specs.Reads.{Reading, Settled, goes_on, read_where, no_files, one_file, and_file, settling, within_limit, IsOneOf}
+use Rattle.tz_cli.specs.Commands.{Command, Run, RunFull, Pair, Asm, Dis, Gates, Snap, Show, ShowSaved, Resume, Back, Gen, longest, names_of}
+use Rattle.tz_cli.specs.Told.{Stop, TooManySteps, TooManyBack, Unread, Told, Unknown, Stops, Gives, told_then, is_demo, is_none_script, board_told, board_file, image_told, state_told, script_told, script_file, source_told, step_limit, back_limit}
+use Rattle.tz_cli.specs.Reads.{Reading, Settled, goes_on, read_where, no_files, one_file, and_file, settling, within_limit, within_back, IsOneOf}
 use Rattle.tz_cli.specs.declared.words.asm.Form.{Form as AsmForm}
 use Rattle.tz_cli.specs.Starts.{board_files, source_files, start_files, saved_files, shown_files, pair_start_files, listed_files}
 use Rattle.tz_cli.specs.Tasks.{told, reads_of, files_of}
@@ -124,9 +124,9 @@ module _ (held : List ℕ → Held) (n : ℕ) where
     within = sure.within;
   }
 
-  sure_limited : {A : Type 0} (past : Bool) (files : Settled A) → IsSure held n files → IsSure held n (cond past (record { told = Stops TooManySteps; reads = [] }) files)
-  sure_limited true files sure = record { absent = λ file read gone. absurd read; within = λ file read. absurd read }
-  sure_limited false files sure = sure
+  sure_limited : {A : Type 0} (stop : Stop) (past : Bool) (files : Settled A) → IsSure held n files → IsSure held n (cond past (record { told = Stops stop; reads = [] }) files)
+  sure_limited stop true files sure = record { absent = λ file read gone. absurd read; within = λ file read. absurd read }
+  sure_limited stop false files sure = sure
 
 -- ---- the files of commands
 
@@ -175,7 +175,7 @@ module _ (held : List ℕ → Held) where
       sure_and held n _ true _ _ _ (sure_board n w.board (omega arith)) (omega arith) (λ is gone b. never_state held b w.state gone)
 
   sure_begun : (w : StartWords) → IsSure held (longest (start_names w)) (within_limit w.steps (start_files held w))
-  sure_begun w = sure_limited held (longest (start_names w)) (nat_lt step_limit w.steps) _ (sure_start w)
+  sure_begun w = sure_limited held (longest (start_names w)) TooManySteps (nat_lt step_limit w.steps) _ (sure_start w)
 
   pub sure_command : (command : Command) → IsSure held (longest (names_of command)) (files_of held (Some command))
   sure_command (Run r) =
@@ -184,7 +184,7 @@ module _ (held : List ℕ → Held) where
   sure_command (RunFull s) = sure_settling held (longest (start_names s)) _ _ (sure_begun s)
   sure_command (Pair p) =
       let n = longest (pair_names p) in
-      sure_settling held n _ _ (sure_settling held n _ _ (sure_limited held n (nat_lt step_limit p.steps) _ (sure_pair p)))
+      sure_settling held n _ _ (sure_settling held n _ _ (sure_limited held n TooManySteps (nat_lt step_limit p.steps) _ (sure_pair p)))
   sure_command (Asm a) = sure_settling held (longest (asm_names a)) _ _ (sure_source a)
   sure_command (Dis d) = sure_settling held (longest (dis_names d)) _ _ (sure_listed d)
   sure_command (Gates s) = sure_settling held (longest (start_names s)) _ _ (sure_begun s)
@@ -193,8 +193,11 @@ module _ (held : List ℕ → Held) where
   sure_command (ShowSaved w) = sure_settling held (longest (saved_names w)) _ _ (sure_shown w)
   sure_command (Resume w) =
       let n = longest (resume_names w) in
-      sure_settling held n _ _ (sure_limited held n (nat_lt step_limit w.steps) _ (sure_saved w))
-  sure_command (Gen w) = sure_settling held 0 _ _ (sure_limited held 0 (nat_lt step_limit w.steps) _ (sure_none held 0 w))
+      sure_settling held n _ _ (sure_limited held n TooManySteps (nat_lt step_limit w.steps) _ (sure_saved w))
+  sure_command (Back w) =
+      let n = longest (start_names w.start) in
+      sure_settling held n _ _ (sure_limited held n TooManySteps (nat_lt step_limit w.start.steps) _ (sure_limited held n TooManyBack (nat_lt back_limit w.back) _ (sure_start w.start)))
+  sure_command (Gen w) = sure_settling held 0 _ _ (sure_limited held 0 TooManySteps (nat_lt step_limit w.steps) _ (sure_none held 0 w))
 
 -- an absent file that is read settles no task
 pub absent_task : (held : List ℕ → Held) (o : Option Command) (file : Reading) → held file.name ≡ Absent → IsOneOf (reads_of held o) file → NeverGives (told held o)

@@ -1,5 +1,5 @@
 -- What the answers of commands that run a machine say of its states.
-use Rattle.std.proofs.Common.{◌≡◌, ℕ, zero, suc, ◌+◌, Bool, true, false, cond, List, [], ◌++◌, append_assoc, map, Option, Some, refl, sym, ap, ◌∙◌, subst, arith}
+use Rattle.std.proofs.Common.{◌≡◌, ℕ, zero, suc, ◌+◌, ◌-◌, ◌≤◌, Bool, true, false, cond, List, [], ◌++◌, append_assoc, map, Option, Some, refl, sym, ap, ◌∙◌, subst, arith}
 use Rattle.std.specs.Prelude.{nat_lt}
 use Rattle.std.proofs.lemmas.List.{append_cancel_left}
 use Rattle.tz_model.specs.declared.report.View.{View}
@@ -23,13 +23,14 @@ use Rattle.tz_show.specs.Page.{page}
 use Rattle.tz_cli.specs.StartWords.{StartWords}
 use Rattle.tz_cli.specs.ShowWords.{ShowWords, SavedWords}
 use Rattle.tz_cli.specs.Resume.{ResumeWords}
-use Rattle.tz_cli.specs.Commands.{Command, RunFull, Gates, Snap, Show, ShowSaved, Resume, Gen}
+use Rattle.tz_cli.specs.Back.{BackWords}
+use Rattle.tz_cli.specs.Commands.{Command, RunFull, Gates, Snap, Show, ShowSaved, Resume, Back, Gen}
 use Rattle.tz_cli.specs.Summary.{summary}
 use Rattle.tz_cli.specs.declared.words.generated.GenWords.{GenWords}
 use Rattle.tz_cli.specs.Reads.{no_files}
 use Rattle.tz_cli.specs.Told.{TooManySteps, TooFar, Told, Stops, Gives, told_then, step_limit}
 use Rattle.tz_cli.specs.Starts.{Start, SavedStart, state_of}
-use Rattle.tz_cli.specs.Tasks.{Task, told, gen_task, begin_told, counted_gates, full_task, gates_task, snap_task, page_task, saved_task, end_of, shown_told, resume_told, resume_next, resumed_text}
+use Rattle.tz_cli.specs.Tasks.{Task, told, gen_task, begin_told, counted_gates, full_task, gates_task, snap_task, page_task, saved_task, end_of, shown_told, resume_told, resume_next, resumed_text, back_told, back_text, back_task}
 use Rattle.tz_cli.specs.Answer.{Call, Answer, told_of}
 use Rattle.tz_cli.proofs.Clauses.{no_stop, task_written}
 use Rattle.tz_cli.proofs.Regions.{begun_regions}
@@ -130,3 +131,28 @@ rest_written c result a is w e start gives s rest comes whole =
     ∙ ap (λ (t : State). first ++ text_from w.view events start.step t w.steps) comes) in
     let same : resumed_text w start ≡ rest = append_cancel_left first (resumed_text w start) rest (sym parts ∙ whole) in
     subst (λ (text : List ℕ). Gains c.out.old c.out.new text) same (lines_written c result a is w e start gives)
+
+-- ---- a run that goes back
+
+pub last_written : (c : Call) (result : ℕ) → Answer c result → result ≡ 0 → (w : BackWords) → c.command ≡ Some (Back w) → (start : Start) → back_told c.shelf.held w ≡ Gives start
+    → Gains c.out.old c.out.new (back_text w start)
+last_written c result a is w e start gives =
+    (task_written c result a (omega arith) (back_task w start) (told_by c.shelf.held c.command (Back w) (back_told c.shelf.held w) (λ x. Gives (back_task w x)) start e refl gives)).1
+
+-- what follows in the trace of the run is what is written
+pub last_of_trace : (c : Call) (result : ℕ) → Answer c result → result ≡ 0 → (w : BackWords) → c.command ≡ Some (Back w) → w.back ≤ w.start.steps
+    → (start : Start) → back_told c.shelf.held w ≡ Gives start
+    → (rest : List ℕ) → text_from w.view (events_of start.script) 0 (state_of start) w.start.steps ≡ text_from w.view (events_of start.script) 0 (state_of start) (w.start.steps - w.back) ++ rest
+    → Gains c.out.old c.out.new rest
+last_of_trace c result a is w e near start gives rest whole =
+    let events = events_of start.script in
+    let n = w.start.steps - w.back in
+    let first = text_from w.view events 0 (state_of start) n in
+    let all : n + w.back ≡ w.start.steps = omega (arith, near) in
+    let none : 0 + n ≡ n = omega arith in
+    let parts : text_from w.view events 0 (state_of start) w.start.steps ≡ first ++ back_text w start =
+    ap (text_from w.view events 0 (state_of start)) (sym all)
+    ∙ (trace_parts w.view events n w.back 0 (state_of start)
+    ∙ ap (λ (k : ℕ). first ++ text_from w.view events k (state_after events 0 (state_of start) n) w.back) none) in
+    let same : back_text w start ≡ rest = append_cancel_left first (back_text w start) rest (sym parts ∙ whole) in
+    subst (λ (text : List ℕ). Gains c.out.old c.out.new text) same (last_written c result a is w e start gives)

@@ -2,8 +2,8 @@
 use Rattle.std.proofs.Common.{◌≡◌, inl, inr, ℕ, ◌<◌, ◌≤◌, ◌&&◌, Bool, true, false, cond, List, [], ◌∷◌, ◌++◌, refl, sym, ap, subst, arith}
 use Rattle.std.specs.Prelude.{nat_lt}
 use Rattle.std.proofs.lemmas.Bool.Decides.{nat_tests}
-use Rattle.tz_cli.specs.Told.{Stop, TooManySteps, Told, Unknown, Stops, Gives, told_then, step_limit}
-use Rattle.tz_cli.specs.Reads.{Reading, Settled, goes_on, read_where, settling, within_limit, IsOneOf}
+use Rattle.tz_cli.specs.Told.{Stop, TooManySteps, TooManyBack, Told, Unknown, Stops, Gives, told_then, step_limit, back_limit}
+use Rattle.tz_cli.specs.Reads.{Reading, Settled, goes_on, read_where, settling, within_limit, within_back, IsOneOf}
 use Rattle.tz_cli.specs.Answer.{Allows, AllowsStop, IsOfFile}
 
 -- ---- one thing after another
@@ -100,3 +100,11 @@ limit_kept {A = A} steps files l = ap (λ (b : Bool). cond {A = Settled A} b (re
 
 pub limit_passed : {A : Type 0} (steps : ℕ) (files : Settled A) → step_limit < steps → within_limit steps files ≡ record { told = Stops TooManySteps; reads = [] }
 limit_passed {A = A} steps files l = ap (λ (b : Bool). cond {A = Settled A} b (record { told = Stops TooManySteps; reads = [] }) files) (past step_limit steps l)
+
+-- ---- the limit of steps that are undone
+
+pub back_kept : {A : Type 0} (back : ℕ) (files : Settled A) → back ≤ back_limit → within_back back files ≡ files
+back_kept {A = A} back files l = ap (λ (b : Bool). cond {A = Settled A} b (record { told = Stops TooManyBack; reads = [] }) files) (fits back_limit back l)
+
+pub back_passed : {A : Type 0} (back : ℕ) (files : Settled A) → back_limit < back → within_back back files ≡ record { told = Stops TooManyBack; reads = [] }
+back_passed {A = A} back files l = ap (λ (b : Bool). cond {A = Settled A} b (record { told = Stops TooManyBack; reads = [] }) files) (past back_limit back l)

@@ -2,7 +2,7 @@
 use Rattle.std.specs.Prelude.{◌≡◌, ◌⊎◌, ℕ, ◌+◌, ◌≤◌, Bool, List, [], ◌++◌, length, codes, Option, Some, None, IsTrue, IfSome}
 use Rattle.tz_model.specs.Outside.{Held, Absent, Rose, Gains}
 use Rattle.tz_cli.specs.Commands.{Command, command_of, longest, names_of}
-use Rattle.tz_cli.specs.Told.{Stop, BadWords, TooManySteps, Unread, TooLong, BadBoard, BadImage, BadState, BadScript, BadSource, TooFar, Told, Unknown, Stops, Gives}
+use Rattle.tz_cli.specs.Told.{Stop, BadWords, TooManySteps, TooManyBack, Unread, TooLong, BadBoard, BadImage, BadState, BadScript, BadSource, TooFar, Told, Unknown, Stops, Gives}
 use Rattle.tz_cli.specs.Reads.{Reading, Form, IsOneOf, TellsOf}
 use Rattle.tz_cli.specs.Tasks.{Task, told, reads_of, IsDone}
 use Rattle.tz_cli.specs.Lines.{stop_line, status_of, unread_line}
@@ -17,6 +17,7 @@ Allows (Gives y) x = y ≡ x
 abbrev pub IsOfFile : Stop → Type 0
 IsOfFile BadWords = ⊥
 IsOfFile TooManySteps = ⊥
+IsOfFile TooManyBack = ⊥
 IsOfFile (Unread name) = Unit {0}
 IsOfFile (TooLong name) = Unit {0}
 IsOfFile (BadBoard name refusal) = Unit {0}
@@ -55,6 +56,7 @@ IsSettled command s stop = AllowsStop (told s.held command) stop × TellsOf (rea
 abbrev pub IsCaused : Option Command → Shelved → Stop → Type 0
 IsCaused command s BadWords = command ≡ None
 IsCaused command s TooManySteps = IsSettled command s TooManySteps
+IsCaused command s TooManyBack = IsSettled command s TooManyBack
 IsCaused command s (Unread name) = IsUnread (reads_of s.held command) s name
 IsCaused command s (TooLong name) = IsSettled command s (TooLong name)
 IsCaused command s (BadBoard name refusal) = IsSettled command s (BadBoard name refusal)

@@ -9,6 +9,7 @@ use Rattle.tz_cli.specs.StartWords.{StartWords, start_behind, start_in, start_na
 use Rattle.tz_cli.specs.ShowWords.{ShowWords, SavedWords, ShowParts, no_parts, with_words, saved_in, show_names, saved_names}
 use Rattle.tz_cli.specs.Run.{RunWords, run_of, start_of}
 use Rattle.tz_cli.specs.Resume.{ResumeWords, resume_behind, resume_in, resume_names}
+use Rattle.tz_cli.specs.Back.{BackWords, back_behind, back_in, back_names}
 use Rattle.tz_cli.specs.Pair.{PairWords, pair_behind, pair_in, pair_names}
 use Rattle.tz_cli.specs.Asm.{AsmWords, asm_behind, asm_in, asm_names}
 use Rattle.tz_cli.specs.Dis.{DisWords, dis_behind, dis_in, dis_names}
@@ -33,6 +34,7 @@ pub data Command : Type 0 where
   Show : ShowWords → Command
   ShowSaved : SavedWords → Command
   Resume : ResumeWords → Command
+  Back : BackWords → Command
   Gen : GenWords → Command
 
 -- what is done with what begins a run
@@ -51,6 +53,7 @@ command_in (read.Asm words) = Asm (asm_in words)
 command_in (read.Dis words) = Dis (dis_in words)
 command_in (read.ShowSaved words) = ShowSaved (saved_in words)
 command_in (read.Resume words) = Resume (resume_in words)
+command_in (read.Back words) = Back (back_in words)
 command_in (read.Gen words) = Gen words
 
 -- what is done with a run, by what it shows
@@ -107,6 +110,7 @@ command_behind command words =
     else if bytes_eq command (codes "snap") then option_map Snap (start_behind words)
     else if bytes_eq command (codes "show") then show_behind words
     else if bytes_eq command (codes "resume") then option_map Resume (resume_behind words)
+    else if bytes_eq command (codes "back") then option_map Back (back_behind words)
     else if bytes_eq command (codes "gen") then option_map Gen (gen_behind words)
     else None
 
@@ -127,6 +131,7 @@ names_of (Snap s) = start_names s
 names_of (Show s) = show_names s
 names_of (ShowSaved w) = saved_names w
 names_of (Resume w) = resume_names w
+names_of (Back w) = back_names w
 names_of (Gen w) = []
 
 -- the length of the longest word

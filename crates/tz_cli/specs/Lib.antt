@@ -8,6 +8,7 @@ pub mod Ranges
 pub mod ShowWords
 pub mod Run
 pub mod Resume
+pub mod Back
 pub mod Pair
 pub mod Asm
 pub mod Dis

@@ -11,7 +11,7 @@ use Rattle.tz_asm.specs.Refusals.{Refusal as AsmRefusal}
 use Rattle.tz_asm.specs.Refusals as sources
 use Rattle.tz_snap.specs.StateFile as states
 use Rattle.tz_snap.specs.StateFile.{Refusal as StateRefusal}
-use Rattle.tz_cli.specs.Told.{Stop, BadWords, TooManySteps, Unread, TooLong, BadBoard, BadImage, BadState, BadScript, BadSource, TooFar}
+use Rattle.tz_cli.specs.Told.{Stop, BadWords, TooManySteps, TooManyBack, Unread, TooLong, BadBoard, BadImage, BadState, BadScript, BadSource, TooFar}
 
 abbrev pub image_code : Refusal → List ℕ
 image_code Magic = codes "L1"
@@ -72,6 +72,7 @@ limit_line name = codes "limit " ++ name ++ codes "\n"
 abbrev pub stop_line : Stop → List ℕ
 stop_line BadWords = codes "usage\n"
 stop_line TooManySteps = codes "limit steps\n"
+stop_line TooManyBack = codes "limit back\n"
 stop_line (Unread name) = unread_line name
 stop_line (TooLong name) = limit_line name
 stop_line (BadBoard name refusal) = refused_line name (board_code refusal)
@@ -84,6 +85,7 @@ stop_line (TooFar name) = codes "limit steps\n"
 abbrev pub status_of : Stop → ℕ
 status_of BadWords = 2
 status_of TooManySteps = 6
+status_of TooManyBack = 6
 status_of (Unread name) = 3
 status_of (TooLong name) = 6
 status_of (BadBoard name refusal) = 5

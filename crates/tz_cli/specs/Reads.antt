@@ -1,6 +1,6 @@
 -- Files that are read one after another: what they settle together, and which of them are read.
 use Rattle.std.specs.Prelude.{◌≡◌, ◌⊎◌, ℕ, nat_lt, ◌&&◌, Bool, true, false, if◌then◌else◌, List, [], ◌∷◌, ◌++◌}
-use Rattle.tz_cli.specs.Told.{Stop, BadWords, TooManySteps, Unread, TooLong, BadBoard, BadImage, BadState, BadScript, BadSource, TooFar, Told, Unknown, Stops, Gives, told_then, step_limit}
+use Rattle.tz_cli.specs.Told.{Stop, BadWords, TooManySteps, TooManyBack, Unread, TooLong, BadBoard, BadImage, BadState, BadScript, BadSource, TooFar, Told, Unknown, Stops, Gives, told_then, step_limit, back_limit}
 
 -- what a file is read as
 pub data Form : Type 0 where
@@ -54,6 +54,10 @@ settling next files = record { told = told_then files.told next; reads = files.r
 abbrev pub within_limit : {A : Type 0} → ℕ → Settled A → Settled A
 within_limit steps files = if nat_lt step_limit steps then record { told = Stops TooManySteps; reads = [] } else files
 
+-- past the limit of steps that are undone none is read either
+abbrev pub within_back : {A : Type 0} → ℕ → Settled A → Settled A
+within_back back files = if nat_lt back_limit back then record { told = Stops TooManyBack; reads = [] } else files
+
 -- one of the files
 abbrev pub IsOneOf : List Reading → Reading → Type 0
 IsOneOf [] file = ⊥
@@ -63,6 +67,7 @@ IsOneOf (f ∷ files) file = (f ≡ file) ⊎ IsOneOf files file
 abbrev pub TellsOf : List Reading → Stop → Type 0
 TellsOf files BadWords = Unit {0}
 TellsOf files TooManySteps = Unit {0}
+TellsOf files TooManyBack = Unit {0}
 TellsOf files (Unread name) = (form : Form) × IsOneOf files (record { name = name; form = form })
 TellsOf files (TooLong name) = (form : Form) × IsOneOf files (record { name = name; form = form })
 TellsOf files (BadBoard name refusal) = IsOneOf files (record { name = name; form = AsBoard })

@@ -1,5 +1,5 @@
 -- What the words and a shelf's word settle of a command: that it stops, and why, or what it does.
-use Rattle.std.specs.Prelude.{◌≡◌, ◌⊎◌, ℕ, ◌+◌, nat_lt, if◌then◌else◌, List, [], map, Option, Some, None}
+use Rattle.std.specs.Prelude.{◌≡◌, ◌⊎◌, ℕ, zero, suc, ◌+◌, ◌-◌, nat_lt, if◌then◌else◌, List, [], ◌∷◌, map, Option, Some, None}
 use Rattle.tz_model.specs.Image.{ImageValue}
 use Rattle.tz_model.specs.Outside.{Held}
 use Rattle.tz_state.specs.State.{State}
@@ -18,14 +18,15 @@ use Rattle.tz_snap.specs.StateFile.{SavedState, file_of}
 use Rattle.tz_show.specs.Page.{page}
 use Rattle.tz_cli.specs.ShowWords.{ShowWords, SavedWords}
 use Rattle.tz_cli.specs.Resume.{ResumeWords}
+use Rattle.tz_cli.specs.Back.{BackWords}
 use Rattle.tz_cli.specs.Run.{RunWords, run_of, start_of}
 use Rattle.tz_cli.specs.Pair.{PairWords}
 use Rattle.tz_cli.specs.PairLine.{pair_line, pair_status}
 use Rattle.tz_cli.specs.Summary.{summary}
 use Rattle.tz_cli.specs.declared.words.generated.GenWords.{GenWords}
-use Rattle.tz_cli.specs.Commands.{Command, Run, RunFull, Pair, Asm, Dis, Gates, Snap, Show, ShowSaved, Resume, Gen}
+use Rattle.tz_cli.specs.Commands.{Command, Run, RunFull, Pair, Asm, Dis, Gates, Snap, Show, ShowSaved, Resume, Back, Gen}
 use Rattle.tz_cli.specs.Told.{BadWords, TooFar, Told, Stops, Gives, step_limit}
-use Rattle.tz_cli.specs.Reads.{Reading, Settled, no_files, settling, within_limit}
+use Rattle.tz_cli.specs.Reads.{Reading, Settled, no_files, settling, within_limit, within_back}
 use Rattle.tz_cli.specs.Starts.{Start, PairStart, SavedStart, start_files, state_of, pair_start_files, first_state, second_state, saved_files, shown_files, source_files, listed_files}
 use Rattle.tz_cli.specs.declared.words.start.Work.{Work}
 use Rattle.tz_cli.specs.declared.words.start.Work.TheVariants as works
@@ -77,6 +78,13 @@ resume_files held w = within_limit w.steps (saved_files held w)
 abbrev pub resume_told : (List ℕ → Held) → ResumeWords → Told SavedStart
 resume_told held w = (resume_files held w).told
 
+-- what a run begins with that goes back: behind that limit, the one of steps that are undone
+abbrev pub back_files : (List ℕ → Held) → BackWords → Settled Start
+back_files held w = within_limit w.start.steps (within_back w.back (start_files held w.start))
+
+abbrev pub back_told : (List ℕ → Held) → BackWords → Told Start
+back_told held w = (back_files held w).told
+
 -- the state in a file
 abbrev pub shown_told : (List ℕ → Held) → SavedWords → Told SavedState
 shown_told held w = (shown_files held w).told
@@ -84,6 +92,11 @@ shown_told held w = (shown_files held w).told
 -- the state after the steps of a run
 abbrev pub end_of : Start → ℕ → State
 end_of start steps = state_after (events_of start.script) 0 (state_of start) steps
+
+-- the states before each of the first n steps, the latest first
+abbrev pub states_before : Events → State → ℕ → List State
+states_before events s zero = []
+states_before events s (suc n) = state_after events 0 s n ∷ states_before events s n
 
 -- ---- tasks
 
@@ -138,6 +151,13 @@ resumed_text w start = text_from w.view (events_of start.script) start.step star
 abbrev pub resume_next : ResumeWords → SavedStart → Told Task
 resume_next w start = if nat_lt step_limit (start.step + w.steps) then Stops (TooFar w.state) else Gives (record { text = resumed_text w start; status = 0 })
 
+-- the lines of the last steps of a run, from the state before them
+abbrev pub back_text : BackWords → Start → List ℕ
+back_text w start = text_from w.view (events_of start.script) (w.start.steps - w.back) (end_of start (w.start.steps - w.back)) w.back
+
+abbrev pub back_task : BackWords → Start → Task
+back_task w start = record { text = back_text w start; status = 0 }
+
 -- the summary of a job that is made from a number, whether or not its runs agree
 abbrev pub gen_task : GenWords → Task
 gen_task w = record { text = summary w.seed w.steps; status = 0 }
@@ -165,6 +185,7 @@ files_of held (Some (Snap s)) = settling (λ start. Gives (snap_task s start)) (
 files_of held (Some (Show s)) = settling (λ start. Gives (page_task s start)) (begin_files held s.start)
 files_of held (Some (ShowSaved w)) = settling (λ saved. Gives (saved_task w saved)) (shown_files held w)
 files_of held (Some (Resume w)) = settling (resume_next w) (resume_files held w)
+files_of held (Some (Back w)) = settling (λ start. Gives (back_task w start)) (back_files held w)
 files_of held (Some (Gen w)) = settling (λ words. Gives (gen_task words)) (within_limit w.steps (no_files w))
 
 -- what is settled of a command, or of words that are refused
@@ -188,4 +209,5 @@ IsDone (Some (Snap s)) status = status ≡ 0
 IsDone (Some (Show s)) status = status ≡ 0
 IsDone (Some (ShowSaved w)) status = status ≡ 0
 IsDone (Some (Resume w)) status = status ≡ 0
+IsDone (Some (Back w)) status = status ≡ 0
 IsDone (Some (Gen w)) status = status ≡ 0

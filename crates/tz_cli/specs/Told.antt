@@ -23,6 +23,8 @@ use Rattle.tz_cli.specs.declared.words.asm.Form.TheVariants.{Hex, Elf, Listing}
 pub data Stop : Type 0 where
   BadWords : Stop
   TooManySteps : Stop
+  -- more steps are undone than can be
+  TooManyBack : Stop
   Unread : (name : List ℕ) → Stop
   TooLong : (name : List ℕ) → Stop
   BadBoard : (name : List ℕ) (refusal : BoardRefusal) → Stop
@@ -60,6 +62,10 @@ source_limit = 1048576
 
 abbrev pub step_limit : ℕ
 step_limit = 10000000
+
+-- the most steps that are undone
+abbrev pub back_limit : ℕ
+back_limit = 1000
 
 -- the bytes of a file of at most so many bytes
 abbrev pub file_with : List ℕ → ℕ → Held → Told (List ℕ)

@@ -11,6 +11,7 @@
 #![tactic(auto)]
 
 mod asm;
+mod back;
 mod comparison;
 mod dis;
 mod files;
@@ -33,6 +34,6 @@ pub use process::run_process;
 pub use program::top;
 pub use shelf::{FileShelf, read_to_limit};
 pub use words::{
-    AsmWords, Command, DisWords, Form, GenWords, PairWords, ResumeWords, SavedWords, StartWords,
-    Work, command_words,
+    AsmWords, BackWords, Command, DisWords, Form, GenWords, PairWords, ResumeWords, SavedWords,
+    StartWords, Work, command_words,
 };

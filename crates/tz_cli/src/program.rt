@@ -4,7 +4,7 @@
 //! the definition `told` says it, for each command as a task. Each command answers in a module of its
 //! own, and joins here by its word.
 
-ghost use Rattle.std.specs.Prelude.{◌≡◌, ◌≢◌, ◌⊎◌, ◌<◌, ◌≤◌, ◌+◌, ◌++◌, ℕ, List, [], length, map, Ok, Some, None, IsTrue, IfSome, codes};
+ghost use Rattle.std.specs.Prelude.{◌≡◌, ◌≢◌, ◌⊎◌, ◌<◌, ◌≤◌, ◌+◌, ◌-◌, ◌++◌, ℕ, List, [], length, map, Ok, Some, None, IsTrue, IfSome, codes};
 ghost use Rattle.tz_state.specs.State.{State};
 ghost use Rattle.tz_sem.specs.Run.{state_after};
 ghost use Rattle.tz_full.specs.Full.{full_from};
@@ -28,19 +28,21 @@ ghost use Rattle.tz_cli.specs.Run.{RunWords};
 ghost use Rattle.tz_iso.specs.declared.answer.What.{What};
 ghost use Rattle.tz_cli.specs.Pair.{PairWords};
 ghost use Rattle.tz_cli.specs.PairLine.{FirstApart, agree_line, differ_line};
-ghost use Rattle.tz_cli.specs.Commands.{Run, RunFull, Pair, Gates, Snap, Show, ShowSaved, Resume, Gen, command_of};
+ghost use Rattle.tz_cli.specs.Commands.{Run, RunFull, Pair, Gates, Snap, Show, ShowSaved, Resume, Back, Gen, command_of};
 ghost use Rattle.tz_cli.specs.StartWords.{StartWords};
 ghost use Rattle.tz_cli.specs.ShowWords.{ShowWords, SavedWords};
 ghost use Rattle.tz_cli.specs.Resume.{ResumeWords};
+ghost use Rattle.tz_cli.specs.Back.{BackWords};
 ghost use Rattle.tz_cli.specs.Summary.{summary};
 ghost use Rattle.tz_cli.specs.declared.words.generated.GenWords.{GenWords};
 ghost use Rattle.tz_cli.specs.Told.{Stop, Stops, Gives};
 ghost use Rattle.tz_cli.specs.Starts.{Start, SavedStart, state_of, first_state, second_state};
-ghost use Rattle.tz_cli.specs.Tasks.{Job, Task, IsDone, told, reads_of, begin_told, job_told, trace_of, end_of, counted_gates, shown_told, resume_told, resumed_text, PairJob, pair_told};
+ghost use Rattle.tz_cli.specs.Tasks.{Job, Task, IsDone, told, reads_of, begin_told, job_told, trace_of, end_of, counted_gates, shown_told, resume_told, resumed_text, back_told, PairJob, pair_told};
 ghost use Rattle.tz_cli.specs.Lines.{stop_line, status_of};
 ghost use Rattle.tz_cli.specs.Answer.{Answer, shelved, sunk, CutsLine, Excused, GainsFront, IsRefusedBy, IsStatus, IsText, NamesUnread, line_room};
 
 use crate::asm::asm_files;
+use crate::back::back_answer;
 use crate::dis::dis_files;
 use crate::generated::gen_answer;
 use crate::lines::refuse;
@@ -147,6 +149,14 @@ pub fn top<H: Shelf, O: Sink, E: Sink>(
         text_from w.view (events_of start.script) 0 s (start.step + w.steps) ≡ text_from w.view (events_of start.script) 0 s start.step ++ rest →
         Gains (O.written out.old) (O.written out.new) rest }
 
+    // At status 0 of `back` the lines of the last steps are written, from the state before them: those behind the first
+    // ones of the trace that `run` writes.
+    ensures undone { result ≡ 0 → (w : BackWords) → command_of (map string_bytes words.now) ≡ Some (Back w) → (start : Start) → back_told (H.held shelf.old) w ≡ Gives start →
+        Gains (O.written out.old) (O.written out.new) (text_from w.view (events_of start.script) (w.start.steps - w.back) (end_of start (w.start.steps - w.back)) w.back) }
+    ensures remade { result ≡ 0 → (w : BackWords) → command_of (map string_bytes words.now) ≡ Some (Back w) → (start : Start) → back_told (H.held shelf.old) w ≡ Gives start →
+        (rest : List ℕ) → text_from w.view (events_of start.script) 0 (state_of start) w.start.steps ≡ text_from w.view (events_of start.script) 0 (state_of start) (w.start.steps - w.back) ++ rest →
+        Gains (O.written out.old) (O.written out.new) rest }
+
     // At status 0 of `gen` the summary of the job of its number is written, whether or not the job's runs agree.
     ensures generated { result ≡ 0 → (w : GenWords) → command_of (map string_bytes words.now) ≡ Some (Gen w) →
         Gains (O.written out.old) (O.written out.new) (summary w.seed w.steps) }
@@ -182,6 +192,7 @@ fn answer<H: Shelf, O: Sink, E: Sink>(
         Command::Dis(words) => dis_files(alloc, &words, shelf, out, err),
         Command::ShowSaved(words) => page_files(alloc, &words, shelf, out, err),
         Command::Resume(words) => resume_answer(alloc, &words, shelf, out, err),
+        Command::Back(words) => back_answer(alloc, &words, shelf, out, err),
         Command::Gen(words) => gen_answer(alloc, &words, shelf, out, err),
     }
 }

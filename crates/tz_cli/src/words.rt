@@ -8,6 +8,7 @@ ghost use Rattle.std.specs.Prelude.{◌≡◌, IfOk, map, string_bytes, option_m
 ghost use Rattle.tz_cli.specs.Commands.{command_in, command_of};
 
 mod asm;
+mod back;
 mod counts;
 mod dis;
 mod generated;
@@ -21,6 +22,7 @@ mod start;
 mod views;
 
 use crate::words::asm::asm_command;
+use crate::words::back::back_command;
 use crate::words::dis::dis_command;
 use crate::words::generated::gen_command;
 use crate::words::pair::pair_command;
@@ -29,6 +31,7 @@ use crate::words::run::run_command;
 use crate::words::show::show_command;
 use crate::words::start::start_command;
 pub use asm::{AsmWords, Form};
+pub use back::BackWords;
 pub use dis::DisWords;
 pub use generated::GenWords;
 pub use pair::PairWords;
@@ -52,6 +55,8 @@ pub enum Command<'a> {
     ShowSaved(SavedWords<'a>),
     /// A run that goes on from a state's file.
     Resume(ResumeWords<'a>),
+    /// A run whose last steps are undone, made again and written.
+    Back(BackWords<'a>),
     /// The summary of a job that is made from a number.
     Gen(GenWords),
 }
@@ -74,6 +79,7 @@ pub fn command_words<'a>(
             "snap" => start_command(alloc, Work::Save, rest),
             "show" => show_command(alloc, rest),
             "resume" => resume_command(alloc, rest),
+            "back" => back_command(alloc, rest),
             "gen" => gen_command(alloc, rest),
             _ => Ok(None),
         },

@@ -2,3 +2,4 @@ pub mod Closing
 pub mod Fields
 pub mod StateWords
 pub mod ReadWords
+pub mod Undo

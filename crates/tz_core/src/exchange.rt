@@ -1,6 +1,7 @@
 //! Branches between the sides and back: BX, BXNS, BLXNS, FNC_RETURN and EXC_RETURN.
 
-ghost use Rattle.std.specs.Prelude.{◌≡◌, ◌+◌, Some, None};
+ghost use Rattle.std.specs.Prelude.{◌≡◌, ◌≤◌, ◌+◌, Some, None};
+ghost use Rattle.tz_access.specs.Written.{before_stores, noted_count};
 ghost use Rattle.tz_model.specs.Words.{wrap};
 ghost use Rattle.tz_sem.specs.Exchange.{core_back, touching};
 ghost use Rattle.tz_sem.specs.Step.{is_call};
@@ -11,6 +12,7 @@ use crate::noting::note_value;
 use crate::port::port_over;
 use crate::running::{Machine, next_of};
 use crate::taking::frames_over;
+use tz_access::Written;
 use tz_excret::is_exc_return;
 use tz_gate::{branch_ns, call_ns, function_return, is_fnc_return};
 use tz_model::{Code, Insn};
@@ -64,7 +66,8 @@ impl Machine {
 
     /// BXNS in Secure state.
     fn branch_ns(&mut self, course: Course, code: &Code, target: u32) -> Close
-        ensures { branches_ns self.old course code.now target ≡ record { state = self.new; ending = ending_of result None } }
+        ensures does { branches_ns self.old course code.now target ≡ record { state = self.new; ending = ending_of result None } }
+        ensures kept { self.new.bus.memory ≡ self.old.bus.memory }
     {
         branch_ns(&mut self.core, target);
         if target % 2 == 0 {
@@ -76,7 +79,8 @@ impl Machine {
 
     /// Moves to a target of an exchange.
     fn move_to(&mut self, course: Course, code: &Code, target: u32, ns: bool) -> Close
-        ensures { moves_to self.old course code.now target ns ≡ record { state = self.new; ending = ending_of result None } }
+        ensures does { moves_to self.old course code.now target ns ≡ record { state = self.new; ending = ending_of result None } }
+        ensures kept { self.new.bus.memory ≡ self.old.bus.memory }
     {
         if ns {
             return self.branch_ns(course, code, target);
@@ -96,16 +100,19 @@ impl Machine {
         code: &Code,
         value: u32,
         noted: &mut Option<Handling>,
+        written: &mut Option<Written>,
     ) -> Close
         requires unnoted { noted.old ≡ None }
-        ensures { comes_back before.now self.old course code.now value ≡ record { state = self.new; ending = ending_of result noted.new } }
+        requires few { noted_count written.old ≤ 14 }
+        ensures does { comes_back before.now self.old course code.now value ≡ record { state = self.new; ending = ending_of result noted.new } }
+        ensures back { before_stores written.new self.new.bus.memory ≡ before_stores written.old self.old.bus.memory }
     {
-        let mut frames = frames_over(&mut self.bus, &self.core, course.negative);
+        let mut frames = frames_over(&mut self.bus, &self.core, course.negative, written);
         let close = match function_return(&mut self.core, &mut frames) {
             Ok(()) => ran_by(Cause::CameBack, touching(course), code),
             Err(fault) => {
                 take_back(&mut self.core, before);
-                self.fault(touching(course), fault, noted)
+                self.fault(touching(course), fault, noted, written)
             }
         };
         note_value(noted, value);
@@ -123,16 +130,19 @@ impl Machine {
         target: u32,
         ns: bool,
         noted: &mut Option<Handling>,
+        written: &mut Option<Written>,
     ) -> Close
         requires unnoted { noted.old ≡ None }
-        ensures { exchanged before.now self.old (past insn.now self.old) course code.now target ns ≡ record { state = self.new; ending = ending_of result noted.new } }
+        requires few { noted_count written.old ≤ 14 }
+        ensures does { exchanged before.now self.old (past insn.now self.old) course code.now target ns ≡ record { state = self.new; ending = ending_of result noted.new } }
+        ensures back { before_stores written.new self.new.bus.memory ≡ before_stores written.old self.old.bus.memory }
     {
         if is_fnc_return(target) {
-            return self.come_back(before, course, code, target, noted);
+            return self.come_back(before, course, code, target, noted, written);
         }
         self.pass(insn);
         if self.core.handler() && is_exc_return(target) {
-            return self.return_by(course, code, target, noted);
+            return self.return_by(course, code, target, noted, written);
         }
         self.move_to(course, code, target, ns)
     }
@@ -147,9 +157,12 @@ impl Machine {
         target: u32,
         stores: &mut Stores,
         noted: &mut Option<Handling>,
+        written: &mut Option<Written>,
     ) -> Close
         requires unnoted { noted.old ≡ None }
-        ensures { calls (past insn.now) self.old course code.now target (wrap (self.old.core.registers.pc + length_of code.now)) ≡ record { state = self.new; stores = stores.new.items; ending = ending_of result noted.new } }
+        requires few { noted_count written.old ≤ 14 }
+        ensures does { calls (past insn.now) self.old course code.now target (wrap (self.old.core.registers.pc + length_of code.now)) ≡ record { state = self.new; stores = stores.new.items; ending = ending_of result noted.new } }
+        ensures back { before_stores written.new self.new.bus.memory ≡ before_stores written.old self.old.bus.memory }
     {
         stores.clear();
         let next = next_of(self.core.registers.pc, code);
@@ -160,6 +173,7 @@ impl Machine {
             &mut self.exceptions,
             &mut self.bus,
             stores,
+            written,
         );
         let called = call_ns(&mut self.core, &mut port, target, next);
         self.core.status = port.status;
@@ -168,7 +182,7 @@ impl Machine {
                 self.pass(insn);
                 ran_by(Cause::Called, course, code)
             }
-            Err(fault) => self.fault(course, fault, noted),
+            Err(fault) => self.fault(course, fault, noted, written),
         }
     }
 }

@@ -1,7 +1,8 @@
 //! Loads and stores over the machine's port, and what the exclusive monitor has to do with them.
 
-ghost use Rattle.std.specs.Prelude.{◌≡◌};
+ghost use Rattle.std.specs.Prelude.{◌≡◌, ◌≤◌};
 ghost use Rattle.arrayvec.specs.ArrayVec.{array_vec_len};
+ghost use Rattle.tz_access.specs.Written.{before_stores, noted_count};
 ghost use Rattle.tz_sem.specs.Local.{local_of, with_local, put};
 ghost use Rattle.tz_sem.specs.LoadStore.{offset_at};
 ghost use Rattle.tz_sem.specs.declared.family.Family.TheVariants.{LoadStore};
@@ -10,7 +11,7 @@ ghost use Rattle.tz_sem.specs.Exec.{marked, loads_stores, stores_exclusive, exec
 use crate::changes::Stores;
 use crate::port::port_over;
 use crate::running::Machine;
-use tz_access::is_aligned;
+use tz_access::{Written, is_aligned};
 use tz_model::{Fault, Insn, Outcome, Size};
 use tz_regs::Core;
 
@@ -32,9 +33,17 @@ fn tell_unstored(core: &mut Core, rd: u8)
 
 impl Machine {
     /// A load or a store of the running code.
-    fn load_store(&mut self, insn: &Insn, stores: &mut Stores) -> Result<Outcome, Fault>
-        requires { array_vec_len stores.old ≡ 0 }
-        ensures { loads_stores self.old insn.now ≡ record { state = self.new; stores = stores.new.items; outcome = result } }
+    fn load_store(
+        &mut self,
+        insn: &Insn,
+        stores: &mut Stores,
+        written: &mut Option<Written>,
+    ) -> Result<Outcome, Fault>
+        requires empty { array_vec_len stores.old ≡ 0 }
+        requires unwritten { noted_count written.old ≡ 0 }
+        ensures does { loads_stores self.old insn.now ≡ record { state = self.new; stores = stores.new.items; outcome = result } }
+        ensures back { before_stores written.new self.new.bus.memory ≡ before_stores written.old self.old.bus.memory }
+        ensures few { noted_count written.new ≤ 14 }
     {
         let asker = self.asker();
         let mut port = port_over(
@@ -43,6 +52,7 @@ impl Machine {
             &mut self.exceptions,
             &mut self.bus,
             stores,
+            written,
         );
         let outcome = tz_loadstore::execute(insn, &mut self.core, &mut port);
         self.core.status = port.status;
@@ -54,13 +64,17 @@ impl Machine {
         &mut self,
         insn: &Insn,
         stores: &mut Stores,
+        written: &mut Option<Written>,
         addr: u32,
         size: Size,
     ) -> Result<Outcome, Fault>
-        requires { array_vec_len stores.old ≡ 0 }
-        ensures { marked (record { addr = addr; size = size }) (loads_stores self.old insn.now) ≡ record { state = self.new; stores = stores.new.items; outcome = result } }
+        requires empty { array_vec_len stores.old ≡ 0 }
+        requires unwritten { noted_count written.old ≡ 0 }
+        ensures does { marked (record { addr = addr; size = size }) (loads_stores self.old insn.now) ≡ record { state = self.new; stores = stores.new.items; outcome = result } }
+        ensures back { before_stores written.new self.new.bus.memory ≡ before_stores written.old self.old.bus.memory }
+        ensures few { noted_count written.new ≤ 14 }
     {
-        match self.load_store(insn, stores) {
+        match self.load_store(insn, stores, written) {
             Ok(outcome) => {
                 self.bus.monitor_set(addr, size);
                 Ok(outcome)
@@ -75,18 +89,22 @@ impl Machine {
         &mut self,
         insn: &Insn,
         stores: &mut Stores,
+        written: &mut Option<Written>,
         addr: u32,
         size: Size,
         rd: u8,
     ) -> Result<Outcome, Fault>
-        requires { array_vec_len stores.old ≡ 0 }
-        ensures { stores_exclusive self.old insn.now (record { addr = addr; size = size }) rd ≡ record { state = self.new; stores = stores.new.items; outcome = result } }
+        requires empty { array_vec_len stores.old ≡ 0 }
+        requires unwritten { noted_count written.old ≡ 0 }
+        ensures does { stores_exclusive self.old insn.now (record { addr = addr; size = size }) rd ≡ record { state = self.new; stores = stores.new.items; outcome = result } }
+        ensures back { before_stores written.new self.new.bus.memory ≡ before_stores written.old self.old.bus.memory }
+        ensures few { noted_count written.new ≤ 14 }
     {
         if !is_aligned(size, addr) {
             return Err(Fault::Unaligned);
         }
         if self.bus.monitor_take(addr, size) {
-            return self.load_store(insn, stores);
+            return self.load_store(insn, stores, written);
         }
         tell_unstored(&mut self.core, rd);
         Ok(Outcome::Next)
@@ -97,9 +115,13 @@ impl Machine {
         &mut self,
         insn: &Insn,
         stores: &mut Stores,
+        written: &mut Option<Written>,
     ) -> Result<Outcome, Fault>
-        requires { array_vec_len stores.old ≡ 0 }
-        ensures { executed_by LoadStore self.old insn.now ≡ record { state = self.new; stores = stores.new.items; outcome = result } }
+        requires empty { array_vec_len stores.old ≡ 0 }
+        requires unwritten { noted_count written.old ≡ 0 }
+        ensures does { executed_by LoadStore self.old insn.now ≡ record { state = self.new; stores = stores.new.items; outcome = result } }
+        ensures back { before_stores written.new self.new.bus.memory ≡ before_stores written.old self.old.bus.memory }
+        ensures few { noted_count written.new ≤ 14 }
     {
         match *insn {
             Insn::LoadExclusive {
@@ -109,7 +131,7 @@ impl Machine {
                 ..
             } => {
                 let addr = at_offset(&self.core, rn, offset);
-                self.load_exclusive(insn, stores, addr, size)
+                self.load_exclusive(insn, stores, written, addr, size)
             }
             Insn::StoreExclusive {
                 size,
@@ -119,9 +141,9 @@ impl Machine {
                 ..
             } => {
                 let addr = at_offset(&self.core, rn, offset);
-                self.store_exclusive(insn, stores, addr, size, rd)
+                self.store_exclusive(insn, stores, written, addr, size, rd)
             }
-            _ => self.load_store(insn, stores),
+            _ => self.load_store(insn, stores, written),
         }
     }
 }

@@ -1,11 +1,13 @@
 //! The operation of an instruction, by its family.
 
-ghost use Rattle.std.specs.Prelude.{◌≡◌, []};
+ghost use Rattle.std.specs.Prelude.{◌≡◌, ◌≤◌, []};
 ghost use Rattle.arrayvec.specs.ArrayVec.{array_vec_len};
+ghost use Rattle.tz_access.specs.Written.{before_stores, noted_count};
 
 use crate::changes::Stores;
 use crate::port::port_over;
 use crate::running::Machine;
+use tz_access::Written;
 use tz_model::{Fault, Insn, Outcome};
 use tz_prio::execution_priority;
 
@@ -17,7 +19,8 @@ impl Machine {
 
     /// Data processing.
     fn data(&mut self, insn: &Insn) -> Result<Outcome, Fault>
-        ensures { executed_by Alu self.old insn.now ≡ record { state = self.new; stores = []; outcome = result } }
+        ensures does { executed_by Alu self.old insn.now ≡ record { state = self.new; stores = []; outcome = result } }
+        ensures kept { self.new.bus.memory ≡ self.old.bus.memory }
     {
         tz_alu::execute(insn, &mut self.core)
     }
@@ -26,15 +29,24 @@ impl Machine {
     #[tactic(auto, using(crate::proofs::Alone::branch_alone))]
     fn branch(&mut self, insn: &Insn) -> Result<Outcome, Fault>
         requires { plan_branch insn.now (local_of self.old.core) ≡ [] }
-        ensures { executed_by Branch self.old insn.now ≡ record { state = self.new; stores = []; outcome = result } }
+        ensures does { executed_by Branch self.old insn.now ≡ record { state = self.new; stores = []; outcome = result } }
+        ensures kept { self.new.bus.memory ≡ self.old.bus.memory }
     {
         tz_branch::execute_alone(insn, &mut self.core)
     }
 
     /// A table branch, which loads.
-    fn table_branch(&mut self, insn: &Insn, stores: &mut Stores) -> Result<Outcome, Fault>
-        requires { array_vec_len stores.old ≡ 0 }
-        ensures { executed_by Branch self.old insn.now ≡ record { state = self.new; stores = stores.new.items; outcome = result } }
+    fn table_branch(
+        &mut self,
+        insn: &Insn,
+        stores: &mut Stores,
+        written: &mut Option<Written>,
+    ) -> Result<Outcome, Fault>
+        requires empty { array_vec_len stores.old ≡ 0 }
+        requires unwritten { noted_count written.old ≡ 0 }
+        ensures does { executed_by Branch self.old insn.now ≡ record { state = self.new; stores = stores.new.items; outcome = result } }
+        ensures back { before_stores written.new self.new.bus.memory ≡ before_stores written.old self.old.bus.memory }
+        ensures few { noted_count written.new ≤ 14 }
     {
         let asker = self.asker();
         let mut port = port_over(
@@ -43,6 +55,7 @@ impl Machine {
             &mut self.exceptions,
             &mut self.bus,
             stores,
+            written,
         );
         let outcome = tz_branch::execute(insn, &mut self.core, &mut port);
         self.core.status = port.status;
@@ -51,7 +64,8 @@ impl Machine {
 
     /// System instructions, which know the execution priority.
     fn system(&mut self, insn: &Insn) -> Result<Outcome, Fault>
-        ensures { executed_by System self.old insn.now ≡ record { state = self.new; stores = []; outcome = result } }
+        ensures does { executed_by System self.old insn.now ≡ record { state = self.new; stores = []; outcome = result } }
+        ensures kept { self.new.bus.memory ≡ self.old.bus.memory }
     {
         let priority = execution_priority(&self.core, &self.exceptions);
         tz_system::execute(insn, &mut self.core, &mut self.bus, priority)
@@ -59,9 +73,17 @@ impl Machine {
 
     /// Runs an instruction up to how it goes on: all but PC and the IT state is as it leaves it, and its
     /// stores are noted. At a fault the core is as it was, and the stores before it stand.
-    pub(crate) fn execute(&mut self, insn: &Insn, stores: &mut Stores) -> Result<Outcome, Fault>
-        requires { array_vec_len stores.old ≡ 0 }
-        ensures { executed self.old insn.now ≡ record { state = self.new; stores = stores.new.items; outcome = result } }
+    pub(crate) fn execute(
+        &mut self,
+        insn: &Insn,
+        stores: &mut Stores,
+        written: &mut Option<Written>,
+    ) -> Result<Outcome, Fault>
+        requires empty { array_vec_len stores.old ≡ 0 }
+        requires unwritten { noted_count written.old ≡ 0 }
+        ensures does { executed self.old insn.now ≡ record { state = self.new; stores = stores.new.items; outcome = result } }
+        ensures back { before_stores written.new self.new.bus.memory ≡ before_stores written.old self.old.bus.memory }
+        ensures few { noted_count written.new ≤ 14 }
     {
         match *insn {
             Insn::DataImm { .. }
@@ -84,7 +106,7 @@ impl Machine {
             | Insn::BranchExchange { .. }
             | Insn::CallExchange { .. }
             | Insn::IfThen { .. } => self.branch(insn),
-            Insn::TableBranch { .. } => self.table_branch(insn, stores),
+            Insn::TableBranch { .. } => self.table_branch(insn, stores, written),
             Insn::Hint { .. }
             | Insn::Barrier { .. }
             | Insn::ChangeState { .. }
@@ -106,7 +128,7 @@ impl Machine {
             | Insn::LoadExclusive { .. }
             | Insn::StoreExclusive { .. }
             | Insn::LoadAcquire { .. }
-            | Insn::StoreRelease { .. } => self.run_load_store(insn, stores),
+            | Insn::StoreRelease { .. } => self.run_load_store(insn, stores, written),
         }
     }
 }

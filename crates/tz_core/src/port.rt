@@ -5,16 +5,18 @@ ghost use Rattle.arrayvec.specs.ArrayVec.{array_vec_len};
 ghost use Rattle.tz_state.specs.Access.{access, is_aligned, Reached};
 ghost use Rattle.tz_state.specs.SystemRegisters.{SystemState};
 ghost use Rattle.tz_state.specs.Views.{system_value, system_read, system_written};
+ghost use Rattle.tz_access.specs.Written.{before_stores, noted_count};
 
 use crate::changes::Stores;
-use tz_access::{Bus, Place};
+use tz_access::{Bus, Place, Written};
 use tz_model::{Fault, Port, Size, Store, cut_to};
 use tz_nvic::Exceptions;
 use tz_regs::{Core, Status};
 use tz_scs::SystemRegisters;
 use tz_state::Asker;
 
-/// The accesses of one instruction: who asks for them, what the system registers stand in, and the stores made.
+/// The accesses of one instruction: who asks for them, what the system registers stand in, the stores made, and what
+/// they overwrote, where that is noted.
 /// The status is a copy, which goes back into the core after the instruction.
 #[derive(Drop)]
 pub struct CorePort<'a> {
@@ -25,6 +27,7 @@ pub struct CorePort<'a> {
     pub exceptions: &'a mut Exceptions,
     pub bus: &'a mut Bus,
     pub stores: &'a mut Stores,
+    pub written: &'a mut Option<Written>,
 }
 
 /// The port of code that asks so, over the parts of the machine.
@@ -35,6 +38,7 @@ pub(crate) fn port_over<'a>(
     exceptions: &'a mut Exceptions,
     bus: &'a mut Bus,
     stores: &'a mut Stores,
+    written: &'a mut Option<Written>,
 ) -> CorePort<'a>
     ensures { result ≡ record {
       asker = asker;
@@ -43,6 +47,7 @@ pub(crate) fn port_over<'a>(
       exceptions = exceptions.entry;
       bus = bus.entry;
       stores = stores.entry;
+      written = written.entry;
     } }
 {
     CorePort {
@@ -52,6 +57,7 @@ pub(crate) fn port_over<'a>(
         exceptions,
         bus,
         stores,
+        written,
     }
 }
 
@@ -69,6 +75,9 @@ impl CorePort<'_> {
 }
 
 impl Port for CorePort<'_> {
+    ghost use Rattle.std.specs.Prelude.{max, Option};
+    ghost use Rattle.tz_state.specs.Memory.{Memory};
+
     ghost Held = { Reached };
 
     ghost held = { λ p. record {
@@ -79,11 +88,11 @@ impl Port for CorePort<'_> {
 
     ghost answer = { access };
 
-    ghost room = { λ p. 16 - array_vec_len p.stores.now };
+    ghost room = { λ p. 16 - max (array_vec_len p.stores.now) (noted_count p.written.now) };
 
-    ghost Lent = { ℕ × ℕ × ℕ };
+    ghost Lent = { ℕ × ℕ × ℕ × ℕ × Option Memory × ℕ };
 
-    ghost lent = { λ p. (p.exceptions.ghost_name, p.bus.ghost_name, p.stores.ghost_name) };
+    ghost lent = { λ p. (p.exceptions.ghost_name, p.bus.ghost_name, p.stores.ghost_name, p.written.ghost_name, before_stores p.written.now p.bus.now.memory, noted_count p.written.now - 16) };
 
     #[tactic(auto, using(crate::proofs::Private::private_aligned), unfolding(tz_state::specs::Access::access))]
     fn load(&mut self, addr: u32, size: Size, must_align: bool, user: bool) -> Result<u32, Fault> {
@@ -112,10 +121,15 @@ impl Port for CorePort<'_> {
         user: bool,
     ) -> Result<(), Fault> {
         let cut = cut_to(size, value);
-        match self
-            .bus
-            .store(&self.asker, size, addr, value, must_align, user)
-        {
+        match self.bus.store(
+            &self.asker,
+            size,
+            addr,
+            value,
+            must_align,
+            user,
+            self.written,
+        ) {
             Err(fault) => Err(fault),
             Ok(Place::Memory) => {
                 self.note(addr, size, cut);

@@ -1,10 +1,11 @@
 //! The machine and the order of its step.
 
-ghost use Rattle.std.specs.Prelude.{◌≡◌, ◌+◌};
+ghost use Rattle.std.specs.Prelude.{◌≡◌, ◌≤◌, ◌+◌};
 ghost use Rattle.arrayvec.specs.ArrayVec.{array_vec_len};
 ghost use Rattle.tz_model.specs.Words.{wrap};
 ghost use Rattle.tz_model.specs.Codes.{second_of};
 ghost use Rattle.tz_sem.specs.Step.{length_of, sleep_of};
+ghost use Rattle.tz_access.specs.Written.{before_stores, noted_count};
 
 use crate::changes::Stores;
 use crate::ending::{Close, Passage, changes_handler, ending_of};
@@ -12,7 +13,7 @@ use crate::exchange::{is_call, ran_by};
 use crate::it_rules::{ignores_condition, is_misplaced, is_passed_over};
 use crate::noting::pends_next;
 use std::marker::Model;
-use tz_access::Bus;
+use tz_access::{Bus, Written};
 use tz_decode::Decoded;
 use tz_excret::takes_first_uncounted;
 use tz_gate::secure_gateway;
@@ -124,7 +125,8 @@ impl Machine {
 
     /// Moves the IT state on past an instruction, which IT does by itself.
     pub(crate) fn pass(&mut self, insn: &Insn)
-        ensures { self.new ≡ past insn.now self.old }
+        ensures does { self.new ≡ past insn.now self.old }
+        ensures kept { self.new.bus.memory ≡ self.old.bus.memory }
     {
         match *insn {
             Insn::IfThen { .. } => {}
@@ -134,7 +136,8 @@ impl Machine {
 
     /// Goes on to the next instruction.
     fn go_next(&mut self, course: Course, code: &Code) -> Close
-        ensures { goes_next self.old course code.now ≡ record { state = self.new; ending = ending_of result None } }
+        ensures does { goes_next self.old course code.now ≡ record { state = self.new; ending = ending_of result None } }
+        ensures kept { self.new.bus.memory ≡ self.old.bus.memory }
     {
         self.core.registers.pc = next_of(self.core.registers.pc, code);
         ran_by(Cause::Went, course, code)
@@ -150,9 +153,12 @@ impl Machine {
         outcome: Outcome,
         stores: &mut Stores,
         noted: &mut Option<Handling>,
+        written: &mut Option<Written>,
     ) -> Close
         requires unnoted { noted.old ≡ None }
-        ensures { goes_on before.now insn.now self.old course code.now stores.old.items outcome ≡ record { state = self.new; stores = stores.new.items; ending = ending_of result noted.new } }
+        requires few { noted_count written.old ≤ 14 }
+        ensures does { goes_on before.now insn.now self.old course code.now stores.old.items outcome ≡ record { state = self.new; stores = stores.new.items; ending = ending_of result noted.new } }
+        ensures back { before_stores written.new self.new.bus.memory ≡ before_stores written.old self.old.bus.memory }
     {
         match outcome {
             Outcome::Next => {
@@ -171,9 +177,9 @@ impl Machine {
             }
             Outcome::Exchange { target, ns } => {
                 if is_call(insn) {
-                    return self.call(insn, course, code, target, stores, noted);
+                    return self.call(insn, course, code, target, stores, noted, written);
                 }
-                self.exchange(insn, before, course, code, target, ns, noted)
+                self.exchange(insn, before, course, code, target, ns, noted, written)
             }
         }
     }
@@ -188,19 +194,23 @@ impl Machine {
         outcome: Result<Outcome, Fault>,
         stores: &mut Stores,
         noted: &mut Option<Handling>,
+        written: &mut Option<Written>,
     ) -> Close
         requires unnoted { noted.old ≡ None }
-        ensures { concludes before.now insn.now self.old course code.now stores.old.items outcome ≡ record { state = self.new; stores = stores.new.items; ending = ending_of result noted.new } }
+        requires few { noted_count written.old ≤ 14 }
+        ensures does { concludes before.now insn.now self.old course code.now stores.old.items outcome ≡ record { state = self.new; stores = stores.new.items; ending = ending_of result noted.new } }
+        ensures back { before_stores written.new self.new.bus.memory ≡ before_stores written.old self.old.bus.memory }
     {
         match outcome {
-            Ok(outcome) => self.go_on(insn, before, course, code, outcome, stores, noted),
-            Err(fault) => self.fault(course, fault, noted),
+            Ok(outcome) => self.go_on(insn, before, course, code, outcome, stores, noted, written),
+            Err(fault) => self.fault(course, fault, noted, written),
         }
     }
 
     /// SG, reached from Non-secure state.
     fn run_gateway(&mut self, course: Course, code: &Code) -> Close
-        ensures { runs_gateway self.old course code.now ≡ record { state = self.new; stores = []; ending = ending_of result None } }
+        ensures does { runs_gateway self.old course code.now ≡ record { state = self.new; stores = []; ending = ending_of result None } }
+        ensures kept { self.new.bus.memory ≡ self.old.bus.memory }
     {
         secure_gateway(&mut self.core);
         ran_by(Cause::Went, course, code)
@@ -208,7 +218,8 @@ impl Machine {
 
     /// Skips an instruction whose condition fails.
     fn skip(&mut self, course: Course, code: &Code) -> Close
-        ensures { skips self.old course code.now ≡ record { state = self.new; stores = []; ending = ending_of result None } }
+        ensures does { skips self.old course code.now ≡ record { state = self.new; stores = []; ending = ending_of result None } }
+        ensures kept { self.new.bus.memory ≡ self.old.bus.memory }
     {
         self.core.registers.advance_it();
         self.go_next(course, code)
@@ -223,14 +234,17 @@ impl Machine {
         course: Course,
         stores: &mut Stores,
         noted: &mut Option<Handling>,
+        written: &mut Option<Written>,
     ) -> Close
         requires empty { array_vec_len stores.old ≡ 0 }
         requires unnoted { noted.old ≡ None }
-        ensures { executes self.old.core course code.now insn.now (executed self.old insn.now) ≡ record { state = self.new; stores = stores.new.items; ending = ending_of result noted.new } }
+        requires unwritten { noted_count written.old ≡ 0 }
+        ensures does { executes self.old.core course code.now insn.now (executed self.old insn.now) ≡ record { state = self.new; stores = stores.new.items; ending = ending_of result noted.new } }
+        ensures back { before_stores written.new self.new.bus.memory ≡ before_stores written.old self.old.bus.memory }
     {
         let before = self.core;
-        let outcome = self.execute(insn, stores);
-        self.conclude(insn, &before, course, code, outcome, stores, noted)
+        let outcome = self.execute(insn, stores, written);
+        self.conclude(insn, &before, course, code, outcome, stores, noted, written)
     }
 
     /// Runs an instruction, unless it may not stand where it does, or its condition fails.
@@ -241,18 +255,21 @@ impl Machine {
         course: Course,
         stores: &mut Stores,
         noted: &mut Option<Handling>,
+        written: &mut Option<Written>,
     ) -> Close
         requires empty { array_vec_len stores.old ≡ 0 }
         requires unnoted { noted.old ≡ None }
-        ensures { placed self.old course code.now insn.now ≡ record { state = self.new; stores = stores.new.items; ending = ending_of result noted.new } }
+        requires unwritten { noted_count written.old ≡ 0 }
+        ensures does { placed self.old course code.now insn.now ≡ record { state = self.new; stores = stores.new.items; ending = ending_of result noted.new } }
+        ensures back { before_stores written.new self.new.bus.memory ≡ before_stores written.old self.old.bus.memory }
     {
         if is_misplaced(insn, &self.core.registers) {
-            return self.fault(course, Fault::Undef, noted);
+            return self.fault(course, Fault::Undef, noted, written);
         }
         if is_passed_over(&self.core.registers) && !ignores_condition(self.core.run.side, insn) {
             return self.skip(course, code);
         }
-        self.run_here(insn, code, course, stores, noted)
+        self.run_here(insn, code, course, stores, noted, written)
     }
 
     /// Runs the instruction that a code means.
@@ -262,21 +279,24 @@ impl Machine {
         course: Course,
         stores: &mut Stores,
         noted: &mut Option<Handling>,
+        written: &mut Option<Written>,
     ) -> Close
         requires empty { array_vec_len stores.old ≡ 0 }
         requires unnoted { noted.old ≡ None }
-        ensures { decoded self.old course code.now (meaning_of code.now) ≡ record { state = self.new; stores = stores.new.items; ending = ending_of result noted.new } }
+        requires unwritten { noted_count written.old ≡ 0 }
+        ensures does { decoded self.old course code.now (meaning_of code.now) ≡ record { state = self.new; stores = stores.new.items; ending = ending_of result noted.new } }
+        ensures back { before_stores written.new self.new.bus.memory ≡ before_stores written.old self.old.bus.memory }
     {
         match self.kept.decode(code.first, second_of(code)) {
-            Decoded::One(insn, _) => self.run(&insn, code, course, stores, noted),
+            Decoded::One(insn, _) => self.run(&insn, code, course, stores, noted, written),
             Decoded::NoCoprocessor => {
                 if is_passed_over(&self.core.registers) {
                     self.skip(course, code)
                 } else {
-                    self.fault(course, Fault::NoCp, noted)
+                    self.fault(course, Fault::NoCp, noted, written)
                 }
             }
-            Decoded::Undefined(_) => self.fault(course, Fault::Undef, noted),
+            Decoded::Undefined(_) => self.fault(course, Fault::Undef, noted, written),
         }
     }
 
@@ -315,24 +335,37 @@ impl Machine {
     }
 
     /// Faults before anything is fetched, since T is 0.
-    fn fault_unready(&mut self, noted: &mut Option<Handling>) -> Close
+    fn fault_unready(
+        &mut self,
+        noted: &mut Option<Handling>,
+        written: &mut Option<Written>,
+    ) -> Close
         requires unnoted { noted.old ≡ None }
-        ensures { faulting self.old (course_in self.old (touches_secure self.old.core.run.side self.old)) (unready (touches_secure self.old.core.run.side self.old) self.old.core.run.side) ≡ record { state = self.new; stores = []; ending = ending_of result noted.new } }
+        requires unwritten { noted_count written.old ≡ 0 }
+        ensures does { faulting self.old (course_in self.old (touches_secure self.old.core.run.side self.old)) (unready (touches_secure self.old.core.run.side self.old) self.old.core.run.side) ≡ record { state = self.new; stores = []; ending = ending_of result noted.new } }
+        ensures back { before_stores written.new self.new.bus.memory ≡ before_stores written.old self.old.bus.memory }
     {
         let touched = self.touches_secure();
         let fault = self.unready(touched);
         let course = self.course(touched);
-        self.fault(course, fault, noted)
+        self.fault(course, fault, noted, written)
     }
 
     /// Runs an instruction; where T is 0 it faults before anything is fetched.
-    fn instruct(&mut self, stores: &mut Stores, noted: &mut Option<Handling>) -> Close
+    fn instruct(
+        &mut self,
+        stores: &mut Stores,
+        noted: &mut Option<Handling>,
+        written: &mut Option<Written>,
+    ) -> Close
         requires empty { array_vec_len stores.old ≡ 0 }
         requires unnoted { noted.old ≡ None }
-        ensures { instructs self.old ≡ record { state = self.new; stores = stores.new.items; ending = ending_of result noted.new } }
+        requires unwritten { noted_count written.old ≡ 0 }
+        ensures does { instructs self.old ≡ record { state = self.new; stores = stores.new.items; ending = ending_of result noted.new } }
+        ensures back { before_stores written.new self.new.bus.memory ≡ before_stores written.old self.old.bus.memory }
     {
         if !self.core.registers.t {
-            return self.fault_unready(noted);
+            return self.fault_unready(noted, written);
         }
         let fetcher = self.fetcher();
         let found = self.bus.fetch_told(self.core.registers.pc, &fetcher);
@@ -341,12 +374,12 @@ impl Machine {
             negative: fetcher.negative,
         };
         match found.answer {
-            Err(fault) => self.fault(course, fault, noted),
+            Err(fault) => self.fault(course, fault, noted, written),
             Ok(fetched) => {
                 if fetched.gateway {
                     self.run_gateway(course, &fetched.code)
                 } else {
-                    self.run_code(&fetched.code, course, stores, noted)
+                    self.run_code(&fetched.code, course, stores, noted, written)
                 }
             }
         }
@@ -365,7 +398,8 @@ impl Machine {
 
     /// Whether the core goes on; a sleep that ends is over then.
     fn rouse(&mut self) -> bool
-        ensures { by_sleep self.old.core.run.sleep self.old ≡ if result then instructs self.new else idles self.new }
+        ensures does { by_sleep self.old.core.run.sleep self.old ≡ if result then instructs self.new else idles self.new }
+        ensures kept { self.new.bus.memory ≡ self.old.bus.memory }
     {
         match self.core.run.sleep {
             Sleep::Awake => true,
@@ -390,68 +424,89 @@ impl Machine {
     }
 
     /// Goes on, or sleeps on, by what the core waits for.
-    fn go_by_sleep(&mut self, stores: &mut Stores, noted: &mut Option<Handling>) -> Close
+    fn go_by_sleep(
+        &mut self,
+        stores: &mut Stores,
+        noted: &mut Option<Handling>,
+        written: &mut Option<Written>,
+    ) -> Close
         requires empty { array_vec_len stores.old ≡ 0 }
         requires unnoted { noted.old ≡ None }
-        ensures { by_sleep self.old.core.run.sleep self.old ≡ record { state = self.new; stores = stores.new.items; ending = ending_of result noted.new } }
+        requires unwritten { noted_count written.old ≡ 0 }
+        ensures does { by_sleep self.old.core.run.sleep self.old ≡ record { state = self.new; stores = stores.new.items; ending = ending_of result noted.new } }
+        ensures back { before_stores written.new self.new.bus.memory ≡ before_stores written.old self.old.bus.memory }
     {
         if self.rouse() {
-            self.instruct(stores, noted)
+            self.instruct(stores, noted, written)
         } else {
             self.idle()
         }
     }
 
     /// Takes the exception that comes first before an instruction, which ends a sleep.
-    fn take(&mut self, noted: &mut Option<Handling>) -> Close
-        ensures { takes_exception self.old ≡ record { state = self.new; stores = []; ending = ending_of result noted.new } }
+    fn take(&mut self, noted: &mut Option<Handling>, written: &mut Option<Written>) -> Close
+        requires unwritten { noted_count written.old ≡ 0 }
+        ensures does { takes_exception self.old ≡ record { state = self.new; stores = []; ending = ending_of result noted.new } }
+        ensures back { before_stores written.new self.new.bus.memory ≡ before_stores written.old self.old.bus.memory }
     {
         let course = self.course(self.core.run.side == Side::Secure);
         let back = self.core.registers.pc;
         self.wake();
-        self.preempt(course, back, noted)
+        self.preempt(course, back, noted, written)
     }
 
     /// Makes one step after what it begins with, but for its report: notes the stores, and tells how it ended. Each of
     /// its two callers has a copy of its own, since what a call hands back and forth would cost each step some 50 instructions.
     #[inline(always)]
     #[tactic(auto, unfolding(tz_sem::specs::Step::ended))]
-    fn make_step(&mut self, stores: &mut Stores, noted: &mut Option<Handling>) -> Close
+    fn make_step(
+        &mut self,
+        stores: &mut Stores,
+        noted: &mut Option<Handling>,
+        written: &mut Option<Written>,
+    ) -> Close
         requires empty { array_vec_len stores.old ≡ 0 }
         requires unnoted { noted.old ≡ None }
-        ensures { ended self.old ≡ record { state = self.new; stores = stores.new.items; ending = ending_of result noted.new } }
+        requires unwritten { noted_count written.old ≡ 0 }
+        ensures does { ended self.old ≡ record { state = self.new; stores = stores.new.items; ending = ending_of result noted.new } }
+        ensures back { before_stores written.new self.new.bus.memory ≡ before_stores written.old self.old.bus.memory }
     {
         if self.core.run.locked {
             return self.lock(true);
         }
         if takes_first_uncounted(&self.core, &mut self.exceptions) {
-            return self.take(noted);
+            return self.take(noted, written);
         }
-        self.go_by_sleep(stores, noted)
+        self.go_by_sleep(stores, noted, written)
     }
 
     /// Makes one step with its report, and tells how it ended.
-    fn report_step(
+    pub(crate) fn report_step(
         &mut self,
         due: &[ScriptEvent],
         report: &mut Report,
         noted: &mut Option<Handling>,
+        written: &mut Option<Written>,
     ) -> Close
         requires unnoted { noted.old ≡ None }
+        requires unwritten { noted_count written.old ≡ 0 }
         ensures step { step self.old due.now ≡ record { state = self.new; report = report.new } }
         ensures ending { (ended (started self.old due.now)).ending ≡ ending_of result noted.new }
+        ensures back { before_stores written.new self.new.bus.memory ≡ before_stores written.old self.old.bus.memory }
     {
         let before = self.core.before();
         report.changes.clear();
         report.stores.clear();
         self.start(due);
-        let close = self.make_step(&mut report.stores, noted);
+        let close = self.make_step(&mut report.stores, noted, written);
         self.tell(&before, &close, report);
         close
     }
 
     /// Makes one step at which these events are due, and tells of it the way out of Secure state, and whether it was
-    /// exceptional. In `stores` are then those of its instruction, with those before a fault.
+    /// exceptional. In `stores` are then those of its instruction, with those before a fault. It is always inlined, since a
+    /// pair calls it twice a step, and the call would cost some 30 instructions.
+    #[inline(always)]
     pub fn step_way(&mut self, due: &[ScriptEvent], stores: &mut Stores) -> Passage
         ensures steps { self.new ≡ (step self.old due.now).state }
         ensures way { result.way ≡ (step self.old due.now).report.way }
@@ -462,7 +517,8 @@ impl Machine {
         stores.clear();
         self.start(due);
         let mut noted = None;
-        let close = self.make_step(stores, &mut noted);
+        let mut written = None;
+        let close = self.make_step(stores, &mut noted, &mut written);
         Passage {
             way: self.way(start, &close),
             exceptional: self.core.run.locked || changes_handler(close.cause),
@@ -477,7 +533,8 @@ impl Machine {
         ensures tells_way { TellsWay (record { state = self.new; report = report.new }) }
     {
         let mut noted = None;
-        self.report_step(due, report, &mut noted);
+        let mut written = None;
+        self.report_step(due, report, &mut noted, &mut written);
     }
 
     /// Makes one step at which these events are due, and tells in `report` what it did, and beside that what neither
@@ -491,7 +548,8 @@ impl Machine {
         let ticked_s = pends_next(&self.exceptions.timer(Side::Secure));
         let ticked_ns = pends_next(&self.exceptions.timer(Side::NonSecure));
         let mut noted = None;
-        let close = self.report_step(due, report, &mut noted);
+        let mut written = None;
+        let close = self.report_step(due, report, &mut noted, &mut written);
         Account {
             core,
             ticked_s,

@@ -1,6 +1,7 @@
 //! Exceptions of the machine: they are taken by a fault of an instruction or before one, and return.
 
-ghost use Rattle.std.specs.Prelude.{◌≡◌};
+ghost use Rattle.std.specs.Prelude.{◌≡◌, ◌≤◌};
+ghost use Rattle.tz_access.specs.Written.{before_stores, noted_count};
 ghost use Rattle.tz_table.specs.declared.units.Side.TheVariants.{Secure};
 ghost use Rattle.tz_state.specs.State.{is_privileged_in};
 ghost use Rattle.tz_sem.specs.Taking.{goes_on_at, passed_by};
@@ -8,7 +9,7 @@ ghost use Rattle.tz_sem.specs.Taking.{goes_on_at, passed_by};
 use crate::ending::Close;
 use crate::noting::{by_entry, by_value, note_fault};
 use crate::running::Machine;
-use tz_access::{Bus, BusFrames};
+use tz_access::{Bus, BusFrames, Written};
 use tz_excret::{Entered, Left, enter, leave, raise_fault};
 use tz_model::{Code, Fault, Side};
 use tz_regs::Core;
@@ -34,15 +35,20 @@ fn pass_by(core: &mut Core, fault: Fault)
     }
 }
 
-/// The bus as entries and returns reach it, with room for the stores of one.
-pub(crate) fn frames_over<'a>(bus: &'a mut Bus, core: &Core, negative: bool) -> BusFrames<'a>
+/// The bus as entries and returns reach it. What their stores overwrite is noted behind what those of the instruction did.
+pub(crate) fn frames_over<'a>(
+    bus: &'a mut Bus,
+    core: &Core,
+    negative: bool,
+    written: &'a mut Option<Written>,
+) -> BusFrames<'a>
     ensures { result ≡ record {
       bus = bus.entry;
       vtor_s = core.now.status.s.vtor;
       vtor_ns = core.now.status.ns.vtor;
       secure_privileged = is_privileged_in Secure core.now;
       negative = negative;
-      room = 40;
+      written = written.entry;
     } }
 {
     BusFrames {
@@ -51,7 +57,7 @@ pub(crate) fn frames_over<'a>(bus: &'a mut Bus, core: &Core, negative: bool) -> 
         vtor_ns: core.status.ns.vtor,
         secure_privileged: core.privileged(Side::Secure),
         negative,
-        room: 40,
+        written,
     }
 }
 
@@ -65,6 +71,7 @@ impl Machine {
     /// Locks the machine, by a fault or because it was locked.
     pub(crate) fn lock(&mut self, touched: bool) -> Close
         ensures state { self.new ≡ (locks self.old touched None).state }
+        ensures kept { self.new.bus.memory ≡ self.old.bus.memory }
         ensures close { ending_of result None ≡ (locks self.old touched None).ending }
     {
         self.core.run.locked = true;
@@ -78,6 +85,7 @@ impl Machine {
     /// Ends a step in which an exception was taken, which clears the monitor.
     fn end_taken(&mut self, touched: bool) -> Close
         ensures state { self.new ≡ (taken self.old touched None).state }
+        ensures kept { self.new.bus.memory ≡ self.old.bus.memory }
         ensures close { ending_of result None ≡ (taken self.old touched None).ending }
     {
         self.bus.monitor_clear();
@@ -95,11 +103,14 @@ impl Machine {
         course: Course,
         back: u32,
         noted: &mut Option<Handling>,
+        written: &mut Option<Written>,
     ) -> Close
-        ensures { preempted self.old course back ≡ record { state = self.new; ending = ending_of result noted.new } }
+        requires few { noted_count written.old ≤ 16 }
+        ensures does { preempted self.old course back ≡ record { state = self.new; ending = ending_of result noted.new } }
+        ensures back { before_stores written.new self.new.bus.memory ≡ before_stores written.old self.old.bus.memory }
     {
         let profile = self.bus.board().profile;
-        let mut frames = frames_over(&mut self.bus, &self.core, course.negative);
+        let mut frames = frames_over(&mut self.bus, &self.core, course.negative, written);
         match enter(
             &mut self.core,
             &mut self.exceptions,
@@ -126,16 +137,19 @@ impl Machine {
         course: Course,
         fault: Fault,
         noted: &mut Option<Handling>,
+        written: &mut Option<Written>,
     ) -> Close
         requires unnoted { noted.old ≡ None }
-        ensures { faults self.old course fault ≡ record { state = self.new; ending = ending_of result noted.new } }
+        requires few { noted_count written.old ≤ 16 }
+        ensures does { faults self.old course fault ≡ record { state = self.new; ending = ending_of result noted.new } }
+        ensures back { before_stores written.new self.new.bus.memory ≡ before_stores written.old self.old.bus.memory }
     {
         let back = goes_on_at(fault, self.core.registers.pc);
         let close = if raise_fault(&mut self.core, &mut self.exceptions, fault) {
             self.lock(course.touched)
         } else {
             pass_by(&mut self.core, fault);
-            self.preempt(course, back, noted)
+            self.preempt(course, back, noted, written)
         };
         note_fault(noted, fault);
         close
@@ -144,6 +158,7 @@ impl Machine {
     /// Ends a step in which an exception returned to the code that it had interrupted, which clears the monitor.
     fn end_resumed(&mut self, touched: bool, code: &Code) -> Close
         ensures state { self.new ≡ released self.old }
+        ensures kept { self.new.bus.memory ≡ self.old.bus.memory }
         ensures close { result ≡ record { touched = touched; cause = Resumed; ran = Some code.now } }
     {
         self.bus.monitor_clear();
@@ -162,11 +177,14 @@ impl Machine {
         code: &Code,
         value: u32,
         noted: &mut Option<Handling>,
+        written: &mut Option<Written>,
     ) -> Close
-        ensures { returns self.old course code.now value ≡ record { state = self.new; ending = ending_of result noted.new } }
+        requires few { noted_count written.old ≤ 16 }
+        ensures does { returns self.old course code.now value ≡ record { state = self.new; ending = ending_of result noted.new } }
+        ensures back { before_stores written.new self.new.bus.memory ≡ before_stores written.old self.old.bus.memory }
     {
         let profile = self.bus.board().profile;
-        let mut frames = frames_over(&mut self.bus, &self.core, course.negative);
+        let mut frames = frames_over(&mut self.bus, &self.core, course.negative, written);
         match leave(
             &mut self.core,
             &mut self.exceptions,

@@ -13,7 +13,6 @@ use Rattle.tz_state.specs.State.{State, map_of, side_of}
 use Rattle.tz_sem.specs.Step.{ended, started, step}
 use Rattle.tz_twin.specs.Seen.{Public, public_of, open_bytes, Seen, Hidden, Shown, seen}
 use Rattle.tz_twin.specs.Writing.{is_framed, is_exceptional, with_timers_of}
-use Rattle.tz_twin.proofs.Bytes.{and_first, and_second}
 use Rattle.tz_twin.proofs.Elsewhere.{writes_told}
 use Rattle.tz_twin.proofs.Split.{board_seen, board_seen-seen, sides_alike}
 use Rattle.tz_iso.specs.declared.marks.Marks.{Marks}

@@ -1,6 +1,6 @@
 //! Memory, by addresses.
 
-ghost use Rattle.std.specs.Prelude.{◌≡◌, ◌+◌, ◌<◌, ◌≤◌, true, false, IfOk, IfErr, OnOk, OnErr, MatchResult, length, map};
+ghost use Rattle.std.specs.Prelude.{◌≡◌, ◌+◌, ◌^◌, ◌<◌, ◌≤◌, true, false, IfOk, IfErr, OnOk, OnErr, MatchResult, length, map};
 ghost use Rattle.tz_table.specs.declared.units.Size.TheVariants.{Half};
 ghost use Rattle.tz_mem.specs.Blocks.{entries_of, region_of};
 ghost use Rattle.tz_mem.specs.Difference.{some_from, region_at, IsFilled};
@@ -9,14 +9,14 @@ ghost use Rattle.tz_state.specs.Access.{is_mapped, is_writable};
 ghost use Rattle.tz_model.specs.Board.{are_apart};
 ghost use Rattle.tz_state.specs.Difference.{byte_differs};
 ghost use Rattle.tz_state.specs.Memory as bytes;
-ghost use Rattle.tz_state.specs.Memory.{every, value_at, with_byte, with_value};
+ghost use Rattle.tz_state.specs.Memory.{byte_at, every, value_at, with_byte, with_value};
 ghost use Rattle.tz_state.specs.Zeros.{zero_entries, zero_memory};
 
 use crate::block::Block;
 use crate::code::code_at;
 use crate::difference::differ_in;
 use crate::error::{NotMapped, Refused};
-use crate::numbers::{put_all, put_byte, value_at, write_number};
+use crate::numbers::{know_byte, put_all, put_byte, put_bytes, value_at, write_number};
 use std::alloc::{AllocError, Global};
 use std::marker::Model;
 use tz_model::{Board, Region, Segment, Size};
@@ -143,6 +143,20 @@ impl Memory {
         ensures { self.new ≡ with_bytes self.old (bytes.with_bytes self.old.bytes segment.now.base segment.now.bytes) }
     {
         put_all(&mut self.blocks, segment.base, &segment.bytes);
+    }
+
+    /// Puts the low part of a number, of a size, at an address, in `rom` too. Bytes that no region holds are left out.
+    pub fn put(&mut self, addr: u32, size: Size, value: u32)
+        ensures { self.new ≡ with_bytes self.old (with_value self.old.bytes size addr value) }
+    {
+        put_bytes(&mut self.blocks, addr, size, value);
+    }
+
+    /// What stands at an address is a byte.
+    pub fn know_byte(&self, addr: u32)
+        ensures { byte_at self.now.bytes addr < 2 ^ 8 }
+    {
+        know_byte(&self.blocks, addr);
     }
 
     /// There is a byte at exactly the addresses of the regions.

@@ -8,7 +8,7 @@ ghost use Rattle.tz_mem.specs.Blocks.{region_of, memory_of, view_of, byte_in, mo
 ghost use Rattle.tz_mem.specs.Values.{with_bytes, IsRefusal};
 ghost use Rattle.tz_state.specs.Access.{is_mapped, is_writable, takes_writes};
 ghost use Rattle.tz_state.specs.Memory as map_bytes;
-ghost use Rattle.tz_state.specs.Memory.{every, value_at, with_byte, with_value};
+ghost use Rattle.tz_state.specs.Memory.{byte_at, every, value_at, with_byte, with_value};
 
 use crate::block::{Block, more_of, number_in, place_of, run_of};
 use crate::error::Refused;
@@ -24,6 +24,23 @@ pub fn byte_of(blocks: &[Block], addr: u32) -> Option<u8>
             Some(block.bytes[offset])
         }
         None => None,
+    }
+}
+
+/// A byte is below 2 to the 8th.
+fn know_small(byte: u8)
+    ensures { byte < 2 ^ 8 }
+{
+    let _known = byte;
+}
+
+/// What stands at an address is a byte.
+pub fn know_byte(blocks: &[Block], addr: u32)
+    ensures { byte_at (memory_of blocks.now) addr < 2 ^ 8 }
+{
+    match byte_of(blocks, addr) {
+        Some(byte) => know_small(byte),
+        None => {}
     }
 }
 
@@ -175,9 +192,9 @@ fn all_writable(blocks: &[Block], addr: u32, size: Size) -> bool
     }
 }
 
-/// Writes the low part of a number, of a size, byte by byte.
+/// Writes the low part of a number, of a size, byte by byte; those of addresses that no block holds are left out.
 #[tactic(auto, using(crate::proofs::Over::half_over, crate::proofs::Over::word_over))]
-fn put_bytes(blocks: &mut [Block], addr: u32, size: Size, value: u32)
+pub fn put_bytes(blocks: &mut [Block], addr: u32, size: Size, value: u32)
     ensures { view_of blocks.new ≡ with_bytes (view_of blocks.old) (with_value (memory_of blocks.old) size addr value) }
 {
     match size {

@@ -66,6 +66,14 @@ fn unset(count: u8) -> ArrayVec<Bounds, 16>
     regions
 }
 
+/// Makes regions as others are.
+fn copy_bounds(bounds: &mut ArrayVec<Bounds, 16>, other: &ArrayVec<Bounds, 16>)
+    ensures { bounds.new.items ≡ other.now.items }
+{
+    bounds.clear();
+    let _fits = bounds.try_extend_from_slice(other.as_slice());
+}
+
 impl Mpu {
     /// An MPU with so many regions, at most 16: off, with zeros in all registers.
     #[tactic(auto, unfolding(tz_state::specs::UnitRegisters::reset_mpu))]
@@ -262,6 +270,17 @@ impl Mpu {
         if let Some(register) = register_at(addr) {
             self.set(register, value);
         }
+    }
+
+    /// Makes the registers as those of another MPU are. The profile stays. No memory is taken.
+    pub fn copy_registers(&mut self, other: &Mpu)
+        ensures { self.new ≡ with_registers self.old other.now.mpu }
+    {
+        self.ctrl = other.ctrl;
+        self.rnr = other.rnr;
+        self.mair0 = other.mair0;
+        self.mair1 = other.mair1;
+        copy_bounds(&mut self.regions, &other.regions);
     }
 
     /// Whether the registers of two MPUs differ.

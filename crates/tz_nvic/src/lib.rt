@@ -7,6 +7,7 @@
 
 mod active;
 mod choice;
+mod copy;
 mod difference;
 mod due;
 mod exceptions;

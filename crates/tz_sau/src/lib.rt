@@ -7,6 +7,7 @@
 
 mod attribute;
 mod boot;
+mod copy;
 mod idau;
 mod registers;
 mod scan;

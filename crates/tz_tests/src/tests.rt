@@ -6,6 +6,7 @@ mod edges;
 mod encoding;
 mod failing;
 mod fields;
+mod histories;
 mod images;
 mod instructions;
 mod jobs;

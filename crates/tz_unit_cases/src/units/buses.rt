@@ -36,7 +36,7 @@ enum Step {
     Frame(FrameStep),
 }
 
-static STEPS: [(&str, Step); 25] = [
+static STEPS: [(&str, Step); 26] = [
     ("write", Step::Plain(PlainStep::Write)),
     ("read", Step::Plain(PlainStep::Read)),
     ("place", Step::Plain(PlainStep::Place)),
@@ -56,6 +56,7 @@ static STEPS: [(&str, Step); 25] = [
     ("check", Step::Access(AccessStep::Check)),
     ("store", Step::Access(AccessStep::Store)),
     ("load", Step::Access(AccessStep::Load)),
+    ("undo", Step::Access(AccessStep::Undo)),
     ("fetch", Step::Fetch(FetchStep::Fetch)),
     ("told", Step::Fetch(FetchStep::Told)),
     ("vector", Step::Frame(FrameStep::Vector)),

@@ -1,4 +1,4 @@
-use Rattle.std.proofs.Common.{◌<◌, ◌≤◌, ◌+◌, ◌-◌, ◌/◌, ◌^◌, ℕ, arith, length, get_or}
+use Rattle.std.proofs.Common.{◌<◌, ◌+◌, ◌-◌, ◌/◌, ◌^◌, arith, length, get_or}
 use Rattle.tz_board.specs.Script.{steps_of}
 use Rattle.tz_board.proofs.Halving.{all_above, all_below, halved, steps_of-at}
 use Rattle.tz_board.proofs.script.count_up_to.Goals as goal

@@ -1,14 +1,16 @@
 -- Each exit is its answer.
 use Rattle.std.proofs.Common.{refl, sym, arith, map, Global}
 use Rattle.std.specs.String.{string_bytes}
-use Rattle.tz_cli.specs.Commands.{Pair, Asm, Dis, ShowSaved, Resume, Gen, command_with}
+use Rattle.tz_cli.specs.Commands.{Pair, Asm, Dis, ShowSaved, Resume, Back, Gen, command_with}
 use Rattle.tz_cli.specs.StartWords.{start_in}
 use Rattle.tz_cli.specs.ShowWords.{saved_in}
 use Rattle.tz_cli.specs.Resume.{resume_in}
+use Rattle.tz_cli.specs.Back.{back_in}
 use Rattle.tz_cli.specs.Pair.{pair_in}
 use Rattle.tz_cli.specs.Asm.{asm_in}
 use Rattle.tz_cli.specs.Dis.{dis_in}
 use Rattle.tz_cli.proofs.Exits.{gains_nothing, answer_words, answer_memory, answer_command}
+use Rattle.tz_cli.proofs.Backs.{goes_near}
 use Rattle.tz_cli.proofs.program.answer.Goals as goal
 
 pub returns-in-Ok-None : goal.returns-in-Ok-None
@@ -46,6 +48,16 @@ pub returns-in-Resume : goal.returns-in-Resume
 returns-in-Resume g c =
     let says = rw c.in-Resume.is at (rw c.in-Ok-Some.field-0-is at c.in-Ok-Some.ensures) in
     answer_command _ _ (map (string_bytes {Z = Global}) c.args.words.now) (Resume (resume_in c.in-Resume.words)) refl refl (sym says) c.resume_answer.ensures
+
+pub back_answer-requires : goal.back_answer-requires
+back_answer-requires g c =
+    let says = rw c.in-Back.is at (rw c.in-Ok-Some.field-0-is at c.in-Ok-Some.ensures) in
+    goes_near (map (string_bytes {Z = Global}) c.args.words.now) (back_in c.in-Back.words) (sym says)
+
+pub returns-in-Back : goal.returns-in-Back
+returns-in-Back g c =
+    let says = rw c.in-Back.is at (rw c.in-Ok-Some.field-0-is at c.in-Ok-Some.ensures) in
+    answer_command _ _ (map (string_bytes {Z = Global}) c.args.words.now) (Back (back_in c.in-Back.words)) refl refl (sym says) c.back_answer.ensures
 
 pub returns-in-Gen : goal.returns-in-Gen
 returns-in-Gen g c =

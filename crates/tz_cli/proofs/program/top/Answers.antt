@@ -1,8 +1,10 @@
 -- Each clause is what the answer says.
-use Rattle.std.proofs.Common.{refl}
+use Rattle.std.proofs.Common.{refl, map, Global}
+use Rattle.std.specs.String.{string_bytes}
 use Rattle.tz_cli.proofs.Clauses.{usage_only, settled_stop, settled_task, unread_only, unwritten_only, cut_only, refused_only, memory_told, one_status, task_written, nothing_told, no_stop, quiet_else, front_written, room_suffices, sound_reads, trace_written, isolated_trace}
 use Rattle.tz_cli.proofs.PairClauses.{agreement_told, disagreement_told}
-use Rattle.tz_cli.proofs.RunClauses.{full_written, gates_written, none_unlisted, page_written, saved_written, state_written, lines_written, rest_written, summary_written}
+use Rattle.tz_cli.proofs.RunClauses.{full_written, gates_written, none_unlisted, page_written, saved_written, state_written, lines_written, rest_written, last_written, last_of_trace, summary_written}
+use Rattle.tz_cli.proofs.Backs.{goes_near}
 use Rattle.tz_cli.proofs.program.top.Goals as goal
 
 pub returns-clause-usage : goal.returns-clause-usage
@@ -88,6 +90,12 @@ returns-clause-resumed g c = lines_written _ _ c.answer.ensures
 
 pub returns-clause-continued : goal.returns-clause-continued
 returns-clause-continued g c = rest_written _ _ c.answer.ensures
+
+pub returns-clause-undone : goal.returns-clause-undone
+returns-clause-undone g c = last_written _ _ c.answer.ensures
+
+pub returns-clause-remade : goal.returns-clause-remade
+returns-clause-remade g c = λ done w says. last_of_trace _ _ c.answer.ensures done w says (goes_near (map (string_bytes {Z = Global}) c.args.words.now) w says)
 
 pub returns-clause-generated : goal.returns-clause-generated
 returns-clause-generated g c = summary_written _ _ c.answer.ensures

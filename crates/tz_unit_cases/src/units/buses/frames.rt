@@ -2,7 +2,7 @@
 
 use crate::units::asked::Asked;
 use crate::units::faults::tell_word;
-use tz_access::{Bus, BusFrames};
+use tz_access::{Bus, BusFrames, Written};
 use tz_frames::Frames;
 use tz_testing::Case;
 
@@ -14,18 +14,27 @@ pub enum FrameStep {
     FrameStore,
 }
 
+/// How many stores are taken still, of 40.
+fn room_after(written: &Option<Written>) -> i64 {
+    match written {
+        None => 40,
+        Some(list) => 40 - list.len() as i64,
+    }
+}
+
 /// Takes a step: `vector VTOR_S VTOR_NS NUMBER` of a side; `frame_load ADDRESS` of a side, a word of a frame;
 /// `secure_load ADDRESS`, a word that Secure code loads; and `frame_store ADDRESS NUMBER` of a side, and the room after
 /// it, of room for 40 stores.
 pub fn step(bus: &mut Bus, step: &FrameStep, asked: &Asked, case: &mut Case<'_>) {
     let [first, second, number, ..] = asked.numbers;
+    let mut written = Some(Written::new());
     let mut frames = BusFrames {
         bus,
         vtor_s: first,
         vtor_ns: second,
         secure_privileged: asked.secure_privileged,
         negative: false,
-        room: 40,
+        written: &mut written,
     };
     let answer = match (step, asked.count) {
         (FrameStep::Vector, 3) => frames.vector(case.half_in(number), asked.side),
@@ -39,7 +48,7 @@ pub fn step(bus: &mut Bus, step: &FrameStep, asked: &Asked, case: &mut Case<'_>)
         ) {
             Ok(()) => {
                 case.tell("stored, room ");
-                return case.tell_decimal(i64::from(frames.room));
+                return case.tell_decimal(room_after(frames.written));
             }
             Err(fault) => Err(fault),
         },

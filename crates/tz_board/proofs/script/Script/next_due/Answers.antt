@@ -1,4 +1,4 @@
-use Rattle.std.proofs.Common.{◌≡◌, ◌∙◌, ◌<◌, ◌≤◌, ℕ, ap, arith, get_or, length, subst, sym}
+use Rattle.std.proofs.Common.{◌≡◌, ◌∙◌, ◌<◌, ℕ, ap, arith, get_or, length, subst, sym}
 use Rattle.std.proofs.lemmas.Bool.{leb-true}
 use Rattle.tz_board.specs.Scripts.{due_at}
 use Rattle.tz_board.specs.Script.{all_timed}

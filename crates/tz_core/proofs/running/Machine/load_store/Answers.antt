@@ -3,5 +3,5 @@ use Rattle.std.proofs.lemmas.Grind.{common_steps}
 use Rattle.tz_core.proofs.running.Machine.load_store.Goals as goal
 
 -- The first call that the prover tries finds nothing here, after long: the one that does is named.
-pub returns : goal.returns
-returns c = grind (arith, common_steps)
+pub returns-clause-does : goal.returns-clause-does
+returns-clause-does c = grind (arith, common_steps)

@@ -4,15 +4,15 @@ use Rattle.tz_sem.specs.Step.{ended}
 use Rattle.tz_core.proofs.running.Machine.make_step.Goals as goal
 
 -- The call that closes it, by name: a body that is refused is then told without a search for what to offer.
-pub returns : goal.returns
+pub returns-clause-does : goal.returns-clause-does
 unfolding ended
-returns c = first_of (assumption, search (tests, rules))
+returns-clause-does c = first_of (assumption, search (tests, rules))
 
 -- The first call that the prover tries finds nothing here, after long: the one that does is named.
-pub returns-then-self : goal.returns-then-self
+pub returns-then-self-clause-does : goal.returns-then-self-clause-does
 unfolding ended
-returns-then-self c = grind (arith, common_steps)
+returns-then-self-clause-does c = grind (arith, common_steps)
 
-pub returns-then-takes_first_uncounted : goal.returns-then-takes_first_uncounted
+pub returns-then-takes_first_uncounted-clause-does : goal.returns-then-takes_first_uncounted-clause-does
 unfolding ended
-returns-then-takes_first_uncounted c = grind (arith, common_steps)
+returns-then-takes_first_uncounted-clause-does c = grind (arith, common_steps)

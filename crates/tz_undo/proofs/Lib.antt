@@ -1,0 +1,3 @@
+mod Ring
+mod Steps
+mod Backs
