@@ -1,7 +1,7 @@
 //! What is shown of a step under its line, and how a step goes out: its line, its events, and the rest, as puts of
 //! their own.
 
-ghost use Rattle.std.specs.Prelude.{◌≡◌, ◌≤◌, ◌+◌, ◌++◌, Err};
+ghost use Rattle.std.specs.Prelude.{◌≡◌, ◌≤◌, ◌+◌, ◌++◌, [], Err};
 ghost use Rattle.arrayvec.specs.ArrayString.{array_string_len};
 ghost use Rattle.tz_model.specs.Outside.{HasCause, Put};
 ghost use Rattle.tz_model.specs.declared.report.View.TheVariants.{All};
@@ -134,7 +134,11 @@ pub struct Texts {
 }
 
 impl Texts {
-    pub fn new() -> Texts {
+    /// Texts with nothing in them yet.
+    pub fn new() -> Texts
+        ensures line { result.line.bytes ≡ [] }
+        ensures text { result.text.bytes ≡ [] }
+    {
         Texts {
             line: Line::new(),
             text: Text::new(),
