@@ -8,6 +8,11 @@ use Rattle.tz_table.specs.Terms.{is_one, flags_of, imm12_of, imm5_of}
 use Rattle.tz_table.specs.Limits.{plain, can_add, can_add_constant, can_set, can_set_from, can_compare, can_saturate, can_extract, can_insert, can_clear}
 use Rattle.tz_table.specs.Table.{rows, refusals, decode_of}
 use Rattle.tz_table.proofs.Scans.{known_by}
+use Rattle.tz_decode.proofs.ClassLaws.{told}
+use Rattle.tz_decode.specs.DataClasses.{class_rows, class_of}
+use Rattle.tz_decode.specs.declared.classes.DataClass.{DataClass}
+use Rattle.tz_decode.specs.declared.classes.DataClass.TheVariants as classes
+use Rattle.tz_table.specs.declared.Decoded.{Decoded}
 use Rattle.tz_table.specs.declared.Decoded.TheVariants.{One, Undefined}
 use Rattle.tz_table.specs.declared.Width.TheVariants.{Wide}
 use Rattle.tz_table.specs.declared.Insn.TheVariants as insns
@@ -17,115 +22,19 @@ use Rattle.tz_table.specs.declared.Flags.TheVariants as flags
 
 -- ---- 11110.0
 
-pub constants_bic_imm_w : (f s : ℕ) → bits f 11 5 ≡ 30 → bits f 9 1 ≡ 0 → bits s 15 1 ≡ 0 → bits f 5 4 ≡ 1 → decode_of f s ≡ (if can_set_from (bits s 8 4) (bits f 0 4) (imm12_of f s) then One (insns.DataImm ops.Bic (flags_of (bits f 4 1)) (bits s 8 4) (bits f 0 4) (imm12_of f s)) Wide else Undefined Wide)
-unfolding rows decode_of
-constants_bic_imm_w f s h0 h1 h2 h3 = known_by refusals rows (first 11 5 30 ∷ first 9 1 0 ∷ second 15 1 0 ∷ first 5 4 1 ∷ []) ([]) f s (and_from _ _ (eq-eqb _ _ h0) (and_from _ _ (eq-eqb _ _ h1) (and_from _ _ (eq-eqb _ _ h2) (eq-eqb _ _ h3)))) refl
+-- what an operation of each class is with a constant
+abbrev pub constant_of : DataClass → ℕ → ℕ → Decoded
+constant_of (classes.Plain op) f s = if can_set_from (bits s 8 4) (bits f 0 4) (imm12_of f s) then One (insns.DataImm op (flags_of (bits f 4 1)) (bits s 8 4) (bits f 0 4) (imm12_of f s)) Wide else Undefined Wide
+constant_of (classes.Sum op) f s = if can_add_constant (bits s 8 4) (bits f 0 4) (imm12_of f s) then One (insns.DataImm op (flags_of (bits f 4 1)) (bits s 8 4) (bits f 0 4) (imm12_of f s)) Wide else Undefined Wide
+constant_of classes.Move f s = if can_set (bits s 8 4) (imm12_of f s) then One (insns.DataImm ops.Mov (flags_of (bits f 4 1)) (bits s 8 4) 0 (imm12_of f s)) Wide else Undefined Wide
+constant_of classes.MoveNot f s = if can_set (bits s 8 4) (imm12_of f s) then One (insns.DataImm ops.Mvn (flags_of (bits f 4 1)) (bits s 8 4) 0 (imm12_of f s)) Wide else Undefined Wide
+constant_of (classes.Test op) f s = if can_set (bits f 0 4) (imm12_of f s) then One (insns.DataImm op flags.Always 0 (bits f 0 4) (imm12_of f s)) Wide else Undefined Wide
+constant_of (classes.Comparison op) f s = if can_compare (bits f 0 4) (imm12_of f s) then One (insns.DataImm op flags.Always 0 (bits f 0 4) (imm12_of f s)) Wide else Undefined Wide
+constant_of classes.Undefined f s = Undefined Wide
 
-pub constants_adc_imm_w : (f s : ℕ) → bits f 11 5 ≡ 30 → bits f 9 1 ≡ 0 → bits s 15 1 ≡ 0 → bits f 5 4 ≡ 10 → decode_of f s ≡ (if can_set_from (bits s 8 4) (bits f 0 4) (imm12_of f s) then One (insns.DataImm ops.Adc (flags_of (bits f 4 1)) (bits s 8 4) (bits f 0 4) (imm12_of f s)) Wide else Undefined Wide)
-unfolding rows decode_of
-constants_adc_imm_w f s h0 h1 h2 h3 = known_by refusals rows (first 11 5 30 ∷ first 9 1 0 ∷ second 15 1 0 ∷ first 5 4 10 ∷ []) ([]) f s (and_from _ _ (eq-eqb _ _ h0) (and_from _ _ (eq-eqb _ _ h1) (and_from _ _ (eq-eqb _ _ h2) (eq-eqb _ _ h3)))) refl
-
-pub constants_sbc_imm_w : (f s : ℕ) → bits f 11 5 ≡ 30 → bits f 9 1 ≡ 0 → bits s 15 1 ≡ 0 → bits f 5 4 ≡ 11 → decode_of f s ≡ (if can_set_from (bits s 8 4) (bits f 0 4) (imm12_of f s) then One (insns.DataImm ops.Sbc (flags_of (bits f 4 1)) (bits s 8 4) (bits f 0 4) (imm12_of f s)) Wide else Undefined Wide)
-unfolding rows decode_of
-constants_sbc_imm_w f s h0 h1 h2 h3 = known_by refusals rows (first 11 5 30 ∷ first 9 1 0 ∷ second 15 1 0 ∷ first 5 4 11 ∷ []) ([]) f s (and_from _ _ (eq-eqb _ _ h0) (and_from _ _ (eq-eqb _ _ h1) (and_from _ _ (eq-eqb _ _ h2) (eq-eqb _ _ h3)))) refl
-
-pub constants_rsb_imm_w : (f s : ℕ) → bits f 11 5 ≡ 30 → bits f 9 1 ≡ 0 → bits s 15 1 ≡ 0 → bits f 5 4 ≡ 14 → decode_of f s ≡ (if can_set_from (bits s 8 4) (bits f 0 4) (imm12_of f s) then One (insns.DataImm ops.Rsb (flags_of (bits f 4 1)) (bits s 8 4) (bits f 0 4) (imm12_of f s)) Wide else Undefined Wide)
-unfolding rows decode_of
-constants_rsb_imm_w f s h0 h1 h2 h3 = known_by refusals rows (first 11 5 30 ∷ first 9 1 0 ∷ second 15 1 0 ∷ first 5 4 14 ∷ []) ([]) f s (and_from _ _ (eq-eqb _ _ h0) (and_from _ _ (eq-eqb _ _ h1) (and_from _ _ (eq-eqb _ _ h2) (eq-eqb _ _ h3)))) refl
-
-pub constants_other : (f s : ℕ) → bits f 11 5 ≡ 30 → bits f 9 1 ≡ 0 → bits s 15 1 ≡ 0 → bits f 5 4 ≢ 0 → bits f 5 4 ≢ 1 → bits f 5 4 ≢ 2 → bits f 5 4 ≢ 3 → bits f 5 4 ≢ 4 → bits f 5 4 ≢ 8 → bits f 5 4 ≢ 10 → bits f 5 4 ≢ 11 → bits f 5 4 ≢ 13 → bits f 5 4 ≢ 14 → decode_of f s ≡ Undefined Wide
-unfolding rows decode_of
-constants_other f s h0 h1 h2 h3 h4 h5 h6 h7 h8 h9 h10 h11 h12 = known_by refusals rows (first 11 5 30 ∷ first 9 1 0 ∷ second 15 1 0 ∷ []) ((first 5 4 0 ∷ []) ∷ (first 5 4 1 ∷ []) ∷ (first 5 4 2 ∷ []) ∷ (first 5 4 3 ∷ []) ∷ (first 5 4 4 ∷ []) ∷ (first 5 4 8 ∷ []) ∷ (first 5 4 10 ∷ []) ∷ (first 5 4 11 ∷ []) ∷ (first 5 4 13 ∷ []) ∷ (first 5 4 14 ∷ []) ∷ []) f s (and_from _ _ (eq-eqb _ _ h0) (and_from _ _ (eq-eqb _ _ h1) (eq-eqb _ _ h2))) (or_from _ _ (ne_eqb _ _ h3) (or_from _ _ (ne_eqb _ _ h4) (or_from _ _ (ne_eqb _ _ h5) (or_from _ _ (ne_eqb _ _ h6) (or_from _ _ (ne_eqb _ _ h7) (or_from _ _ (ne_eqb _ _ h8) (or_from _ _ (ne_eqb _ _ h9) (or_from _ _ (ne_eqb _ _ h10) (or_from _ _ (ne_eqb _ _ h11) (ne_eqb _ _ h12))))))))))
-
-pub ruleset constants = (constants_bic_imm_w, constants_adc_imm_w, constants_sbc_imm_w, constants_rsb_imm_w, constants_other)
-
--- ---- and and tst
-
-pub and_constant_and_imm_w : (f s : ℕ) → bits f 11 5 ≡ 30 → bits f 9 1 ≡ 0 → bits s 15 1 ≡ 0 → bits f 5 4 ≡ 0 → bits s 8 4 ≢ 15 → decode_of f s ≡ (if can_set_from (bits s 8 4) (bits f 0 4) (imm12_of f s) then One (insns.DataImm ops.And (flags_of (bits f 4 1)) (bits s 8 4) (bits f 0 4) (imm12_of f s)) Wide else Undefined Wide)
-unfolding rows decode_of
-and_constant_and_imm_w f s h0 h1 h2 h3 h4 = known_by refusals rows (first 11 5 30 ∷ first 9 1 0 ∷ second 15 1 0 ∷ first 5 4 0 ∷ []) ((second 8 4 15 ∷ []) ∷ []) f s (and_from _ _ (eq-eqb _ _ h0) (and_from _ _ (eq-eqb _ _ h1) (and_from _ _ (eq-eqb _ _ h2) (eq-eqb _ _ h3)))) (ne_eqb _ _ h4)
-
-pub and_constant_none : (f s : ℕ) → bits f 11 5 ≡ 30 → bits f 9 1 ≡ 0 → bits s 15 1 ≡ 0 → bits f 5 4 ≡ 0 → bits s 8 4 ≡ 15 → bits f 4 1 ≡ 0 → decode_of f s ≡ Undefined Wide
-unfolding rows decode_of
-and_constant_none f s h0 h1 h2 h3 h4 h5 = known_by refusals rows (first 11 5 30 ∷ first 9 1 0 ∷ second 15 1 0 ∷ first 5 4 0 ∷ second 8 4 15 ∷ first 4 1 0 ∷ []) ([]) f s (and_from _ _ (eq-eqb _ _ h0) (and_from _ _ (eq-eqb _ _ h1) (and_from _ _ (eq-eqb _ _ h2) (and_from _ _ (eq-eqb _ _ h3) (and_from _ _ (eq-eqb _ _ h4) (eq-eqb _ _ h5)))))) refl
-
-pub and_constant_tst_imm_w : (f s : ℕ) → bits f 11 5 ≡ 30 → bits f 9 1 ≡ 0 → bits s 15 1 ≡ 0 → bits f 5 4 ≡ 0 → bits s 8 4 ≡ 15 → bits f 4 1 ≡ 1 → decode_of f s ≡ (if can_set (bits f 0 4) (imm12_of f s) then One (insns.DataImm ops.Tst flags.Always 0 (bits f 0 4) (imm12_of f s)) Wide else Undefined Wide)
-unfolding rows decode_of
-and_constant_tst_imm_w f s h0 h1 h2 h3 h4 h5 = known_by refusals rows (first 11 5 30 ∷ first 9 1 0 ∷ second 15 1 0 ∷ first 5 4 0 ∷ second 8 4 15 ∷ first 4 1 1 ∷ []) ([]) f s (and_from _ _ (eq-eqb _ _ h0) (and_from _ _ (eq-eqb _ _ h1) (and_from _ _ (eq-eqb _ _ h2) (and_from _ _ (eq-eqb _ _ h3) (and_from _ _ (eq-eqb _ _ h4) (eq-eqb _ _ h5)))))) refl
-
-pub ruleset and_constant = (and_constant_and_imm_w, and_constant_none, and_constant_tst_imm_w)
-
--- ---- eor and teq
-
-pub exclusive_or_constant_eor_imm_w : (f s : ℕ) → bits f 11 5 ≡ 30 → bits f 9 1 ≡ 0 → bits s 15 1 ≡ 0 → bits f 5 4 ≡ 4 → bits s 8 4 ≢ 15 → decode_of f s ≡ (if can_set_from (bits s 8 4) (bits f 0 4) (imm12_of f s) then One (insns.DataImm ops.Eor (flags_of (bits f 4 1)) (bits s 8 4) (bits f 0 4) (imm12_of f s)) Wide else Undefined Wide)
-unfolding rows decode_of
-exclusive_or_constant_eor_imm_w f s h0 h1 h2 h3 h4 = known_by refusals rows (first 11 5 30 ∷ first 9 1 0 ∷ second 15 1 0 ∷ first 5 4 4 ∷ []) ((second 8 4 15 ∷ []) ∷ []) f s (and_from _ _ (eq-eqb _ _ h0) (and_from _ _ (eq-eqb _ _ h1) (and_from _ _ (eq-eqb _ _ h2) (eq-eqb _ _ h3)))) (ne_eqb _ _ h4)
-
-pub exclusive_or_constant_none : (f s : ℕ) → bits f 11 5 ≡ 30 → bits f 9 1 ≡ 0 → bits s 15 1 ≡ 0 → bits f 5 4 ≡ 4 → bits s 8 4 ≡ 15 → bits f 4 1 ≡ 0 → decode_of f s ≡ Undefined Wide
-unfolding rows decode_of
-exclusive_or_constant_none f s h0 h1 h2 h3 h4 h5 = known_by refusals rows (first 11 5 30 ∷ first 9 1 0 ∷ second 15 1 0 ∷ first 5 4 4 ∷ second 8 4 15 ∷ first 4 1 0 ∷ []) ([]) f s (and_from _ _ (eq-eqb _ _ h0) (and_from _ _ (eq-eqb _ _ h1) (and_from _ _ (eq-eqb _ _ h2) (and_from _ _ (eq-eqb _ _ h3) (and_from _ _ (eq-eqb _ _ h4) (eq-eqb _ _ h5)))))) refl
-
-pub exclusive_or_constant_teq_imm_w : (f s : ℕ) → bits f 11 5 ≡ 30 → bits f 9 1 ≡ 0 → bits s 15 1 ≡ 0 → bits f 5 4 ≡ 4 → bits s 8 4 ≡ 15 → bits f 4 1 ≡ 1 → decode_of f s ≡ (if can_set (bits f 0 4) (imm12_of f s) then One (insns.DataImm ops.Teq flags.Always 0 (bits f 0 4) (imm12_of f s)) Wide else Undefined Wide)
-unfolding rows decode_of
-exclusive_or_constant_teq_imm_w f s h0 h1 h2 h3 h4 h5 = known_by refusals rows (first 11 5 30 ∷ first 9 1 0 ∷ second 15 1 0 ∷ first 5 4 4 ∷ second 8 4 15 ∷ first 4 1 1 ∷ []) ([]) f s (and_from _ _ (eq-eqb _ _ h0) (and_from _ _ (eq-eqb _ _ h1) (and_from _ _ (eq-eqb _ _ h2) (and_from _ _ (eq-eqb _ _ h3) (and_from _ _ (eq-eqb _ _ h4) (eq-eqb _ _ h5)))))) refl
-
-pub ruleset exclusive_or_constant = (exclusive_or_constant_eor_imm_w, exclusive_or_constant_none, exclusive_or_constant_teq_imm_w)
-
--- ---- add and cmn
-
-pub add_constant_add_imm_w : (f s : ℕ) → bits f 11 5 ≡ 30 → bits f 9 1 ≡ 0 → bits s 15 1 ≡ 0 → bits f 5 4 ≡ 8 → bits s 8 4 ≢ 15 → decode_of f s ≡ (if can_add_constant (bits s 8 4) (bits f 0 4) (imm12_of f s) then One (insns.DataImm ops.Add (flags_of (bits f 4 1)) (bits s 8 4) (bits f 0 4) (imm12_of f s)) Wide else Undefined Wide)
-unfolding rows decode_of
-add_constant_add_imm_w f s h0 h1 h2 h3 h4 = known_by refusals rows (first 11 5 30 ∷ first 9 1 0 ∷ second 15 1 0 ∷ first 5 4 8 ∷ []) ((second 8 4 15 ∷ []) ∷ []) f s (and_from _ _ (eq-eqb _ _ h0) (and_from _ _ (eq-eqb _ _ h1) (and_from _ _ (eq-eqb _ _ h2) (eq-eqb _ _ h3)))) (ne_eqb _ _ h4)
-
-pub add_constant_none : (f s : ℕ) → bits f 11 5 ≡ 30 → bits f 9 1 ≡ 0 → bits s 15 1 ≡ 0 → bits f 5 4 ≡ 8 → bits s 8 4 ≡ 15 → bits f 4 1 ≡ 0 → decode_of f s ≡ Undefined Wide
-unfolding rows decode_of
-add_constant_none f s h0 h1 h2 h3 h4 h5 = known_by refusals rows (first 11 5 30 ∷ first 9 1 0 ∷ second 15 1 0 ∷ first 5 4 8 ∷ second 8 4 15 ∷ first 4 1 0 ∷ []) ([]) f s (and_from _ _ (eq-eqb _ _ h0) (and_from _ _ (eq-eqb _ _ h1) (and_from _ _ (eq-eqb _ _ h2) (and_from _ _ (eq-eqb _ _ h3) (and_from _ _ (eq-eqb _ _ h4) (eq-eqb _ _ h5)))))) refl
-
-pub add_constant_cmn_imm_w : (f s : ℕ) → bits f 11 5 ≡ 30 → bits f 9 1 ≡ 0 → bits s 15 1 ≡ 0 → bits f 5 4 ≡ 8 → bits s 8 4 ≡ 15 → bits f 4 1 ≡ 1 → decode_of f s ≡ (if can_compare (bits f 0 4) (imm12_of f s) then One (insns.DataImm ops.Cmn flags.Always 0 (bits f 0 4) (imm12_of f s)) Wide else Undefined Wide)
-unfolding rows decode_of
-add_constant_cmn_imm_w f s h0 h1 h2 h3 h4 h5 = known_by refusals rows (first 11 5 30 ∷ first 9 1 0 ∷ second 15 1 0 ∷ first 5 4 8 ∷ second 8 4 15 ∷ first 4 1 1 ∷ []) ([]) f s (and_from _ _ (eq-eqb _ _ h0) (and_from _ _ (eq-eqb _ _ h1) (and_from _ _ (eq-eqb _ _ h2) (and_from _ _ (eq-eqb _ _ h3) (and_from _ _ (eq-eqb _ _ h4) (eq-eqb _ _ h5)))))) refl
-
-pub ruleset add_constant = (add_constant_add_imm_w, add_constant_none, add_constant_cmn_imm_w)
-
--- ---- sub and cmp
-
-pub subtract_constant_sub_imm_w : (f s : ℕ) → bits f 11 5 ≡ 30 → bits f 9 1 ≡ 0 → bits s 15 1 ≡ 0 → bits f 5 4 ≡ 13 → bits s 8 4 ≢ 15 → decode_of f s ≡ (if can_add_constant (bits s 8 4) (bits f 0 4) (imm12_of f s) then One (insns.DataImm ops.Sub (flags_of (bits f 4 1)) (bits s 8 4) (bits f 0 4) (imm12_of f s)) Wide else Undefined Wide)
-unfolding rows decode_of
-subtract_constant_sub_imm_w f s h0 h1 h2 h3 h4 = known_by refusals rows (first 11 5 30 ∷ first 9 1 0 ∷ second 15 1 0 ∷ first 5 4 13 ∷ []) ((second 8 4 15 ∷ []) ∷ []) f s (and_from _ _ (eq-eqb _ _ h0) (and_from _ _ (eq-eqb _ _ h1) (and_from _ _ (eq-eqb _ _ h2) (eq-eqb _ _ h3)))) (ne_eqb _ _ h4)
-
-pub subtract_constant_none : (f s : ℕ) → bits f 11 5 ≡ 30 → bits f 9 1 ≡ 0 → bits s 15 1 ≡ 0 → bits f 5 4 ≡ 13 → bits s 8 4 ≡ 15 → bits f 4 1 ≡ 0 → decode_of f s ≡ Undefined Wide
-unfolding rows decode_of
-subtract_constant_none f s h0 h1 h2 h3 h4 h5 = known_by refusals rows (first 11 5 30 ∷ first 9 1 0 ∷ second 15 1 0 ∷ first 5 4 13 ∷ second 8 4 15 ∷ first 4 1 0 ∷ []) ([]) f s (and_from _ _ (eq-eqb _ _ h0) (and_from _ _ (eq-eqb _ _ h1) (and_from _ _ (eq-eqb _ _ h2) (and_from _ _ (eq-eqb _ _ h3) (and_from _ _ (eq-eqb _ _ h4) (eq-eqb _ _ h5)))))) refl
-
-pub subtract_constant_cmp_imm_w : (f s : ℕ) → bits f 11 5 ≡ 30 → bits f 9 1 ≡ 0 → bits s 15 1 ≡ 0 → bits f 5 4 ≡ 13 → bits s 8 4 ≡ 15 → bits f 4 1 ≡ 1 → decode_of f s ≡ (if can_compare (bits f 0 4) (imm12_of f s) then One (insns.DataImm ops.Cmp flags.Always 0 (bits f 0 4) (imm12_of f s)) Wide else Undefined Wide)
-unfolding rows decode_of
-subtract_constant_cmp_imm_w f s h0 h1 h2 h3 h4 h5 = known_by refusals rows (first 11 5 30 ∷ first 9 1 0 ∷ second 15 1 0 ∷ first 5 4 13 ∷ second 8 4 15 ∷ first 4 1 1 ∷ []) ([]) f s (and_from _ _ (eq-eqb _ _ h0) (and_from _ _ (eq-eqb _ _ h1) (and_from _ _ (eq-eqb _ _ h2) (and_from _ _ (eq-eqb _ _ h3) (and_from _ _ (eq-eqb _ _ h4) (eq-eqb _ _ h5)))))) refl
-
-pub ruleset subtract_constant = (subtract_constant_sub_imm_w, subtract_constant_none, subtract_constant_cmp_imm_w)
-
--- ---- orr and mov
-
-pub or_constant_orr_imm_w : (f s : ℕ) → bits f 11 5 ≡ 30 → bits f 9 1 ≡ 0 → bits s 15 1 ≡ 0 → bits f 5 4 ≡ 2 → bits f 0 4 ≢ 15 → decode_of f s ≡ (if can_set_from (bits s 8 4) (bits f 0 4) (imm12_of f s) then One (insns.DataImm ops.Orr (flags_of (bits f 4 1)) (bits s 8 4) (bits f 0 4) (imm12_of f s)) Wide else Undefined Wide)
-unfolding rows decode_of
-or_constant_orr_imm_w f s h0 h1 h2 h3 h4 = known_by refusals rows (first 11 5 30 ∷ first 9 1 0 ∷ second 15 1 0 ∷ first 5 4 2 ∷ []) ((first 0 4 15 ∷ []) ∷ []) f s (and_from _ _ (eq-eqb _ _ h0) (and_from _ _ (eq-eqb _ _ h1) (and_from _ _ (eq-eqb _ _ h2) (eq-eqb _ _ h3)))) (ne_eqb _ _ h4)
-
-pub or_constant_mov_imm_w : (f s : ℕ) → bits f 11 5 ≡ 30 → bits f 9 1 ≡ 0 → bits s 15 1 ≡ 0 → bits f 5 4 ≡ 2 → bits f 0 4 ≡ 15 → decode_of f s ≡ (if can_set (bits s 8 4) (imm12_of f s) then One (insns.DataImm ops.Mov (flags_of (bits f 4 1)) (bits s 8 4) 0 (imm12_of f s)) Wide else Undefined Wide)
-unfolding rows decode_of
-or_constant_mov_imm_w f s h0 h1 h2 h3 h4 = known_by refusals rows (first 11 5 30 ∷ first 9 1 0 ∷ second 15 1 0 ∷ first 5 4 2 ∷ first 0 4 15 ∷ []) ([]) f s (and_from _ _ (eq-eqb _ _ h0) (and_from _ _ (eq-eqb _ _ h1) (and_from _ _ (eq-eqb _ _ h2) (and_from _ _ (eq-eqb _ _ h3) (eq-eqb _ _ h4))))) refl
-
-pub ruleset or_constant = (or_constant_orr_imm_w, or_constant_mov_imm_w)
-
--- ---- orn and mvn
-
-pub or_not_constant_orn_imm_w : (f s : ℕ) → bits f 11 5 ≡ 30 → bits f 9 1 ≡ 0 → bits s 15 1 ≡ 0 → bits f 5 4 ≡ 3 → bits f 0 4 ≢ 15 → decode_of f s ≡ (if can_set_from (bits s 8 4) (bits f 0 4) (imm12_of f s) then One (insns.DataImm ops.Orn (flags_of (bits f 4 1)) (bits s 8 4) (bits f 0 4) (imm12_of f s)) Wide else Undefined Wide)
-unfolding rows decode_of
-or_not_constant_orn_imm_w f s h0 h1 h2 h3 h4 = known_by refusals rows (first 11 5 30 ∷ first 9 1 0 ∷ second 15 1 0 ∷ first 5 4 3 ∷ []) ((first 0 4 15 ∷ []) ∷ []) f s (and_from _ _ (eq-eqb _ _ h0) (and_from _ _ (eq-eqb _ _ h1) (and_from _ _ (eq-eqb _ _ h2) (eq-eqb _ _ h3)))) (ne_eqb _ _ h4)
-
-pub or_not_constant_mvn_imm_w : (f s : ℕ) → bits f 11 5 ≡ 30 → bits f 9 1 ≡ 0 → bits s 15 1 ≡ 0 → bits f 5 4 ≡ 3 → bits f 0 4 ≡ 15 → decode_of f s ≡ (if can_set (bits s 8 4) (imm12_of f s) then One (insns.DataImm ops.Mvn (flags_of (bits f 4 1)) (bits s 8 4) 0 (imm12_of f s)) Wide else Undefined Wide)
-unfolding rows decode_of
-or_not_constant_mvn_imm_w f s h0 h1 h2 h3 h4 = known_by refusals rows (first 11 5 30 ∷ first 9 1 0 ∷ second 15 1 0 ∷ first 5 4 3 ∷ first 0 4 15 ∷ []) ([]) f s (and_from _ _ (eq-eqb _ _ h0) (and_from _ _ (eq-eqb _ _ h1) (and_from _ _ (eq-eqb _ _ h2) (and_from _ _ (eq-eqb _ _ h3) (eq-eqb _ _ h4))))) refl
-
-pub ruleset or_not_constant = (or_not_constant_orn_imm_w, or_not_constant_mvn_imm_w)
+pub constants : (class : DataClass) (f s : ℕ) → bits f 11 5 ≡ 30 → bits f 9 1 ≡ 0 → bits s 15 1 ≡ 0 → class ≡ class_of (bits f 5 4) f s → constant_of class f s ≡ decode_of f s
+unfolding rows class_rows
+constants class f s h0 h1 h2 = told (first 11 5 30 ∷ first 9 1 0 ∷ second 15 1 0 ∷ []) constant_of class f s (and_from _ _ (eq-eqb _ _ h0) (and_from _ _ (eq-eqb _ _ h1) (eq-eqb _ _ h2))) (refl, (refl, (refl, (refl, (refl, (refl, (refl, (refl, (refl, (refl, (refl, (refl, (refl, (refl, (refl, (refl, (refl, (refl, (refl, (refl, refl))))))))))))))))))))
 
 -- ---- 11110.1
 

@@ -1,6 +1,7 @@
 pub mod Zeros
 pub mod NarrowLaws
 pub mod MultipleLaws
+pub mod ClassLaws
 pub mod RegisterLaws
 pub mod ConstantLaws
 pub mod BranchLaws

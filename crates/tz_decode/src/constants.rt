@@ -11,6 +11,7 @@ ghost use Rattle.tz_table.specs.declared.Flags.TheVariants as flags;
 ghost use Rattle.tz_table.specs.declared.Insn.TheVariants as insns;
 ghost use Rattle.tz_table.specs.declared.Width.TheVariants.{Wide};
 
+use crate::classes::{DataClass, data_class};
 use crate::fields::{field, flags, undefined, wide_if};
 use tz_table::limits::{
     can_add, can_add_constant, can_clear, can_compare, can_extract, can_insert, can_saturate,
@@ -105,109 +106,18 @@ fn compared(op: DataOp, first: u16, second: u16) -> Decoded
 }
 
 /// The codes 11110.0 with 0 in the second halfword.
-#[tactic(auto, using(crate::proofs::ConstantLaws::constants))]
 pub fn constants(first: u16, second: u16) -> Decoded
     requires { (bits first 11 5 ≡ 30) × (bits first 9 1 ≡ 0) × (bits second 15 1 ≡ 0) }
     ensures { result ≡ decode_of first second }
 {
-    match field(first, 5, 4) {
-        0 => and_constant(first, second),
-        1 => of_two(DataOp::Bic, first, second),
-        2 => or_constant(first, second),
-        3 => or_not_constant(first, second),
-        4 => exclusive_or_constant(first, second),
-        8 => add_constant(first, second),
-        10 => of_two(DataOp::Adc, first, second),
-        11 => of_two(DataOp::Sbc, first, second),
-        13 => subtract_constant(first, second),
-        14 => of_two(DataOp::Rsb, first, second),
-        _ => undefined(),
-    }
-}
-
-/// AND and TST.
-#[tactic(auto, using(crate::proofs::ConstantLaws::and_constant))]
-fn and_constant(first: u16, second: u16) -> Decoded
-    requires { (bits first 11 5 ≡ 30) × (bits first 9 1 ≡ 0) × (bits second 15 1 ≡ 0) × (bits first 5 4 ≡ 0) }
-    ensures { result ≡ decode_of first second }
-{
-    if field(second, 8, 4) != 15 {
-        of_two(DataOp::And, first, second)
-    } else if field(first, 4, 1) == 0 {
-        undefined()
-    } else {
-        tested(DataOp::Tst, first, second)
-    }
-}
-
-/// EOR and TEQ.
-#[tactic(auto, using(crate::proofs::ConstantLaws::exclusive_or_constant))]
-fn exclusive_or_constant(first: u16, second: u16) -> Decoded
-    requires { (bits first 11 5 ≡ 30) × (bits first 9 1 ≡ 0) × (bits second 15 1 ≡ 0) × (bits first 5 4 ≡ 4) }
-    ensures { result ≡ decode_of first second }
-{
-    if field(second, 8, 4) != 15 {
-        of_two(DataOp::Eor, first, second)
-    } else if field(first, 4, 1) == 0 {
-        undefined()
-    } else {
-        tested(DataOp::Teq, first, second)
-    }
-}
-
-/// ADD and CMN.
-#[tactic(auto, using(crate::proofs::ConstantLaws::add_constant))]
-fn add_constant(first: u16, second: u16) -> Decoded
-    requires { (bits first 11 5 ≡ 30) × (bits first 9 1 ≡ 0) × (bits second 15 1 ≡ 0) × (bits first 5 4 ≡ 8) }
-    ensures { result ≡ decode_of first second }
-{
-    if field(second, 8, 4) != 15 {
-        sum(DataOp::Add, first, second)
-    } else if field(first, 4, 1) == 0 {
-        undefined()
-    } else {
-        compared(DataOp::Cmn, first, second)
-    }
-}
-
-/// SUB and CMP.
-#[tactic(auto, using(crate::proofs::ConstantLaws::subtract_constant))]
-fn subtract_constant(first: u16, second: u16) -> Decoded
-    requires { (bits first 11 5 ≡ 30) × (bits first 9 1 ≡ 0) × (bits second 15 1 ≡ 0) × (bits first 5 4 ≡ 13) }
-    ensures { result ≡ decode_of first second }
-{
-    if field(second, 8, 4) != 15 {
-        sum(DataOp::Sub, first, second)
-    } else if field(first, 4, 1) == 0 {
-        undefined()
-    } else {
-        compared(DataOp::Cmp, first, second)
-    }
-}
-
-/// ORR and MOV.
-#[tactic(auto, using(crate::proofs::ConstantLaws::or_constant))]
-fn or_constant(first: u16, second: u16) -> Decoded
-    requires { (bits first 11 5 ≡ 30) × (bits first 9 1 ≡ 0) × (bits second 15 1 ≡ 0) × (bits first 5 4 ≡ 2) }
-    ensures { result ≡ decode_of first second }
-{
-    if field(first, 0, 4) != 15 {
-        of_two(DataOp::Orr, first, second)
-    } else {
-        moved(DataOp::Mov, first, second)
-    }
-}
-
-/// ORN and MVN.
-#[tactic(auto, using(crate::proofs::ConstantLaws::or_not_constant))]
-fn or_not_constant(first: u16, second: u16) -> Decoded
-    requires { (bits first 11 5 ≡ 30) × (bits first 9 1 ≡ 0) × (bits second 15 1 ≡ 0) × (bits first 5 4 ≡ 3) }
-    ensures { result ≡ decode_of first second }
-{
-    if field(first, 0, 4) != 15 {
-        of_two(DataOp::Orn, first, second)
-    } else {
-        moved(DataOp::Mvn, first, second)
+    match data_class(first, second) {
+        DataClass::Plain(op) => of_two(op, first, second),
+        DataClass::Sum(op) => sum(op, first, second),
+        DataClass::Move => moved(DataOp::Mov, first, second),
+        DataClass::MoveNot => moved(DataOp::Mvn, first, second),
+        DataClass::Test(op) => tested(op, first, second),
+        DataClass::Comparison(op) => compared(op, first, second),
+        DataClass::Undefined => undefined(),
     }
 }
 

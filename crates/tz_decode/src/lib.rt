@@ -13,6 +13,7 @@ ghost use Rattle.tz_table.specs.declared.Decoded.TheVariants.{One};
 
 mod arithmetic;
 mod branches;
+mod classes;
 mod constants;
 mod fields;
 mod loads;

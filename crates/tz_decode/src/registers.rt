@@ -11,6 +11,7 @@ ghost use Rattle.tz_table.specs.declared.Flags.TheVariants as flags;
 ghost use Rattle.tz_table.specs.declared.Insn.TheVariants as insns;
 ghost use Rattle.tz_table.specs.declared.Width.TheVariants.{Wide};
 
+use crate::classes::{DataClass, data_class};
 use crate::fields::{field, flags, imm_amount, imm_shift, undefined, wide_if};
 use tz_table::limits::{can_add_register, can_move, plain_base, plain2, plain3};
 use tz_table::{DataOp, Decoded, Flags, Insn, Width, imm5};
@@ -80,116 +81,6 @@ fn compared(op: DataOp, first: u16, second: u16) -> Decoded
     )
 }
 
-/// The codes 1110101.
-#[tactic(auto, using(crate::proofs::RegisterLaws::registers))]
-pub fn registers(first: u16, second: u16) -> Decoded
-    requires { bits first 9 7 ≡ 117 }
-    ensures { result ≡ decode_of first second }
-{
-    if field(second, 15, 1) != 0 {
-        return undefined();
-    }
-    match field(first, 5, 4) {
-        0 => and_register(first, second),
-        1 => of_three(DataOp::Bic, first, second),
-        2 => or_register(first, second),
-        3 => or_not_register(first, second),
-        4 => exclusive_or_register(first, second),
-        8 => add_register(first, second),
-        10 => of_three(DataOp::Adc, first, second),
-        11 => of_three(DataOp::Sbc, first, second),
-        13 => subtract_register(first, second),
-        14 => of_three(DataOp::Rsb, first, second),
-        _ => undefined(),
-    }
-}
-
-/// AND and TST.
-#[tactic(auto, using(crate::proofs::RegisterLaws::and_register))]
-fn and_register(first: u16, second: u16) -> Decoded
-    requires { (bits first 9 7 ≡ 117) × (bits second 15 1 ≡ 0) × (bits first 5 4 ≡ 0) }
-    ensures { result ≡ decode_of first second }
-{
-    if field(second, 8, 4) != 15 {
-        of_three(DataOp::And, first, second)
-    } else if field(first, 4, 1) == 0 {
-        undefined()
-    } else {
-        tested(DataOp::Tst, first, second)
-    }
-}
-
-/// EOR and TEQ.
-#[tactic(auto, using(crate::proofs::RegisterLaws::exclusive_or_register))]
-fn exclusive_or_register(first: u16, second: u16) -> Decoded
-    requires { (bits first 9 7 ≡ 117) × (bits second 15 1 ≡ 0) × (bits first 5 4 ≡ 4) }
-    ensures { result ≡ decode_of first second }
-{
-    if field(second, 8, 4) != 15 {
-        of_three(DataOp::Eor, first, second)
-    } else if field(first, 4, 1) == 0 {
-        undefined()
-    } else {
-        tested(DataOp::Teq, first, second)
-    }
-}
-
-/// ADD and CMN.
-#[tactic(auto, using(crate::proofs::RegisterLaws::add_register))]
-fn add_register(first: u16, second: u16) -> Decoded
-    requires { (bits first 9 7 ≡ 117) × (bits second 15 1 ≡ 0) × (bits first 5 4 ≡ 8) }
-    ensures { result ≡ decode_of first second }
-{
-    if field(second, 8, 4) != 15 {
-        sum(DataOp::Add, first, second)
-    } else if field(first, 4, 1) == 0 {
-        undefined()
-    } else {
-        compared(DataOp::Cmn, first, second)
-    }
-}
-
-/// SUB and CMP.
-#[tactic(auto, using(crate::proofs::RegisterLaws::subtract_register))]
-fn subtract_register(first: u16, second: u16) -> Decoded
-    requires { (bits first 9 7 ≡ 117) × (bits second 15 1 ≡ 0) × (bits first 5 4 ≡ 13) }
-    ensures { result ≡ decode_of first second }
-{
-    if field(second, 8, 4) != 15 {
-        sum(DataOp::Sub, first, second)
-    } else if field(first, 4, 1) == 0 {
-        undefined()
-    } else {
-        compared(DataOp::Cmp, first, second)
-    }
-}
-
-/// ORR and MOV.
-#[tactic(auto, using(crate::proofs::RegisterLaws::or_register))]
-fn or_register(first: u16, second: u16) -> Decoded
-    requires { (bits first 9 7 ≡ 117) × (bits second 15 1 ≡ 0) × (bits first 5 4 ≡ 2) }
-    ensures { result ≡ decode_of first second }
-{
-    if field(first, 0, 4) != 15 {
-        of_three(DataOp::Orr, first, second)
-    } else {
-        moved(first, second)
-    }
-}
-
-/// ORN and MVN.
-#[tactic(auto, using(crate::proofs::RegisterLaws::or_not_register))]
-fn or_not_register(first: u16, second: u16) -> Decoded
-    requires { (bits first 9 7 ≡ 117) × (bits second 15 1 ≡ 0) × (bits first 5 4 ≡ 3) }
-    ensures { result ≡ decode_of first second }
-{
-    if field(first, 0, 4) != 15 {
-        of_three(DataOp::Orn, first, second)
-    } else {
-        moved_not(first, second)
-    }
-}
-
 /// A move of a shifted register.
 fn moved(first: u16, second: u16) -> Decoded
     ensures { result ≡ (if can_move_of (bits first 4 1) (bits second 8 4) (bits second 0 4) (bits second 4 2) (imm5_of second) then One (insns.DataReg ops.Mov (flags_of (bits first 4 1)) (bits second 8 4) 0 (bits second 0 4) (imm_shift_of (bits second 4 2) (imm5_of second)) (imm_amount_of (bits second 4 2) (imm5_of second))) Wide else Undefined Wide) }
@@ -213,4 +104,23 @@ fn moved_not(first: u16, second: u16) -> Decoded
         plain2(rd, field(second, 0, 4)),
         shifted(DataOp::Mvn, flags(field(first, 4, 1)), rd, 0, second),
     )
+}
+
+/// The codes 1110101.
+pub fn registers(first: u16, second: u16) -> Decoded
+    requires { bits first 9 7 ≡ 117 }
+    ensures { result ≡ decode_of first second }
+{
+    if field(second, 15, 1) != 0 {
+        return undefined();
+    }
+    match data_class(first, second) {
+        DataClass::Plain(op) => of_three(op, first, second),
+        DataClass::Sum(op) => sum(op, first, second),
+        DataClass::Move => moved(first, second),
+        DataClass::MoveNot => moved_not(first, second),
+        DataClass::Test(op) => tested(op, first, second),
+        DataClass::Comparison(op) => compared(op, first, second),
+        DataClass::Undefined => undefined(),
+    }
 }

@@ -1,37 +1,25 @@
-use Rattle.std.proofs.Common.{arith}
+use Rattle.std.proofs.Common.{sym, ◌∙◌}
 use Rattle.tz_decode.proofs.ConstantLaws.{constants}
+use Rattle.tz_decode.specs.declared.classes.DataClass.TheVariants as classes
 use Rattle.tz_decode.proofs.constants.constants.Goals as goal
 
--- The call that closes each goal, by name: what is tried before it finds nothing, after long.
-pub returns-in-0 : goal.returns-in-0
-returns-in-0 c = grind (arith, constants)
+pub returns-in-Plain : goal.returns-in-Plain
+returns-in-Plain c = c.of_two.ensures ∙ constants (classes.Plain c.in-Plain.op) c.args.first c.args.second c.requires.0 c.requires.1 c.requires.2 (sym c.in-Plain.is ∙ c.data_class.ensures)
 
-pub returns-in-1 : goal.returns-in-1
-returns-in-1 c = grind (arith, constants)
+pub returns-in-Sum : goal.returns-in-Sum
+returns-in-Sum c = c.sum.ensures ∙ constants (classes.Sum c.in-Sum.op) c.args.first c.args.second c.requires.0 c.requires.1 c.requires.2 (sym c.in-Sum.is ∙ c.data_class.ensures)
 
-pub returns-in-2 : goal.returns-in-2
-returns-in-2 c = grind (arith, constants)
+pub returns-in-Move : goal.returns-in-Move
+returns-in-Move c = c.moved.ensures ∙ constants classes.Move c.args.first c.args.second c.requires.0 c.requires.1 c.requires.2 (sym c.in-Move.is ∙ c.data_class.ensures)
 
-pub returns-in-3 : goal.returns-in-3
-returns-in-3 c = grind (arith, constants)
+pub returns-in-MoveNot : goal.returns-in-MoveNot
+returns-in-MoveNot c = c.moved-in-MoveNot.ensures ∙ constants classes.MoveNot c.args.first c.args.second c.requires.0 c.requires.1 c.requires.2 (sym c.in-MoveNot.is ∙ c.data_class.ensures)
 
-pub returns-in-4 : goal.returns-in-4
-returns-in-4 c = grind (arith, constants)
+pub returns-in-Test : goal.returns-in-Test
+returns-in-Test c = c.tested.ensures ∙ constants (classes.Test c.in-Test.op) c.args.first c.args.second c.requires.0 c.requires.1 c.requires.2 (sym c.in-Test.is ∙ c.data_class.ensures)
 
-pub returns-in-8 : goal.returns-in-8
-returns-in-8 c = grind (arith, constants)
+pub returns-in-Comparison : goal.returns-in-Comparison
+returns-in-Comparison c = c.compared.ensures ∙ constants (classes.Comparison c.in-Comparison.op) c.args.first c.args.second c.requires.0 c.requires.1 c.requires.2 (sym c.in-Comparison.is ∙ c.data_class.ensures)
 
-pub returns-in-10 : goal.returns-in-10
-returns-in-10 c = grind (arith, constants)
-
-pub returns-in-11 : goal.returns-in-11
-returns-in-11 c = grind (arith, constants)
-
-pub returns-in-13 : goal.returns-in-13
-returns-in-13 c = grind (arith, constants)
-
-pub returns-in-14 : goal.returns-in-14
-returns-in-14 c = grind (arith, constants)
-
-pub returns-in_default : goal.returns-in_default
-returns-in_default c = grind (arith, constants)
+pub returns-in-Undefined : goal.returns-in-Undefined
+returns-in-Undefined c = c.undefined.ensures ∙ constants classes.Undefined c.args.first c.args.second c.requires.0 c.requires.1 c.requires.2 (sym c.in-Undefined.is ∙ c.data_class.ensures)
