@@ -22,7 +22,7 @@ use std::marker::Brand;
 use std::sync::ledger::{Blank, Ledger};
 use tz_board::Script;
 use tz_core::Machine;
-use tz_model::{Board, Shelf, Sink};
+use tz_model::{Board, Report, Shelf, Sink};
 use tz_ready::Steps;
 use tz_run::run_from;
 use tz_undo::History;
@@ -40,7 +40,8 @@ fn kept_for(back: u32) -> u32
     if back == 0 { 1 } else { back }
 }
 
-/// Makes `steps` steps of a history that has none yet, over a ledger of the looks into the script.
+/// Makes `steps` steps of a history that has none yet, over a ledger of the looks into the script. One report serves
+/// all steps.
 fn make_kept<L: Ledger>(blank: Blank, history: &mut History, script: &Script, steps: u32)
     requires name { blank.name ≡ L.name }
     requires parts { blank.parts ≡ L.parts }
@@ -50,9 +51,10 @@ fn make_kept<L: Ledger>(blank: Blank, history: &mut History, script: &Script, st
     ensures before { history.new.before ≡ take history.old.kept (states_before (events_of script.now) history.old.now steps) }
 {
     let mut looks = Steps::<L>::start(blank);
+    let mut report = Report::new();
     for step in 0..steps {
         let due = script.due(step, &mut looks);
-        history.step(due);
+        history.step_into(due, &mut report);
     }
 }
 

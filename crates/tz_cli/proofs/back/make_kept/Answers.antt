@@ -9,4 +9,4 @@ loop-step-init g c = kept_start _ _ c.requires.fresh
 
 pub loop-step-preserved : goal.loop-step-preserved
 loop-step-preserved g c =
-    kept_step _ _ _ _ _ _ (subst (λ (due : List ScriptEvent). c.step.new.self ≡ stepped c.loop-step.history due) c.due-due.ensures.events c.step.ensures.after) c.loop-step.invariant
+    kept_step _ _ _ _ _ _ (subst (λ (due : List ScriptEvent). c.step_into.new.self ≡ stepped c.loop-step.history due) c.due-due.ensures.events c.step_into.ensures.after) c.loop-step.invariant
