@@ -32,20 +32,24 @@ fn tell_unstored(core: &mut Core, rd: u8)
 }
 
 impl Machine {
+    ghost use Rattle.tz_state.specs.State.{priority_in, is_negative_at};
+
     /// A load or a store of the running code.
     fn load_store(
         &mut self,
         insn: &Insn,
+        negative: bool,
         stores: &mut Stores,
         written: &mut Option<Written>,
     ) -> Result<Outcome, Fault>
+        requires negative { negative ≡ is_negative_at (priority_in self.old) }
         requires empty { array_vec_len stores.old ≡ 0 }
         requires unwritten { noted_count written.old ≡ 0 }
         ensures does { loads_stores self.old insn.now ≡ record { state = self.new; stores = stores.new.items; outcome = result } }
         ensures back { before_stores written.new self.new.bus.memory ≡ before_stores written.old self.old.bus.memory }
         ensures few { noted_count written.new ≤ 14 }
     {
-        let asker = self.asker();
+        let asker = self.asker(negative);
         let mut port = port_over(
             asker,
             &self.core,
@@ -63,18 +67,20 @@ impl Machine {
     fn load_exclusive(
         &mut self,
         insn: &Insn,
+        negative: bool,
         stores: &mut Stores,
         written: &mut Option<Written>,
         addr: u32,
         size: Size,
     ) -> Result<Outcome, Fault>
+        requires negative { negative ≡ is_negative_at (priority_in self.old) }
         requires empty { array_vec_len stores.old ≡ 0 }
         requires unwritten { noted_count written.old ≡ 0 }
         ensures does { marked (record { addr = addr; size = size }) (loads_stores self.old insn.now) ≡ record { state = self.new; stores = stores.new.items; outcome = result } }
         ensures back { before_stores written.new self.new.bus.memory ≡ before_stores written.old self.old.bus.memory }
         ensures few { noted_count written.new ≤ 14 }
     {
-        match self.load_store(insn, stores, written) {
+        match self.load_store(insn, negative, stores, written) {
             Ok(outcome) => {
                 self.bus.monitor_set(addr, size);
                 Ok(outcome)
@@ -88,12 +94,14 @@ impl Machine {
     fn store_exclusive(
         &mut self,
         insn: &Insn,
+        negative: bool,
         stores: &mut Stores,
         written: &mut Option<Written>,
         addr: u32,
         size: Size,
         rd: u8,
     ) -> Result<Outcome, Fault>
+        requires negative { negative ≡ is_negative_at (priority_in self.old) }
         requires empty { array_vec_len stores.old ≡ 0 }
         requires unwritten { noted_count written.old ≡ 0 }
         ensures does { stores_exclusive self.old insn.now (record { addr = addr; size = size }) rd ≡ record { state = self.new; stores = stores.new.items; outcome = result } }
@@ -104,7 +112,7 @@ impl Machine {
             return Err(Fault::Unaligned);
         }
         if self.bus.monitor_take(addr, size) {
-            return self.load_store(insn, stores, written);
+            return self.load_store(insn, negative, stores, written);
         }
         tell_unstored(&mut self.core, rd);
         Ok(Outcome::Next)
@@ -114,9 +122,11 @@ impl Machine {
     pub(crate) fn run_load_store(
         &mut self,
         insn: &Insn,
+        negative: bool,
         stores: &mut Stores,
         written: &mut Option<Written>,
     ) -> Result<Outcome, Fault>
+        requires negative { negative ≡ is_negative_at (priority_in self.old) }
         requires empty { array_vec_len stores.old ≡ 0 }
         requires unwritten { noted_count written.old ≡ 0 }
         ensures does { executed_by LoadStore self.old insn.now ≡ record { state = self.new; stores = stores.new.items; outcome = result } }
@@ -131,7 +141,7 @@ impl Machine {
                 ..
             } => {
                 let addr = at_offset(&self.core, rn, offset);
-                self.load_exclusive(insn, stores, written, addr, size)
+                self.load_exclusive(insn, negative, stores, written, addr, size)
             }
             Insn::StoreExclusive {
                 size,
@@ -141,9 +151,9 @@ impl Machine {
                 ..
             } => {
                 let addr = at_offset(&self.core, rn, offset);
-                self.store_exclusive(insn, stores, written, addr, size, rd)
+                self.store_exclusive(insn, negative, stores, written, addr, size, rd)
             }
-            _ => self.load_store(insn, stores, written),
+            _ => self.load_store(insn, negative, stores, written),
         }
     }
 }
