@@ -4,7 +4,6 @@ ghost use Rattle.std.specs.Prelude.{◌≡◌, ◌≤◌};
 ghost use Rattle.arrayvec.specs.ArrayVec.{array_vec_len};
 ghost use Rattle.tz_access.specs.Written.{before_stores, noted_count};
 ghost use Rattle.tz_sem.specs.Local.{local_of, with_local, put};
-ghost use Rattle.tz_sem.specs.LoadStore.{offset_at};
 ghost use Rattle.tz_sem.specs.declared.family.Family.TheVariants.{LoadStore};
 ghost use Rattle.tz_sem.specs.Exec.{marked, loads_stores, stores_exclusive, executed_by};
 
@@ -12,16 +11,9 @@ use crate::changes::Stores;
 use crate::port::port_over;
 use crate::running::Machine;
 use tz_access::{Written, is_aligned};
+use tz_loadstore::at_offset;
 use tz_model::{Fault, Insn, Outcome, Size};
 use tz_regs::Core;
-
-/// A register plus an offset.
-fn at_offset(core: &Core, rn: u8, offset: i32) -> u32
-    ensures { result ≡ offset_at (local_of core.now) rn offset }
-{
-    let base = core.registers.reg(core.stacks(core.run.side), rn);
-    base.wrapping_add(offset.cast_unsigned())
-}
 
 /// Writes 1 to the register that tells whether a store was made.
 #[tactic(auto, using(crate::proofs::Named::put_named))]
