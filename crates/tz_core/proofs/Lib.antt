@@ -2,8 +2,8 @@ mod Alone
 mod Blank
 mod Indexed
 mod Named
-mod Noting
 mod Order
 mod Private
 mod Reading
+mod Undoes
 mod Unwritten

@@ -82,6 +82,20 @@ impl Machine {
         self.bus.note_units(&mut note.units);
     }
 
+    /// Makes one step as `step_into` does, and notes what takes it back. It takes no memory.
+    pub fn step_noted_into(&mut self, due: &[ScriptEvent], report: &mut Report, note: &mut Note)
+        ensures steps { step self.old due.now ≡ record { state = self.new; report = report.new } }
+        ensures leaves_secure { LeavesSecure self.old (record { state = self.new; report = report.new }) }
+        ensures enters_secure { EntersSecure self.old due.now (record { state = self.new; report = report.new }) }
+        ensures tells_way { TellsWay (record { state = self.new; report = report.new }) }
+        ensures note { undo_of note.new self.new ≡ self.old }
+    {
+        self.note_state(note);
+        begin(&mut note.written);
+        let mut noted = None;
+        self.report_step(due, report, &mut noted, &mut note.written);
+    }
+
     /// Makes one step as `step` does, and notes what takes it back. It takes no memory.
     pub fn step_noted(&mut self, due: &[ScriptEvent], note: &mut Note) -> Report
         ensures steps { step self.old due.now ≡ record { state = self.new; report = result } }
@@ -90,11 +104,8 @@ impl Machine {
         ensures tells_way { TellsWay (record { state = self.new; report = result }) }
         ensures note { undo_of note.new self.new ≡ self.old }
     {
-        self.note_state(note);
-        begin(&mut note.written);
         let mut report = Report::new();
-        let mut noted = None;
-        self.report_step(due, &mut report, &mut noted, &mut note.written);
+        self.step_noted_into(due, &mut report, note);
         report
     }
 

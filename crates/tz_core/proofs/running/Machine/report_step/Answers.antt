@@ -5,7 +5,7 @@ use Rattle.tz_regs.specs.declared.parts.Before.{Before}
 use Rattle.tz_regs.specs.Registers.{before_in}
 use Rattle.tz_state.specs.State.{State}
 use Rattle.tz_sem.specs.Ended.{Ended}
-use Rattle.tz_sem.specs.Step.{Stepped, stepped, ended}
+use Rattle.tz_sem.specs.Step.{stepped, ended}
 use Rattle.tz_core.specs.Closing.{ending_of}
 use Rattle.tz_core.proofs.running.Machine.report_step.Goals as goal
 
