@@ -111,18 +111,29 @@ impl History {
         }
     }
 
+    /// Makes one step at which these events are due, and tells in `report` what it did. Where all places have notes, the
+    /// oldest goes. It takes no memory.
+    pub fn step_into(&mut self, due: &[ScriptEvent], report: &mut Report)
+        ensures after { self.new ≡ stepped self.old due.now }
+        ensures report { report.new ≡ (step self.old.now due.now).report }
+    {
+        let places = self.notes.len();
+        self.machine
+            .step_noted_into(due, report, &mut self.notes[self.next]);
+        self.next = place_after(places, self.next);
+        if self.count < places {
+            self.count += 1;
+        }
+    }
+
     /// Makes one step at which these events are due, and tells what it did. Where all places have notes, the oldest
     /// goes. It takes no memory.
     pub fn step(&mut self, due: &[ScriptEvent]) -> Report
         ensures after { self.new ≡ stepped self.old due.now }
         ensures report { result ≡ (step self.old.now due.now).report }
     {
-        let places = self.notes.len();
-        let report = self.machine.step_noted(due, &mut self.notes[self.next]);
-        self.next = place_after(places, self.next);
-        if self.count < places {
-            self.count += 1;
-        }
+        let mut report = Report::new();
+        self.step_into(due, &mut report);
         report
     }
 
