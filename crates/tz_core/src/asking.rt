@@ -1,7 +1,7 @@
 //! The running code as its accesses and fetches are checked.
 
 ghost use Rattle.std.specs.Prelude.{◌≡◌};
-ghost use Rattle.tz_state.specs.State.{traps_unaligned, asker_in};
+ghost use Rattle.tz_state.specs.State.{traps_unaligned, asker_in, priority_in, is_negative_at};
 ghost use Rattle.tz_sem.specs.Step.{fetcher_in};
 
 use crate::running::Machine;
@@ -18,15 +18,16 @@ fn traps_unaligned(ccr: u32) -> bool
 }
 
 impl Machine {
-    /// The running code as it asks for accesses.
-    pub(crate) fn asker(&self) -> Asker
+    /// The running code as it asks for accesses. It is told whether the execution priority is negative.
+    pub(crate) fn asker(&self, negative: bool) -> Asker
+        requires { negative ≡ is_negative_at (priority_in self.now) }
         ensures { result ≡ asker_in self.now }
     {
         let side = self.core.run.side;
         Asker {
             side,
             privileged: self.core.privileged(side),
-            negative: is_negative(&self.core, &self.exceptions),
+            negative,
             aligned: traps_unaligned(self.core.ccr(side)),
         }
     }

@@ -16,6 +16,7 @@ use tz_access::Written;
 use tz_excret::is_exc_return;
 use tz_gate::{branch_ns, call_ns, function_return, is_fnc_return};
 use tz_model::{Code, Insn};
+use tz_prio::is_negative;
 use tz_regs::Core;
 use tz_sem::{Cause, Course, Handling};
 
@@ -166,7 +167,7 @@ impl Machine {
     {
         stores.clear();
         let next = next_of(self.core.registers.pc, code);
-        let asker = self.asker();
+        let asker = self.asker(is_negative(&self.core, &self.exceptions));
         let mut port = port_over(
             asker,
             &self.core,

@@ -4,7 +4,6 @@ ghost use Rattle.std.specs.Prelude.{◌≡◌, ◌≤◌};
 ghost use Rattle.arrayvec.specs.ArrayVec.{array_vec_len};
 ghost use Rattle.tz_access.specs.Written.{before_stores, noted_count};
 ghost use Rattle.tz_sem.specs.Local.{local_of, with_local, put};
-ghost use Rattle.tz_sem.specs.LoadStore.{offset_at};
 ghost use Rattle.tz_sem.specs.declared.family.Family.TheVariants.{LoadStore};
 ghost use Rattle.tz_sem.specs.Exec.{marked, loads_stores, stores_exclusive, executed_by};
 
@@ -12,16 +11,9 @@ use crate::changes::Stores;
 use crate::port::port_over;
 use crate::running::Machine;
 use tz_access::{Written, is_aligned};
+use tz_loadstore::at_offset;
 use tz_model::{Fault, Insn, Outcome, Size};
 use tz_regs::Core;
-
-/// A register plus an offset.
-fn at_offset(core: &Core, rn: u8, offset: i32) -> u32
-    ensures { result ≡ offset_at (local_of core.now) rn offset }
-{
-    let base = core.registers.reg(core.stacks(core.run.side), rn);
-    base.wrapping_add(offset.cast_unsigned())
-}
 
 /// Writes 1 to the register that tells whether a store was made.
 #[tactic(auto, using(crate::proofs::Named::put_named))]
@@ -32,20 +24,24 @@ fn tell_unstored(core: &mut Core, rd: u8)
 }
 
 impl Machine {
+    ghost use Rattle.tz_state.specs.State.{priority_in, is_negative_at};
+
     /// A load or a store of the running code.
     fn load_store(
         &mut self,
         insn: &Insn,
+        negative: bool,
         stores: &mut Stores,
         written: &mut Option<Written>,
     ) -> Result<Outcome, Fault>
+        requires negative { negative ≡ is_negative_at (priority_in self.old) }
         requires empty { array_vec_len stores.old ≡ 0 }
         requires unwritten { noted_count written.old ≡ 0 }
         ensures does { loads_stores self.old insn.now ≡ record { state = self.new; stores = stores.new.items; outcome = result } }
         ensures back { before_stores written.new self.new.bus.memory ≡ before_stores written.old self.old.bus.memory }
         ensures few { noted_count written.new ≤ 14 }
     {
-        let asker = self.asker();
+        let asker = self.asker(negative);
         let mut port = port_over(
             asker,
             &self.core,
@@ -63,18 +59,20 @@ impl Machine {
     fn load_exclusive(
         &mut self,
         insn: &Insn,
+        negative: bool,
         stores: &mut Stores,
         written: &mut Option<Written>,
         addr: u32,
         size: Size,
     ) -> Result<Outcome, Fault>
+        requires negative { negative ≡ is_negative_at (priority_in self.old) }
         requires empty { array_vec_len stores.old ≡ 0 }
         requires unwritten { noted_count written.old ≡ 0 }
         ensures does { marked (record { addr = addr; size = size }) (loads_stores self.old insn.now) ≡ record { state = self.new; stores = stores.new.items; outcome = result } }
         ensures back { before_stores written.new self.new.bus.memory ≡ before_stores written.old self.old.bus.memory }
         ensures few { noted_count written.new ≤ 14 }
     {
-        match self.load_store(insn, stores, written) {
+        match self.load_store(insn, negative, stores, written) {
             Ok(outcome) => {
                 self.bus.monitor_set(addr, size);
                 Ok(outcome)
@@ -88,12 +86,14 @@ impl Machine {
     fn store_exclusive(
         &mut self,
         insn: &Insn,
+        negative: bool,
         stores: &mut Stores,
         written: &mut Option<Written>,
         addr: u32,
         size: Size,
         rd: u8,
     ) -> Result<Outcome, Fault>
+        requires negative { negative ≡ is_negative_at (priority_in self.old) }
         requires empty { array_vec_len stores.old ≡ 0 }
         requires unwritten { noted_count written.old ≡ 0 }
         ensures does { stores_exclusive self.old insn.now (record { addr = addr; size = size }) rd ≡ record { state = self.new; stores = stores.new.items; outcome = result } }
@@ -104,7 +104,7 @@ impl Machine {
             return Err(Fault::Unaligned);
         }
         if self.bus.monitor_take(addr, size) {
-            return self.load_store(insn, stores, written);
+            return self.load_store(insn, negative, stores, written);
         }
         tell_unstored(&mut self.core, rd);
         Ok(Outcome::Next)
@@ -114,9 +114,11 @@ impl Machine {
     pub(crate) fn run_load_store(
         &mut self,
         insn: &Insn,
+        negative: bool,
         stores: &mut Stores,
         written: &mut Option<Written>,
     ) -> Result<Outcome, Fault>
+        requires negative { negative ≡ is_negative_at (priority_in self.old) }
         requires empty { array_vec_len stores.old ≡ 0 }
         requires unwritten { noted_count written.old ≡ 0 }
         ensures does { executed_by LoadStore self.old insn.now ≡ record { state = self.new; stores = stores.new.items; outcome = result } }
@@ -131,7 +133,7 @@ impl Machine {
                 ..
             } => {
                 let addr = at_offset(&self.core, rn, offset);
-                self.load_exclusive(insn, stores, written, addr, size)
+                self.load_exclusive(insn, negative, stores, written, addr, size)
             }
             Insn::StoreExclusive {
                 size,
@@ -141,9 +143,9 @@ impl Machine {
                 ..
             } => {
                 let addr = at_offset(&self.core, rn, offset);
-                self.store_exclusive(insn, stores, written, addr, size, rd)
+                self.store_exclusive(insn, negative, stores, written, addr, size, rd)
             }
-            _ => self.load_store(insn, stores, written),
+            _ => self.load_store(insn, negative, stores, written),
         }
     }
 }

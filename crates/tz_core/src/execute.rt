@@ -12,6 +12,7 @@ use tz_model::{Fault, Insn, Outcome};
 use tz_prio::execution_priority;
 
 impl Machine {
+    ghost use Rattle.tz_state.specs.State.{priority_in, is_negative_at};
     ghost use Rattle.tz_sem.specs.declared.family.Family.TheVariants.{Alu, Branch, System};
     ghost use Rattle.tz_sem.specs.Local.{local_of};
     ghost use Rattle.tz_sem.specs.Branch.{plan_branch};
@@ -39,16 +40,18 @@ impl Machine {
     fn table_branch(
         &mut self,
         insn: &Insn,
+        negative: bool,
         stores: &mut Stores,
         written: &mut Option<Written>,
     ) -> Result<Outcome, Fault>
+        requires negative { negative ≡ is_negative_at (priority_in self.old) }
         requires empty { array_vec_len stores.old ≡ 0 }
         requires unwritten { noted_count written.old ≡ 0 }
         ensures does { executed_by Branch self.old insn.now ≡ record { state = self.new; stores = stores.new.items; outcome = result } }
         ensures back { before_stores written.new self.new.bus.memory ≡ before_stores written.old self.old.bus.memory }
         ensures few { noted_count written.new ≤ 14 }
     {
-        let asker = self.asker();
+        let asker = self.asker(negative);
         let mut port = port_over(
             asker,
             &self.core,
@@ -76,9 +79,11 @@ impl Machine {
     pub(crate) fn execute(
         &mut self,
         insn: &Insn,
+        negative: bool,
         stores: &mut Stores,
         written: &mut Option<Written>,
     ) -> Result<Outcome, Fault>
+        requires negative { negative ≡ is_negative_at (priority_in self.old) }
         requires empty { array_vec_len stores.old ≡ 0 }
         requires unwritten { noted_count written.old ≡ 0 }
         ensures does { executed self.old insn.now ≡ record { state = self.new; stores = stores.new.items; outcome = result } }
@@ -106,7 +111,7 @@ impl Machine {
             | Insn::BranchExchange { .. }
             | Insn::CallExchange { .. }
             | Insn::IfThen { .. } => self.branch(insn),
-            Insn::TableBranch { .. } => self.table_branch(insn, stores, written),
+            Insn::TableBranch { .. } => self.table_branch(insn, negative, stores, written),
             Insn::Hint { .. }
             | Insn::Barrier { .. }
             | Insn::ChangeState { .. }
@@ -128,7 +133,7 @@ impl Machine {
             | Insn::LoadExclusive { .. }
             | Insn::StoreExclusive { .. }
             | Insn::LoadAcquire { .. }
-            | Insn::StoreRelease { .. } => self.run_load_store(insn, stores, written),
+            | Insn::StoreRelease { .. } => self.run_load_store(insn, negative, stores, written),
         }
     }
 }

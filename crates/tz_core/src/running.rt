@@ -73,7 +73,7 @@ fn sleep_of(event: bool) -> Sleep
 
 impl Machine {
     ghost use Rattle.std.specs.Prelude.{[], None, true, if◌then◌else◌};
-    ghost use Rattle.tz_state.specs.State.{side_of};
+    ghost use Rattle.tz_state.specs.State.{side_of, priority_in, is_negative_at};
     ghost use Rattle.tz_sem.specs.Exec.{executed};
     ghost use Rattle.tz_model.specs.Codes.{meaning_of};
     ghost use Rattle.tz_sem.specs.Step.{past, goes_next, skips, goes_on, concludes, executes, faulting, placed, decoded, runs_gateway, touches_secure, unready, course_in, instructs, idles, by_sleep, takes_exception, started, ended, step};
@@ -236,6 +236,7 @@ impl Machine {
         noted: &mut Option<Handling>,
         written: &mut Option<Written>,
     ) -> Close
+        requires negative { course.negative ≡ is_negative_at (priority_in self.old) }
         requires empty { array_vec_len stores.old ≡ 0 }
         requires unnoted { noted.old ≡ None }
         requires unwritten { noted_count written.old ≡ 0 }
@@ -243,7 +244,7 @@ impl Machine {
         ensures back { before_stores written.new self.new.bus.memory ≡ before_stores written.old self.old.bus.memory }
     {
         let before = self.core;
-        let outcome = self.execute(insn, stores, written);
+        let outcome = self.execute(insn, course.negative, stores, written);
         self.conclude(insn, &before, course, code, outcome, stores, noted, written)
     }
 
@@ -257,6 +258,7 @@ impl Machine {
         noted: &mut Option<Handling>,
         written: &mut Option<Written>,
     ) -> Close
+        requires negative { course.negative ≡ is_negative_at (priority_in self.old) }
         requires empty { array_vec_len stores.old ≡ 0 }
         requires unnoted { noted.old ≡ None }
         requires unwritten { noted_count written.old ≡ 0 }
@@ -281,6 +283,7 @@ impl Machine {
         noted: &mut Option<Handling>,
         written: &mut Option<Written>,
     ) -> Close
+        requires negative { course.negative ≡ is_negative_at (priority_in self.old) }
         requires empty { array_vec_len stores.old ≡ 0 }
         requires unnoted { noted.old ≡ None }
         requires unwritten { noted_count written.old ≡ 0 }

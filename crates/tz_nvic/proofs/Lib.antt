@@ -4,3 +4,4 @@ pub mod Places
 pub mod ActiveSlots
 pub mod Timers
 pub mod Beyond
+pub mod Idle

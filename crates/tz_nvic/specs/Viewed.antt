@@ -1,6 +1,7 @@
 -- The exceptions as a value.
-use Rattle.std.specs.Prelude.{◌≡◌, ◌≤◌, length, IfSome}
-use Rattle.tz_state.specs.Slots.{ExceptionsValue}
+use Rattle.std.specs.Prelude.{◌≡◌, ℕ, ◌-◌, ◌≤◌, List, length, drop, replicate, IfSome}
+use Rattle.tz_state.specs.declared.slot.SlotState.{SlotState}
+use Rattle.tz_state.specs.Slots.{ExceptionsValue, idle, places}
 use Rattle.tz_nvic.specs.Known.{IsKnown}
 use Rattle.tz_nvic.specs.declared.exceptions.Exceptions.TheInside.{Inside}
 
@@ -18,7 +19,11 @@ value_of e =
       timer_ns = e.timer_ns;
     }
 
--- each slot has a place, numbers are in range, and what is known is so
+-- all slots from a place on are idle
+abbrev pub AreIdleFrom : ℕ → List SlotState → Type 0
+AreIdleFrom i slots = (i ≤ places) × (drop i slots ≡ replicate (places - i) idle)
+
+-- each slot has a place, numbers are in range, what is known is so, and what is idle is
 abbrev pub Holds : Inside → Type 0
 Holds e =
     (length e.slots.items ≡ 272)
@@ -26,3 +31,4 @@ Holds e =
     × (e.prigroup_s ≤ 7)
     × (e.prigroup_ns ≤ 7)
     × IfSome e.known (λ k. IsKnown (value_of e) k)
+    × AreIdleFrom e.idle_from e.slots.items

@@ -28,6 +28,8 @@ pub struct Exceptions {
     pub(crate) bfhfnmins: bool,
     pub(crate) timer_s: Timer,
     pub(crate) timer_ns: Timer,
+    /// All slots from this place on are as a reset leaves them.
+    pub(crate) idle_from: usize,
     /// What a look at all slots finds, until something is written that it depends on.
     pub(crate) known: Option<Known>,
 }
@@ -82,6 +84,7 @@ impl Exceptions {
             bfhfnmins: false,
             timer_s: NO_TIMER,
             timer_ns: NO_TIMER,
+            idle_from: 0,
             known: None,
         })
     }
@@ -153,6 +156,9 @@ impl Exceptions {
     {
         self.known = None;
         self.slots[index] = state;
+        if self.idle_from <= index {
+            self.idle_from = index + 1;
+        }
     }
 
     /// Sets a slot pending. The slot exists.

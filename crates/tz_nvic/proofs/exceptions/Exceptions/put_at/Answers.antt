@@ -1,10 +1,15 @@
-use Rattle.std.proofs.Common.{arith, rules, tests}
-use Rattle.std.proofs.lemmas.Grind.{common_steps, elements}
+-- The slots from one on stay idle that aren't written.
+use Rattle.std.proofs.Common.{arith}
+use Rattle.std.proofs.lemmas.List.{length-set}
+use Rattle.tz_nvic.proofs.Idle.{idle_behind, idle_after}
 use Rattle.tz_nvic.proofs.exceptions.Exceptions.put_at.Goals as goal
 
--- What the tactics try, by name: a body that is refused is then told without a search for what to offer.
-pub returns : goal.returns
-returns c = first_of (assumption, search (tests, rules), grind (arith, common_steps), grind (arith, elements))
-
 pub invariant_of-self : goal.invariant_of-self
-invariant_of-self c = first_of (assumption, search (tests, rules), grind (arith, common_steps), grind (arith, elements))
+invariant_of-self c =
+    let h = c.self.invariant in
+    (omega (arith, length-set c.self.inside.slots.items c.args.index c.args.state, h.0), h.1, h.2, h.3, tt, idle_after c.self.inside.idle_from c.args.index c.self.inside.slots.items c.args.state c.if-self-index.true c.requires h.5)
+
+pub invariant_of-self-else-self-index : goal.invariant_of-self-else-self-index
+invariant_of-self-else-self-index c =
+    let h = c.self.invariant in
+    (omega (arith, length-set c.self.inside.slots.items c.args.index c.args.state, h.0), h.1, h.2, h.3, tt, idle_behind c.self.inside.idle_from c.args.index c.self.inside.slots.items c.args.state c.if-self-index.false h.5)

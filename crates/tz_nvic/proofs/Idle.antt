@@ -1,0 +1,35 @@
+-- Slots that are idle from a place on: what a write leaves, and what a copy need not have.
+use Rattle.std.proofs.Common.{◌≡◌, ℕ, ◌+◌, ◌-◌, ◌<◌, ◌≤◌, List, ◌++◌, length, take, drop, set, replicate, max, ap, sym, ◌∙◌, subst, arith}
+use Rattle.std.proofs.Math.Nat.{le-max_left, le-max_right}
+use Rattle.std.proofs.Math.Seq.{take-append_seam}
+use Rattle.std.proofs.lemmas.List.{drop-drop, drop-set-lt, drop-replicate, take-append-drop}
+use Rattle.tz_state.specs.declared.slot.SlotState.{SlotState}
+use Rattle.tz_state.specs.Slots.{idle, places}
+use Rattle.tz_nvic.specs.Viewed.{AreIdleFrom}
+
+idle_more : (n k : ℕ) (slots : List SlotState) → AreIdleFrom n slots → drop (n + k) slots ≡ replicate (places - (n + k)) idle
+idle_more n k slots h =
+    sym (drop-drop k n slots) ∙ ap (drop k) h.1 ∙ drop-replicate k (places - n) idle ∙ ap (λ c. replicate c idle) (let e : places - n - k ≡ places - (n + k) = omega arith in e)
+
+-- from each later place on
+idle_later : (n i : ℕ) (slots : List SlotState) → AreIdleFrom n slots → n ≤ i → drop i slots ≡ replicate (places - i) idle
+idle_later n i slots h later =
+    subst (λ c. drop c slots ≡ replicate (places - c) idle) (let e : n + (i - n) ≡ i = omega arith in e) (idle_more n (i - n) slots h)
+
+-- a slot before them is written
+pub idle_behind : (n i : ℕ) (slots : List SlotState) (x : SlotState) → i < n → AreIdleFrom n slots → AreIdleFrom n (set slots i x)
+idle_behind n i slots x before h = (h.0, drop-set-lt n slots i x before ∙ h.1)
+
+-- one of them is written
+pub idle_after : (n i : ℕ) (slots : List SlotState) (x : SlotState) → n ≤ i → i < places → AreIdleFrom n slots → AreIdleFrom (i + 1) (set slots i x)
+idle_after n i slots x among fits h =
+    (omega arith, drop-set-lt (i + 1) slots i x (omega arith) ∙ idle_later n (i + 1) slots h (omega arith))
+
+-- what a copy leaves of as many slots, where those that are idle in both stay
+pub copied : (n m k count : ℕ) (slots others new : List SlotState) → AreIdleFrom n slots → AreIdleFrom m others → k ≡ max n m → length others ≡ count
+    → new ≡ take k others ++ drop k slots → take count (new ++ drop (length new) slots) ≡ others
+copied n m k count slots others new h g end many is =
+    let first = subst (λ l. n ≤ l) (sym end) (le-max_left n m) in
+    let second = subst (λ l. m ≤ l) (sym end) (le-max_right n m) in
+    let same = is ∙ ap (λ l. take k others ++ l) (idle_later n k slots h first ∙ sym (idle_later m k others g second)) ∙ take-append-drop k others in
+    ap (λ c. take c (new ++ drop (length new) slots)) (sym many ∙ ap length (sym same)) ∙ take-append_seam new (drop (length new) slots) ∙ same
