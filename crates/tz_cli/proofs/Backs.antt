@@ -73,14 +73,14 @@ near_behind : (name : Text) (words : List Text) (w : BackWords) → command_behi
 near_behind name words w =
     choice (bytes_eq name (codes "run")) (run_behind words) _ w
     (λ e. absurd (never_made run_parts w (λ p. not_run w (work_of p.values) p.positionals) (parts_of (codes "view") AnyWord words) e))
-    (choice (bytes_eq name (codes "pair")) (option_map Pair (pair_behind words)) _ w (λ e. absurd (never_mapped Pair w (λ x same. cc) (pair_behind words) e))
-    (choice (bytes_eq name (codes "asm")) (option_map Asm (asm_behind words)) _ w (λ e. absurd (never_mapped Asm w (λ x same. cc) (asm_behind words) e))
-    (choice (bytes_eq name (codes "dis")) (option_map Dis (dis_behind words)) _ w (λ e. absurd (never_mapped Dis w (λ x same. cc) (dis_behind words) e))
     (choice (bytes_eq name (codes "gates")) (option_map Gates (start_behind words)) _ w (λ e. absurd (never_mapped Gates w (λ x same. cc) (start_behind words) e))
     (choice (bytes_eq name (codes "snap")) (option_map Snap (start_behind words)) _ w (λ e. absurd (never_mapped Snap w (λ x same. cc) (start_behind words) e))
     (choice (bytes_eq name (codes "show")) (show_behind words) _ w (λ e. absurd (never_made show_parts w (λ p. not_shown w p.next p) (with_words words no_parts) e))
     (choice (bytes_eq name (codes "resume")) (option_map Resume (resume_behind words)) _ w (λ e. absurd (never_mapped Resume w (λ x same. cc) (resume_behind words) e))
     (choice (bytes_eq name (codes "back")) (option_map Back (back_behind words)) _ w (near_mapped w (back_behind words) (near_parts (parts_of (codes "view") AnyWord words)))
+    (choice (bytes_eq name (codes "pair")) (option_map Pair (pair_behind words)) _ w (λ e. absurd (never_mapped Pair w (λ x same. cc) (pair_behind words) e))
+    (choice (bytes_eq name (codes "asm")) (option_map Asm (asm_behind words)) _ w (λ e. absurd (never_mapped Asm w (λ x same. cc) (asm_behind words) e))
+    (choice (bytes_eq name (codes "dis")) (option_map Dis (dis_behind words)) _ w (λ e. absurd (never_mapped Dis w (λ x same. cc) (dis_behind words) e))
     (choice (bytes_eq name (codes "gen")) (option_map Gen (gen_behind words)) None w (λ e. absurd (never_mapped Gen w (λ x same. cc) (gen_behind words) e))
     (λ e. absurd (cc e)))))))))))
 

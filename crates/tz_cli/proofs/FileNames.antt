@@ -312,12 +312,6 @@ names_command name words command =
     let n = longest words in
     either (bytes_eq name (codes "run")) (run_behind words) _ command n
     (behind_within names_of (codes "view") run_parts (λ p. run_in (work_of p.values) p.positionals) words command)
-    (either (bytes_eq name (codes "pair")) (option_map Pair (pair_behind words)) _ command n
-    (mapped_within pair_names names_of n Pair (pair_behind words) command (λ p. refl) (behind_within pair_names [] pair_parts (λ p. pair_in p.values p.positionals) words))
-    (either (bytes_eq name (codes "asm")) (option_map Asm (asm_behind words)) _ command n
-    (mapped_within asm_names names_of n Asm (asm_behind words) command (λ a. refl) (behind_within asm_names (codes "form") asm_parts (λ p. asm_in (form_of p.values) p.positionals) words))
-    (either (bytes_eq name (codes "dis")) (option_map Dis (dis_behind words)) _ command n
-    (mapped_within dis_names names_of n Dis (dis_behind words) command (λ d. refl) (behind_within dis_names [] dis_parts (λ p. dis_in p.values p.positionals) words))
     (either (bytes_eq name (codes "gates")) (option_map Gates (start_behind words)) _ command n
     (mapped_within start_names names_of n Gates (start_behind words) command (λ s. refl) (behind_within start_names [] start_parts (λ p. bare_in p.values p.positionals) words))
     (either (bytes_eq name (codes "snap")) (option_map Snap (start_behind words)) _ command n
@@ -329,6 +323,12 @@ names_command name words command =
     (either (bytes_eq name (codes "back")) (option_map Back (back_behind words)) _ command n
     (mapped_within back_names names_of n Back (back_behind words) command (λ w. refl)
     (behind_within back_names (codes "view") back_parts (λ p w e. (back_in (view_of p.values) p.positionals w e).within) words))
+    (either (bytes_eq name (codes "pair")) (option_map Pair (pair_behind words)) _ command n
+    (mapped_within pair_names names_of n Pair (pair_behind words) command (λ p. refl) (behind_within pair_names [] pair_parts (λ p. pair_in p.values p.positionals) words))
+    (either (bytes_eq name (codes "asm")) (option_map Asm (asm_behind words)) _ command n
+    (mapped_within asm_names names_of n Asm (asm_behind words) command (λ a. refl) (behind_within asm_names (codes "form") asm_parts (λ p. asm_in (form_of p.values) p.positionals) words))
+    (either (bytes_eq name (codes "dis")) (option_map Dis (dis_behind words)) _ command n
+    (mapped_within dis_names names_of n Dis (dis_behind words) command (λ d. refl) (behind_within dis_names [] dis_parts (λ p. dis_in p.values p.positionals) words))
     (either (bytes_eq name (codes "gen")) (option_map Gen (gen_behind words)) None command n (gen_within n (gen_behind words) command)
     (λ e. absurd (cc e)))))))))))
 

@@ -103,14 +103,14 @@ show_behind words = option_and_then show_parts (with_words words no_parts)
 abbrev pub command_behind : Text → List Text → Option Command
 command_behind command words =
     if bytes_eq command (codes "run") then run_behind words
-    else if bytes_eq command (codes "pair") then option_map Pair (pair_behind words)
-    else if bytes_eq command (codes "asm") then option_map Asm (asm_behind words)
-    else if bytes_eq command (codes "dis") then option_map Dis (dis_behind words)
     else if bytes_eq command (codes "gates") then option_map Gates (start_behind words)
     else if bytes_eq command (codes "snap") then option_map Snap (start_behind words)
     else if bytes_eq command (codes "show") then show_behind words
     else if bytes_eq command (codes "resume") then option_map Resume (resume_behind words)
     else if bytes_eq command (codes "back") then option_map Back (back_behind words)
+    else if bytes_eq command (codes "pair") then option_map Pair (pair_behind words)
+    else if bytes_eq command (codes "asm") then option_map Asm (asm_behind words)
+    else if bytes_eq command (codes "dis") then option_map Dis (dis_behind words)
     else if bytes_eq command (codes "gen") then option_map Gen (gen_behind words)
     else None
 

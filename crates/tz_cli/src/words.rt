@@ -72,14 +72,14 @@ pub fn command_words<'a>(
     match words {
         [_program, command, rest @ ..] => match command.as_str() {
             "run" => run_command(alloc, rest),
-            "pair" => pair_command(alloc, rest),
-            "asm" => asm_command(alloc, rest),
-            "dis" => dis_command(alloc, rest),
             "gates" => start_command(alloc, Work::Gates, rest),
             "snap" => start_command(alloc, Work::Save, rest),
             "show" => show_command(alloc, rest),
             "resume" => resume_command(alloc, rest),
             "back" => back_command(alloc, rest),
+            "pair" => pair_command(alloc, rest),
+            "asm" => asm_command(alloc, rest),
+            "dis" => dis_command(alloc, rest),
             "gen" => gen_command(alloc, rest),
             _ => Ok(None),
         },
