@@ -1,6 +1,6 @@
 -- Moves of the mover (own): at the beginning of a step each channel that goes moves one word, as a data access of its side,
 -- without an MPU.
-use Rattle.std.specs.Prelude.{ℕ, ◌+◌, ◌-◌, ◌*◌, ◌/◌, ◌%◌, ◌^◌, ◌==◌, nat_lt, Bool, true, not, ◌&&◌, if◌then◌else◌, List, slice_set, bit_or}
+use Rattle.std.specs.Prelude.{ℕ, ◌+◌, ◌-◌, ◌*◌, ◌/◌, ◌%◌, ◌^◌, ◌==◌, nat_lt, Bool, true, not, ◌&&◌, if◌then◌else◌, List, slice_set, Option, Some, None, bit_or}
 use Rattle.tz_table.specs.declared.units.Side.{Side}
 use Rattle.tz_table.specs.declared.units.Side.TheVariants.{Secure, NonSecure}
 use Rattle.tz_table.specs.declared.units.Size.TheVariants.{Word}
@@ -8,6 +8,8 @@ use Rattle.tz_model.specs.declared.channel.Channel.{Channel}
 use Rattle.tz_model.specs.declared.channel.Channels.{Channels}
 use Rattle.tz_model.specs.Words.{wrap}
 use Rattle.tz_regs.specs.Banks.{channels_of, with_channels}
+use Rattle.tz_state.specs.declared.moves.Move.{Move}
+use Rattle.tz_state.specs.declared.moves.Moves.{Moves}
 use Rattle.tz_state.specs.declared.slot.SlotState.{SlotState}
 use Rattle.tz_state.specs.MoverBits.{mover_go, mover_done, mover_error, mover_ie, mover_irq}
 use Rattle.tz_state.specs.Memory.{Memory, every, word_at, with_word}
@@ -58,6 +60,10 @@ after_move b side c =
 abbrev pub memory_moved : Bus → Side → Channel → Memory → Memory
 memory_moved b side c m = if moves_word b side c then with_word m c.dst (word_at m c.src) else m
 
+-- the word that is moved, 0 where none is
+abbrev pub word_moved : Bus → Side → Channel → Memory → ℕ
+word_moved b side c m = if moves_word b side c then word_at m c.src else 0
+
 -- the interrupt that a channel names
 abbrev pub irq_of : Channel → ℕ
 irq_of c = c.ctrl / 2 ^ mover_irq % 2 ^ 8
@@ -79,11 +85,12 @@ slots_told side e c =
 
 -- ---- the moves of a step
 
--- what they change: the channels, the slots, and memory
+-- what they change: the channels, the slots, and memory; and what is told of them
 pub record Moving : Type 0 where
   pub channels : Channels
   pub slots : List SlotState
   pub memory : Memory
+  pub told : Moves
 
 abbrev pub channel_of : Side → Channels → Channel
 channel_of Secure channels = channels.secure
@@ -93,6 +100,22 @@ abbrev pub with_channel : Side → Channels → Channel → Channels
 with_channel Secure channels c = record channels { secure = c }
 with_channel NonSecure channels c = record channels { nonsecure = c }
 
+abbrev pub no_moves : Moves
+no_moves = record { secure = None; nonsecure = None }
+
+abbrev pub with_move : Side → Moves → Move → Moves
+with_move Secure told move = record told { secure = Some move }
+with_move NonSecure told move = record told { nonsecure = Some move }
+
+abbrev pub move_told : Bus → ExceptionsValue → Side → Channel → Memory → Move
+move_told b e side c m =
+    record {
+      before = c;
+      after = after_move b side c;
+      word = word_moved b side c m;
+      pends = pends_irq side e (after_move b side c);
+    }
+
 -- one move of a side's channel that goes
 abbrev pub moved_by : Bus → ExceptionsValue → Side → Channel → Moving → Moving
 moved_by b e side c m =
@@ -100,6 +123,7 @@ moved_by b e side c m =
       channels = with_channel side m.channels (after_move b side c);
       slots = slots_told side (record e { slots = m.slots }) (after_move b side c);
       memory = memory_moved b side c m.memory;
+      told = with_move side m.told (move_told b (record e { slots = m.slots }) side c m.memory);
     }
 
 abbrev pub moved : Bus → ExceptionsValue → Side → Moving → Moving
@@ -111,7 +135,7 @@ all_moved b e Secure m = moved b e NonSecure (moved b e Secure m)
 all_moved b e NonSecure m = moved b e NonSecure m
 
 abbrev pub moving_in : State → Moving
-moving_in s = record { channels = channels_of s.core; slots = s.exceptions.slots; memory = s.bus.memory }
+moving_in s = record { channels = channels_of s.core; slots = s.exceptions.slots; memory = s.bus.memory; told = no_moves }
 
 -- (own) the mover of a locked machine stands still
 unfoldable pub moves_of : State → Moving

@@ -20,6 +20,7 @@ mod asker;
 pub mod exception;
 mod fetcher;
 pub mod mover_bits;
+mod moves;
 mod probe;
 mod register;
 mod request;
@@ -31,6 +32,7 @@ mod units;
 
 pub use asker::Asker;
 pub use fetcher::Fetcher;
+pub use moves::{Move, Moves};
 pub use probe::Probe;
 pub use register::{
     Bank, ControlRegister, FaultRegister, MoverRegister, Narrow, Register, TimerRegister,
