@@ -40,10 +40,10 @@ impl Machine {
         written: &mut Option<Written>,
     ) -> Result<Outcome, Fault>
         requires empty { array_vec_len stores.old ≡ 0 }
-        requires unwritten { noted_count written.old ≡ 0 }
+        requires few { noted_count written.old ≤ 2 }
         ensures does { loads_stores self.old insn.now ≡ record { state = self.new; stores = stores.new.items; outcome = result } }
         ensures back { before_stores written.new self.new.bus.memory ≡ before_stores written.old self.old.bus.memory }
-        ensures few { noted_count written.new ≤ 14 }
+        ensures few { noted_count written.new ≤ 16 }
     {
         let asker = self.asker();
         let mut port = port_over(
@@ -69,10 +69,10 @@ impl Machine {
         size: Size,
     ) -> Result<Outcome, Fault>
         requires empty { array_vec_len stores.old ≡ 0 }
-        requires unwritten { noted_count written.old ≡ 0 }
+        requires few { noted_count written.old ≤ 2 }
         ensures does { marked (record { addr = addr; size = size }) (loads_stores self.old insn.now) ≡ record { state = self.new; stores = stores.new.items; outcome = result } }
         ensures back { before_stores written.new self.new.bus.memory ≡ before_stores written.old self.old.bus.memory }
-        ensures few { noted_count written.new ≤ 14 }
+        ensures few { noted_count written.new ≤ 16 }
     {
         match self.load_store(insn, stores, written) {
             Ok(outcome) => {
@@ -95,10 +95,10 @@ impl Machine {
         rd: u8,
     ) -> Result<Outcome, Fault>
         requires empty { array_vec_len stores.old ≡ 0 }
-        requires unwritten { noted_count written.old ≡ 0 }
+        requires few { noted_count written.old ≤ 2 }
         ensures does { stores_exclusive self.old insn.now (record { addr = addr; size = size }) rd ≡ record { state = self.new; stores = stores.new.items; outcome = result } }
         ensures back { before_stores written.new self.new.bus.memory ≡ before_stores written.old self.old.bus.memory }
-        ensures few { noted_count written.new ≤ 14 }
+        ensures few { noted_count written.new ≤ 16 }
     {
         if !is_aligned(size, addr) {
             return Err(Fault::Unaligned);
@@ -118,10 +118,10 @@ impl Machine {
         written: &mut Option<Written>,
     ) -> Result<Outcome, Fault>
         requires empty { array_vec_len stores.old ≡ 0 }
-        requires unwritten { noted_count written.old ≡ 0 }
+        requires few { noted_count written.old ≤ 2 }
         ensures does { executed_by LoadStore self.old insn.now ≡ record { state = self.new; stores = stores.new.items; outcome = result } }
         ensures back { before_stores written.new self.new.bus.memory ≡ before_stores written.old self.old.bus.memory }
-        ensures few { noted_count written.new ≤ 14 }
+        ensures few { noted_count written.new ≤ 16 }
     {
         match *insn {
             Insn::LoadExclusive {

@@ -43,10 +43,10 @@ impl Machine {
         written: &mut Option<Written>,
     ) -> Result<Outcome, Fault>
         requires empty { array_vec_len stores.old ≡ 0 }
-        requires unwritten { noted_count written.old ≡ 0 }
+        requires few { noted_count written.old ≤ 2 }
         ensures does { executed_by Branch self.old insn.now ≡ record { state = self.new; stores = stores.new.items; outcome = result } }
         ensures back { before_stores written.new self.new.bus.memory ≡ before_stores written.old self.old.bus.memory }
-        ensures few { noted_count written.new ≤ 14 }
+        ensures few { noted_count written.new ≤ 16 }
     {
         let asker = self.asker();
         let mut port = port_over(
@@ -80,10 +80,10 @@ impl Machine {
         written: &mut Option<Written>,
     ) -> Result<Outcome, Fault>
         requires empty { array_vec_len stores.old ≡ 0 }
-        requires unwritten { noted_count written.old ≡ 0 }
+        requires few { noted_count written.old ≤ 2 }
         ensures does { executed self.old insn.now ≡ record { state = self.new; stores = stores.new.items; outcome = result } }
         ensures back { before_stores written.new self.new.bus.memory ≡ before_stores written.old self.old.bus.memory }
-        ensures few { noted_count written.new ≤ 14 }
+        ensures few { noted_count written.new ≤ 16 }
     {
         match *insn {
             Insn::DataImm { .. }

@@ -9,6 +9,7 @@ ghost use Rattle.tz_access.specs.Written.{before_stores, noted_count};
 ghost use Rattle.tz_core.specs.Undo.{note_of, undo_of};
 
 use crate::running::Machine;
+use crate::waiting::no_moves;
 use arrayvec::ArrayVec;
 use std::alloc::{AllocError, Global};
 use std::marker::Model;
@@ -94,7 +95,8 @@ impl Machine {
         begin(&mut note.written);
         let mut report = Report::new();
         let mut noted = None;
-        self.report_step(due, &mut report, &mut noted, &mut note.written);
+        let mut moves = no_moves();
+        self.report_step(due, &mut report, &mut noted, &mut note.written, &mut moves);
         report
     }
 
