@@ -61,7 +61,11 @@ fn begin_marks(marks: &mut Marks, first: &Machine, second: &Machine)
     ensures timers { marks.new.exceptions ≡ false → begin_alike first.now.exceptions second.now.exceptions ≡ true }
 {
     match first.side() {
-        Side::Secure => note_timers(marks, first.exceptions(), second.exceptions()),
+        Side::Secure => {
+            note_timers(marks, first.exceptions(), second.exceptions());
+            marks.note_moves(first);
+            marks.note_moves(second);
+        }
         Side::NonSecure => marks.clear(),
     }
 }
