@@ -33,7 +33,7 @@ itself : (s : State) → is_nonsecure_side (side_of s) ≡ true → Both s s (en
 itself s is = twin_ended s s (twins_of_seen s s refl is)
 
 -- what a step of Non-secure code begins with keeps all of the Secure side but for the timer
-begins_kept : (s : State) (events : List ScriptEvent) → is_nonsecure_side (side_of s) ≡ true → MovesKept (with_exceptions s (begun s.exceptions events)) (started s events)
+pub begins_kept : (s : State) (events : List ScriptEvent) → is_nonsecure_side (side_of s) ≡ true → MovesKept (with_exceptions s (begun s.exceptions events)) (started s events)
 begins_kept s events is =
     by_join (λ r r'. MovesKept (with_exceptions r (begun r.exceptions events)) (started r events))
     (λ o x x' same. moves_kept (record o { exceptions = begun o.exceptions events }) x x' (record { bytes = same.bytes; bus = same.bus })) s s (twins_of_seen s s refl is)
