@@ -6,7 +6,7 @@ ghost use Rattle.tz_model.specs.Words.{wrap};
 ghost use Rattle.tz_model.specs.Codes.{second_of};
 ghost use Rattle.tz_sem.specs.Step.{length_of, sleep_of};
 ghost use Rattle.tz_state.specs.Due.{begun};
-ghost use Rattle.tz_state.specs.Moves.{moves_of};
+ghost use Rattle.tz_state.specs.Moves.{moves_of, no_moves};
 ghost use Rattle.tz_state.specs.State.{with_exceptions};
 ghost use Rattle.tz_access.specs.Written.{before_stores, noted_count};
 
@@ -504,6 +504,7 @@ impl Machine {
     ) -> Close
         requires unnoted { noted.old ≡ None }
         requires unwritten { noted_count written.old ≡ 0 }
+        requires unmoved { moves.old ≡ no_moves }
         ensures step { step self.old due.now ≡ record { state = self.new; report = report.new } }
         ensures moves { moves.new ≡ (moves_of (with_exceptions self.old (begun self.old.exceptions due.now))).told }
         ensures ending { (ended (started self.old due.now)).ending ≡ ending_of result noted.new }
@@ -512,7 +513,7 @@ impl Machine {
         let before = self.core.before();
         report.changes.clear();
         report.stores.clear();
-        *moves = self.start(due, written);
+        self.start(due, written, moves);
         let close = self.make_step(&mut report.stores, noted, written);
         self.tell(&before, &close, report);
         close
@@ -532,7 +533,8 @@ impl Machine {
         stores.clear();
         let mut noted = None;
         let mut written = None;
-        self.start(due, &mut written);
+        let mut moves = no_moves();
+        self.start(due, &mut written, &mut moves);
         let close = self.make_step(stores, &mut noted, &mut written);
         Passage {
             way: self.way(start, &close),

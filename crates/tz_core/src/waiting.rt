@@ -46,6 +46,7 @@ impl Machine {
     ghost use Rattle.tz_sem.specs.Step.{started, awake, without_event, is_woken};
 
     /// Makes the moves of a step, of a machine that isn't locked and has a mover.
+    #[tactic(auto, unfolding(tz_state::specs::Moves::moves_of))]
     #[inline(never)]
     fn move_words(&mut self, written: &mut Option<Written>) -> Moves
         requires mover { self.old.bus.board.mover ≡ true }
@@ -69,35 +70,42 @@ impl Machine {
         told
     }
 
-    /// Makes the moves of a step, where the machine has a mover and isn't locked.
+    /// Makes the moves of a step, where the machine has a mover and isn't locked. In `moves` is then what moved; it has nothing
+    /// before, so that a machine without a mover writes nothing there.
+    #[tactic(auto, unfolding(tz_state::specs::Moves::moves_of))]
     #[inline(always)]
-    fn moves(&mut self, written: &mut Option<Written>) -> Moves
+    fn move_some(&mut self, written: &mut Option<Written>, moves: &mut Moves)
         requires unwritten { noted_count written.old ≡ 0 }
+        requires unmoved { moves.old ≡ no_moves }
         ensures does { self.new ≡ after_moves self.old }
-        ensures told { result ≡ (moves_of self.old).told }
+        ensures told { moves.new ≡ (moves_of self.old).told }
         ensures back { before_stores written.new self.new.bus.memory ≡ before_stores written.old self.old.bus.memory }
         ensures few { noted_count written.new ≤ 2 }
     {
         if self.bus.board().mover && !self.core.run.locked {
-            self.move_words(written)
-        } else {
-            no_moves()
+            *moves = self.move_words(written);
         }
     }
 
     /// What a step begins with, of a locked machine too: the events that are due pend, and the timers count; then the mover
     /// moves. It is always inlined, as `make_step` is.
     #[inline(always)]
-    pub(crate) fn start(&mut self, due: &[ScriptEvent], written: &mut Option<Written>) -> Moves
+    pub(crate) fn start(
+        &mut self,
+        due: &[ScriptEvent],
+        written: &mut Option<Written>,
+        moves: &mut Moves,
+    )
         requires unwritten { noted_count written.old ≡ 0 }
+        requires unmoved { moves.old ≡ no_moves }
         ensures does { self.new ≡ started self.old due.now }
-        ensures told { result ≡ (moves_of (with_exceptions self.old (begun self.old.exceptions due.now))).told }
+        ensures told { moves.new ≡ (moves_of (with_exceptions self.old (begun self.old.exceptions due.now))).told }
         ensures back { before_stores written.new self.new.bus.memory ≡ before_stores written.old self.old.bus.memory }
         ensures few { noted_count written.new ≤ 2 }
     {
         self.exceptions.pend_due(due);
         self.exceptions.tick();
-        self.moves(written)
+        self.move_some(written, moves);
     }
 
     /// Whether an exception ends a sleep, which a PRIMASK doesn't hinder.
