@@ -8,6 +8,7 @@ ghost use Rattle.tz_core.specs.Closing.{ending_of};
 
 use crate::changes::tell_changes;
 use crate::running::Machine;
+use tz_access::Written;
 use tz_model::{Code, CrossKind, Report, Side, StepKind, Way};
 use tz_regs::{Before, Core};
 use tz_sem::{Cause, Ending, Handling};
@@ -40,6 +41,23 @@ pub(crate) fn ending_of(close: &Close, noted: Option<Handling>) -> Ending
 pub struct Passage {
     pub way: Option<Way>,
     pub exceptional: bool,
+}
+
+/// Room for what is noted on the way of a step that has no report, and then asked by nobody. One serves all steps: what
+/// it has before a step doesn't matter, and to blank it at each would cost some 60 instructions.
+#[derive(Drop)]
+pub struct Room {
+    pub(crate) noted: Option<Handling>,
+    pub(crate) written: Option<Written>,
+}
+
+impl Room {
+    pub fn new() -> Room {
+        Room {
+            noted: None,
+            written: None,
+        }
+    }
 }
 
 /// Whether an exception was taken or returned.

@@ -26,7 +26,7 @@ mod waiting;
 mod words;
 
 pub use changes::Stores;
-pub use ending::Passage;
+pub use ending::{Passage, Room};
 pub use from_words::WordsError;
 pub use it_rules::is_passed_over;
 pub use laws::words_are_counted;

@@ -8,7 +8,7 @@ ghost use Rattle.tz_sem.specs.Step.{length_of, sleep_of};
 ghost use Rattle.tz_access.specs.Written.{before_stores, noted_count};
 
 use crate::changes::Stores;
-use crate::ending::{Close, Passage, changes_handler, ending_of};
+use crate::ending::{Close, Passage, Room, changes_handler, ending_of};
 use crate::exchange::{is_call, ran_by};
 use crate::it_rules::{ignores_condition, is_misplaced, is_passed_over};
 use crate::noting::pends_next;
@@ -510,7 +510,7 @@ impl Machine {
     /// exceptional. In `stores` are then those of its instruction, with those before a fault. It is always inlined, since a
     /// pair calls it twice a step, and the call would cost some 30 instructions.
     #[inline(always)]
-    pub fn step_way(&mut self, due: &[ScriptEvent], stores: &mut Stores) -> Passage
+    pub fn step_way(&mut self, due: &[ScriptEvent], stores: &mut Stores, room: &mut Room) -> Passage
         ensures steps { self.new ≡ (step self.old due.now).state }
         ensures way { result.way ≡ (step self.old due.now).report.way }
         ensures exceptional { result.exceptional ≡ is_exceptional (step self.old due.now).state.core (ended (started self.old due.now)).ending.cause }
@@ -518,10 +518,10 @@ impl Machine {
     {
         let start = self.core.running_side();
         stores.clear();
+        room.noted = None;
+        room.written = None;
         self.start(due);
-        let mut noted = None;
-        let mut written = None;
-        let close = self.make_step(stores, &mut noted, &mut written);
+        let close = self.make_step(stores, &mut room.noted, &mut room.written);
         Passage {
             way: self.way(start, &close),
             exceptional: self.core.run.locked || changes_handler(close.cause),
