@@ -17,7 +17,7 @@ use crate::crossed::what_by;
 use crate::marks::Marks;
 use std::alloc::{AllocError, Global};
 use std::marker::Model;
-use tz_core::{Machine, Passage, Stores};
+use tz_core::{Machine, Passage, Room, Stores};
 use tz_model::{Board, Image, ScriptEvent, Side};
 
 /// Two machines of one board and one Non-secure image, beside each other. As long as nothing differed at a
@@ -31,6 +31,7 @@ pub struct Pair {
     /// Room for the stores of a step of the first machine, and of the second.
     stores: Stores,
     others: Stores,
+    room: Room,
     /// What may differ, since the machines were last linked.
     marks: Marks,
 }
@@ -81,6 +82,7 @@ fn step_both(
     second: &mut Machine,
     stores: &mut Stores,
     others: &mut Stores,
+    room: &mut Room,
     marks: &mut Marks,
     due: &[ScriptEvent],
 ) -> Option<What>
@@ -97,8 +99,8 @@ fn step_both(
     begin_marks(marks, first, second);
     let side = first.core().run.side;
     let side_of_other = second.core().run.side;
-    let passage = first.step_way(due, stores);
-    let other = second.step_way(due, others);
+    let passage = first.step_way(due, stores, room);
+    let other = second.step_way(due, others, room);
     if is_quiet(&passage, &other, first) {
         return None;
     }
@@ -130,6 +132,7 @@ impl Pair {
             found: None,
             stores: Stores::new(),
             others: Stores::new(),
+            room: Room::new(),
             marks: Marks::everything(),
         })
     }
@@ -164,6 +167,7 @@ impl Pair {
             &mut self.second,
             &mut self.stores,
             &mut self.others,
+            &mut self.room,
             &mut self.marks,
             due,
         );
