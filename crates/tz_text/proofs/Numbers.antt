@@ -1,14 +1,14 @@
 -- The digits of a number before its last one, with that behind them; and codes as numbers.
 use Rattle.std.proofs.Common.{◌≡◌, ℕ, zero, suc, ◌+◌, ◌*◌, ◌/◌, ◌%◌, ◌^◌, ◌<◌, ◌≤◌, List, [], ◌∷◌, ◌++◌, Option, Some, None, refl, sym, ap, ◌∙◌, inl, inr, arith, eq-zero-or-pos}
 use Rattle.std.proofs.lemmas.Fmt.{decimal_digit, decimal_step}
+use Rattle.std.proofs.lemmas.Bool.Decides.{nat_tests}
 use Rattle.std.specs.Fmt.{decimal}
 use Rattle.tz_table.specs.declared.units.Code.{Code}
 use Rattle.tz_text.specs.Kept.{upper_of, number_of}
 use Rattle.tz_text.specs.Number.{tens_text}
 
 some_tens : (tens : ℕ) → 0 < tens → tens_text tens ≡ decimal tens
-some_tens zero h = absurd (omega arith)
-some_tens (suc tens) h = refl
+some_tens tens h = grind (arith, nat_tests)
 
 pub by_tens : (n : ℕ) → n < 2 ^ 32 → tens_text (n / 10) ++ ((48 + n % 10) ∷ []) ≡ decimal n
 by_tens n h =

@@ -42,7 +42,8 @@ fn number_of(code: &Code) -> u64
     ensures value { result ≡ number_of code.now }
     ensures first { code.now.first < 65536 }
 {
-    upper_of(code.second) * 65536 + u64::from(code.first)
+    let first = code.first;
+    upper_of(code.second) * 65536 + u64::from(first)
 }
 
 /// What a line shows of an instruction: the first `len` bytes of a piece, for the code with this number at `pc`.
@@ -73,6 +74,7 @@ impl Entry {
     fn of(pc: u32, code: &Code) -> Entry
         ensures pc { result.pc ≡ pc }
         ensures number { result.number ≡ number_of code.now }
+        ensures first { code.now.first < 65536 }
     {
         let number = number_of(code);
         let mut text = Text::new();

@@ -31,7 +31,7 @@ fn named(name: u8) -> ([u8; 8], usize)
     ensures text { take result.1 result.0 ≡ codes " " ++ change_name name ++ codes "=" }
     ensures short { result.1 ≤ 6 }
 {
-    let place = usize::from(name);
+    let place = name as usize;
     if place < NAMES.len() {
         NAMES[place]
     } else {
