@@ -140,7 +140,11 @@ fn shown_steps(rt: HostRuntime) -> Result<(), Fail> {
         let mut report = report(row.kind, Side::NonSecure, false, Side::NonSecure);
         report.changes.try_extend_from_slice(row.changes)?;
         report.stores.try_extend_from_slice(row.stores)?;
-        hold(&rt, line(&report, 7, View::Ns).bytes() == row.ns.as_bytes(), row.ns);
+        hold(
+            &rt,
+            line(&report, 7, View::Ns).bytes() == row.ns.as_bytes(),
+            row.ns,
+        );
         hold(
             &rt,
             line(&report, 7, View::All).bytes() == row.all.as_bytes(),
@@ -155,7 +159,15 @@ fn shown_steps(rt: HostRuntime) -> Result<(), Fail> {
 fn hidden_steps(rt: HostRuntime) {
     for &(kind, start, touched, end, want) in HIDDEN.iter() {
         let report = report(kind, start, touched, end);
-        hold(&rt, line(&report, 7, View::Ns).bytes() == b"7 S\n".as_slice(), want);
-        hold(&rt, line(&report, 7, View::All).bytes() == want.as_bytes(), want);
+        hold(
+            &rt,
+            line(&report, 7, View::Ns).bytes() == b"7 S\n".as_slice(),
+            want,
+        );
+        hold(
+            &rt,
+            line(&report, 7, View::All).bytes() == want.as_bytes(),
+            want,
+        );
     }
 }

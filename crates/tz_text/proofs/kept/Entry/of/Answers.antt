@@ -12,5 +12,5 @@ invariant_of-result c =
     record {
       within = c.len-len.ensures.fits;
       tells = λ code l e. take_at c.copy_from_slice.new.self _ c.len-len.result size ∙ shown ∙
-      ap (ran_text c.args.pc) (sym (same_code code c.args.code.now l c.number_of-number.ensures.first (e ∙ c.number_of-number.ensures.value)));
+          ap (ran_text c.args.pc) (sym (same_code code c.args.code.now l c.number_of-number.ensures.first (e ∙ c.number_of-number.ensures.value)));
     }
