@@ -1,5 +1,5 @@
 -- The pieces of names are the names between a space and `=`.
-use Rattle.std.proofs.Common.{◌≡◌, ℕ, zero, suc, ◌+◌, ◌-◌, ◌<◌, ◌≤◌, Bool, true, false, ◌&&◌, T, eqb, nat_le, List, [], ◌∷◌, ◌++◌, get_or, take, slice_get, Option, None, ap, ◌∙◌, refl, inl, inr, arith, eq-zero-or-pos, eqb→eq, codes}
+use Rattle.std.proofs.Common.{◌≡◌, ℕ, zero, suc, ◌-◌, ◌<◌, ◌≤◌, Bool, true, false, ◌&&◌, T, eqb, List, [], ◌∷◌, ◌++◌, get_or, take, slice_get, None, ap, ◌∙◌, refl, inl, inr, arith, eq-zero-or-pos, eqb→eq, codes}
 use Rattle.std.proofs.lemmas.Bool.Decides.{nat_tests}
 use Rattle.std.proofs.lemmas.List.{get_or_default}
 use Rattle.std.proofs.lemmas.Option.{slice_get_past}
@@ -37,7 +37,7 @@ below : (n k : ℕ) → T (are_named n) → k < n → take (get_or NAMES k none)
 below zero k t h = absurd (omega arith)
 below (suc n) k t h =
     elim (eq-zero-or-pos (n - k)) [
-      | inl z ↦ let e : k ≡ n = omega arith in rw e (same→eq _ _ (and_l _ (are_named n) t))
+      | inl z ↦ let e : k ≡ n = omega arith in rw e (same→eq (take (get_or NAMES n none).1 (get_or NAMES n none).0) (between n) (and_l _ (are_named n) t))
       | inr g ↦ below n k (and_r _ (are_named n) t) (omega arith)
     ]
 

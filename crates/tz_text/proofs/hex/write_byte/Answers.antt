@@ -1,4 +1,3 @@
-use Rattle.std.proofs.Common.{arith, ◌∙◌, ap, ◌++◌, ◌∷◌, []}
 use Rattle.tz_syntax.specs.Digits.{hex_byte}
 use Rattle.tz_text.proofs.HexDigits.{take_two}
 use Rattle.tz_text.proofs.hex.write_byte.Goals as goal

@@ -1,4 +1,4 @@
-use Rattle.std.proofs.Common.{◌≡◌, ◌<◌, ◌^◌, ℕ, arith, append_assoc, ap, ◌∙◌}
+use Rattle.std.proofs.Common.{◌<◌, ◌^◌, arith, append_assoc}
 use Rattle.tz_text.proofs.Numbers.{by_tens}
 use Rattle.tz_text.proofs.number.push_number.Goals as goal
 

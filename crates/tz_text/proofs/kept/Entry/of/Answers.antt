@@ -1,5 +1,4 @@
-use Rattle.std.proofs.Common.{◌≡◌, ℕ, List, length, sym, ap, ◌∙◌, take_at}
-use Rattle.tz_table.specs.declared.units.Code.{Code}
+use Rattle.std.proofs.Common.{◌≡◌, length, sym, ap, ◌∙◌, take_at}
 use Rattle.tz_text.specs.Instruction.{ran_text}
 use Rattle.tz_text.proofs.Numbers.{same_code}
 use Rattle.tz_text.proofs.kept.Entry.of.Goals as goal
