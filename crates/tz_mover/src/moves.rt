@@ -3,7 +3,7 @@
 ghost use Rattle.std.specs.Prelude.{◌≡◌, ◌<◌, ◌≤◌, ◌+◌, MatchOption, true, false};
 ghost use Rattle.tz_state.specs.Memory.{word_at, with_word};
 ghost use Rattle.tz_state.specs.State.{with_memory};
-ghost use Rattle.tz_state.specs.Moves.{may_move, after_move, word_moved, memory_moved, has_irq, pends_irq, slots_told, channel_of, with_channel, no_moves, with_move, move_told, moved, all_moved};
+ghost use Rattle.tz_state.specs.Moves.{may_move, after_move, word_moved, memory_moved, pends_irq, slots_told, channel_of, with_channel, no_moves, with_move, move_told, moved, all_moved};
 ghost use Rattle.tz_access.specs.Written.{before_stores, noted_count};
 ghost use Rattle.tz_mover.specs.Lent.{moving};
 
@@ -41,35 +41,24 @@ fn move_word(
     }
 }
 
-/// Whether the core has the interrupt that a channel names, and it is of a side.
-fn has_irq(exceptions: &Exceptions, side: Side, channel: &Channel) -> bool
-    ensures { result ≡ has_irq side exceptions.now channel.now }
-{
-    let irq = irq_of(channel);
-    if irq < u32::from(exceptions.interrupts()) {
-        exceptions.at(FIRST_INTERRUPT_PLACE + irq as usize).target == side
-    } else {
-        false
-    }
-}
-
-/// Whether a channel has stopped, asks for its interrupt, and has it.
-fn pends_irq(exceptions: &Exceptions, side: Side, channel: &Channel) -> bool
-    ensures { result ≡ pends_irq side exceptions.now channel.now }
-{
-    !goes(channel) && channel.ctrl / MOVER_IE % 2 == 1 && has_irq(exceptions, side, channel)
-}
-
-/// Pends the interrupt of a channel that has stopped, where it asks for it and has it, and tells whether it does.
+/// Pends the interrupt of a channel that has stopped, where it asks for it, and the core has it and it is of a side; and
+/// tells whether it does.
 fn tell(exceptions: &mut Exceptions, side: Side, channel: &Channel) -> bool
     ensures pends { result ≡ pends_irq side exceptions.old channel.now }
     ensures slots { exceptions.new ≡ record exceptions.old { slots = slots_told side exceptions.old channel.now } }
 {
-    if !pends_irq(exceptions, side, channel) {
+    if goes(channel) || channel.ctrl / MOVER_IE % 2 == 0 {
         return false;
     }
-    let place = FIRST_INTERRUPT_PLACE + irq_of(channel) as usize;
+    let irq = irq_of(channel);
+    if irq >= u32::from(exceptions.interrupts()) {
+        return false;
+    }
+    let place = FIRST_INTERRUPT_PLACE + irq as usize;
     let mut state = exceptions.at(place);
+    if state.target != side {
+        return false;
+    }
     state.pending = true;
     exceptions.put_at(place, state);
     true
