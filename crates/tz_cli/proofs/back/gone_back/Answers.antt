@@ -1,5 +1,4 @@
 use Rattle.std.proofs.Common.{◌≡◌, ◌-◌, ◌∙◌, ap, arith}
-use Rattle.tz_state.specs.State.{State}
 use Rattle.tz_run.specs.Events.{events_of}
 use Rattle.tz_undo.specs.History.{HistoryValue}
 use Rattle.tz_cli.proofs.Histories.{can_undo, undone_end}
