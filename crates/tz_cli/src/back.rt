@@ -1,6 +1,6 @@
 //! The command `back`: a run whose last steps are undone, made again and written.
 //!
-//! A step that is noted takes longer, so the steps before those that are undone are made without a history. It begins
+//! Noting what undoes a step takes time, so the steps before those that are undone are made without a history. It begins
 //! with these, and holds no more of them. Nothing is written before there is memory for it.
 
 ghost use Rattle.std.specs.Prelude.{◌≡◌, ◌+◌, ◌^◌, ◌<◌, ◌≤◌, ◌-◌, [], ◌∷◌, IfOk, IfErr, drop, length, take};
