@@ -1,7 +1,7 @@
 //! The command `back`: a run whose last steps are undone, made again and written.
 //!
-//! Noting what undoes a step takes time, so the steps before those that are undone are made without a history. It begins
-//! with these, and holds no more of them. Nothing is written before there is memory for it.
+//! Noting what undoes a step takes time, so the steps before those that are undone are made without a history. It has
+//! those that are undone, and no others. Nothing is written before there is memory for it.
 
 ghost use Rattle.std.specs.Prelude.{◌≡◌, ◌+◌, ◌^◌, ◌<◌, ◌≤◌, ◌-◌, [], ◌∷◌, IfOk, IfErr, drop, length, take};
 ghost use Rattle.tz_model.specs.Outside.{Gains};
