@@ -507,10 +507,16 @@ impl Machine {
     }
 
     /// Makes one step at which these events are due, and tells of it the way out of Secure state, and whether it was
-    /// exceptional. In `stores` are then those of its instruction, with those before a fault. It is always inlined, since a
+    /// exceptional. In `stores` are then those of its instruction, with those before a fault, and in `noted` how exceptions
+    /// came into it. That is lent, since a call that makes the room for it blanks it first. It is always inlined, since a
     /// pair calls it twice a step, and the call would cost some 30 instructions.
     #[inline(always)]
-    pub fn step_way(&mut self, due: &[ScriptEvent], stores: &mut Stores) -> Passage
+    pub fn step_way(
+        &mut self,
+        due: &[ScriptEvent],
+        stores: &mut Stores,
+        noted: &mut Option<Handling>,
+    ) -> Passage
         ensures steps { self.new ≡ (step self.old due.now).state }
         ensures way { result.way ≡ (step self.old due.now).report.way }
         ensures exceptional { result.exceptional ≡ is_exceptional (step self.old due.now).state.core (ended (started self.old due.now)).ending.cause }
@@ -518,10 +524,10 @@ impl Machine {
     {
         let start = self.core.running_side();
         stores.clear();
+        *noted = None;
         self.start(due);
-        let mut noted = None;
         let mut written = None;
-        let close = self.make_step(stores, &mut noted, &mut written);
+        let close = self.make_step(stores, noted, &mut written);
         Passage {
             way: self.way(start, &close),
             exceptional: self.core.run.locked || changes_handler(close.cause),

@@ -19,6 +19,7 @@ use std::alloc::{AllocError, Global};
 use std::marker::Model;
 use tz_core::{Machine, Passage, Stores};
 use tz_model::{Board, Image, ScriptEvent, Side};
+use tz_sem::Handling;
 
 /// Two machines of one board and one Non-secure image, beside each other. As long as nothing differed at a
 /// crossing out of Secure state, Non-secure code sees the same in both.
@@ -31,6 +32,8 @@ pub struct Pair {
     /// Room for the stores of a step of the first machine, and of the second.
     stores: Stores,
     others: Stores,
+    /// Room for how exceptions came into a step, which nothing asks for.
+    noted: Option<Handling>,
     /// What may differ, since the machines were last linked.
     marks: Marks,
 }
@@ -81,6 +84,7 @@ fn step_both(
     second: &mut Machine,
     stores: &mut Stores,
     others: &mut Stores,
+    noted: &mut Option<Handling>,
     marks: &mut Marks,
     due: &[ScriptEvent],
 ) -> Option<What>
@@ -97,8 +101,8 @@ fn step_both(
     begin_marks(marks, first, second);
     let side = first.core().run.side;
     let side_of_other = second.core().run.side;
-    let passage = first.step_way(due, stores);
-    let other = second.step_way(due, others);
+    let passage = first.step_way(due, stores, noted);
+    let other = second.step_way(due, others, noted);
     if is_quiet(&passage, &other, first) {
         return None;
     }
@@ -130,6 +134,7 @@ impl Pair {
             found: None,
             stores: Stores::new(),
             others: Stores::new(),
+            noted: None,
             marks: Marks::everything(),
         })
     }
@@ -164,6 +169,7 @@ impl Pair {
             &mut self.second,
             &mut self.stores,
             &mut self.others,
+            &mut self.noted,
             &mut self.marks,
             due,
         );
