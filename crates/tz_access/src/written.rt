@@ -31,7 +31,7 @@ impl Default for Was {
     }
 }
 
-/// What the stores of a step overwrote, the newest last: those of its instruction, and those of frames.
+/// What the stores of a step overwrote, the newest last: those of moves, of its instruction, and of frames.
 pub type Written = ArrayVec<Was, 40>;
 
 /// What the store of a number overwrote.
@@ -90,7 +90,7 @@ impl Bus {
     }
 
     /// Writes as `write` does, and notes what it overwrote, where that is wanted.
-    pub(crate) fn write_noted(
+    pub fn write_noted(
         &mut self,
         addr: u32,
         size: Size,
