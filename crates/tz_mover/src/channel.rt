@@ -45,11 +45,7 @@ pub fn after_word(channel: Channel) -> Channel
         count: channel.count - 1,
         ctrl: channel.ctrl,
     };
-    if channel.count == 1 {
-        done(past)
-    } else {
-        past
-    }
+    if channel.count == 1 { done(past) } else { past }
 }
 
 /// CTRL.IRQ.

@@ -28,7 +28,8 @@ fn move_word(
     ensures noted { before_stores written.new bus.new.memory ≡ before_stores written.old bus.old.memory }
     ensures few { noted_count written.new ≤ noted_count written.old + 1 }
 {
-    if !bus.may_touch(side, Size::Word, channel.src) || !bus.may_touch(side, Size::Word, channel.dst)
+    if !bus.may_touch(side, Size::Word, channel.src)
+        || !bus.may_touch(side, Size::Word, channel.dst)
     {
         return None;
     }

@@ -29,7 +29,7 @@ returns c =
     let slots : c.slot_count-slots.result ≡ slot_count c.args.self.now.bus.board = rw board at c.slot_count-slots.ensures.is in
     let channels : c.channel_count-channels.result ≡ channel_count c.args.self.now.bus.board = rw board at c.channel_count-channels.ensures.is in
     let told = memory_told c.args.self.now c.args.index (c.args.index - c.field_count-fields.result - c.slot_count-slots.result - c.channel_count-channels.result)
-        (omega (arith, fields, slots, channels, c.if-index-fields.false, c.if-index-fields-2.false, c.if-behind-channels.false)) in
+    (omega (arith, fields, slots, channels, c.if-index-fields.false, c.if-index-fields-2.false, c.if-behind-channels.false)) in
     let regions : c.deref.result.now ≡ c.args.self.now.bus.board.regions =
     c.deref.ensures.value ∙ ap (λ (b : BoardValue). b.regions) c.board.view_is ∙ ap (λ (b : BoardValue). b.regions) board
     in
