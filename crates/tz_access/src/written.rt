@@ -33,13 +33,8 @@ impl Default for Was {
     }
 }
 
-<<<<<<< HEAD
 /// What the stores of a step overwrote, the newest last: those of moves, of its instruction, and of frames. It stands in
 /// a box, so that a step which notes nothing has no room for it to make ready.
-=======
-/// What the stores of a step overwrote, the newest last: those of its instruction, and those of frames. It stands in a
-/// box, so that a step which notes nothing has no room for it to make ready.
->>>>>>> 4fc12e185e35b4d7f938aec07157d97c30311060
 #[derive(Drop)]
 pub struct Written {
     list: Box<ArrayVec<Was, 40>>,

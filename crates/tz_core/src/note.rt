@@ -9,10 +9,7 @@ ghost use Rattle.tz_access.specs.Written.{before_stores, noted_count};
 ghost use Rattle.tz_core.specs.Undo.{note_of, undo_of};
 
 use crate::running::Machine;
-<<<<<<< HEAD
 use crate::waiting::no_moves;
-=======
->>>>>>> 4fc12e185e35b4d7f938aec07157d97c30311060
 use std::alloc::{AllocError, Global};
 use std::marker::Model;
 use tz_access::{Units, Written};
