@@ -1,9 +1,9 @@
 //! Moves: a word read and written, and an interrupt that pends where a channel stops.
 
-ghost use Rattle.std.specs.Prelude.{◌≡◌, ◌<◌, ◌≤◌, ◌+◌, MatchOption, true, false};
+ghost use Rattle.std.specs.Prelude.{◌≡◌, ◌<◌, ◌≤◌, ◌+◌, MatchOption, IsTrue, true, false};
 ghost use Rattle.tz_state.specs.Memory.{word_at, with_word};
 ghost use Rattle.tz_state.specs.State.{with_memory};
-ghost use Rattle.tz_state.specs.Moves.{may_move, after_move, word_moved, memory_moved, pends_irq, slots_told, channel_of, with_channel, no_moves, with_move, move_told, moved, all_moved};
+ghost use Rattle.tz_state.specs.Moves.{may_move, after_move, word_moved, memory_moved, irq_of, has_irq, pends_irq, slots_told, channel_of, with_channel, no_moves, with_move, move_told, moved, all_moved};
 ghost use Rattle.tz_access.specs.Written.{before_stores, noted_count};
 ghost use Rattle.tz_mover.specs.Lent.{moving};
 
@@ -42,24 +42,45 @@ fn move_word(
     }
 }
 
-/// Pends the interrupt of a channel that has stopped, where it asks for it, and the core has it and it is of a side; and
-/// tells whether it does.
+/// Whether the core has the interrupt that a channel names, and it is of a side.
+fn has_irq(exceptions: &Exceptions, side: Side, channel: &Channel) -> bool
+    ensures is { result ≡ has_irq side exceptions.now channel.now }
+    ensures few { IsTrue result → irq_of channel.now < 240 }
+{
+    let irq = irq_of(channel);
+    if irq < u32::from(exceptions.interrupts()) {
+        exceptions.at(FIRST_INTERRUPT_PLACE + irq as usize).target == side
+    } else {
+        false
+    }
+}
+
+/// Whether a channel of a side has stopped, asks for its interrupt, and has it.
+fn pends_irq(exceptions: &Exceptions, side: Side, channel: &Channel) -> bool
+    ensures is { result ≡ pends_irq side exceptions.now channel.now }
+    ensures few { IsTrue result → irq_of channel.now < 240 }
+{
+    if goes(channel) {
+        return false;
+    }
+    if channel.ctrl / MOVER_IE % 2 == 1 {
+        has_irq(exceptions, side, channel)
+    } else {
+        false
+    }
+}
+
+/// Pends the interrupt of a channel that has stopped, where it asks for it and has it, and tells whether it does.
+#[tactic(auto, using(crate::proofs::Telling::told, crate::proofs::Telling::untold))]
 fn tell(exceptions: &mut Exceptions, side: Side, channel: &Channel) -> bool
     ensures pends { result ≡ pends_irq side exceptions.old channel.now }
     ensures slots { exceptions.new ≡ record exceptions.old { slots = slots_told side exceptions.old channel.now } }
 {
-    if goes(channel) || channel.ctrl / MOVER_IE % 2 == 0 {
+    if !pends_irq(exceptions, side, channel) {
         return false;
     }
-    let irq = irq_of(channel);
-    if irq >= u32::from(exceptions.interrupts()) {
-        return false;
-    }
-    let place = FIRST_INTERRUPT_PLACE + irq as usize;
+    let place = FIRST_INTERRUPT_PLACE + irq_of(channel) as usize;
     let mut state = exceptions.at(place);
-    if state.target != side {
-        return false;
-    }
     state.pending = true;
     exceptions.put_at(place, state);
     true
