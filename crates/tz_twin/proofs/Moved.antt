@@ -44,7 +44,7 @@ moved_bytes b e side m a beside = go (goes c) refl where
 -- a channel that doesn't go moves nothing
 moved_nothing : (b : Bus) (e : ExceptionsValue) (side : Side) (m : Moving) → channel_stores (channel_of side m.channels) ≡ [] → moved b e side m ≡ m
 moved_nothing b e side m none = go (goes (channel_of side m.channels)) none where
-  go : (t : Bool) → cond t (record { addr = (channel_of side m.channels).dst; size = Word; value = 0 } ∷ []) [] ≡ [] → cond t (moved_by b e side (channel_of side m.channels) m) m ≡ m
+  go : (t : Bool) → cond {A = List Store} t (record { addr = (channel_of side m.channels).dst; size = Word; value = 0 } ∷ []) [] ≡ [] → cond t (moved_by b e side (channel_of side m.channels) m) m ≡ m
   go true none = cc
   go false none = refl
 
