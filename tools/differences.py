@@ -162,6 +162,12 @@ WHATS = {
         "an ldrex, sev or wfe of Secure code that depends on the secret, and no clrex behind it",
         "clrex on each way out; sev and wfe at the same steps, whatever the secret is",
     ),
+    "mover": Told(
+        "the Non-secure channel of the mover differs: Non-secure code reads its registers, and sees what it moves",
+        "Secure code writes that channel (0xe002ec00 and on) depending on the secret, or runs another number of steps, in "
+        "which the channel moves on",
+        "leave that channel to the Non-secure side; take the same number of steps, whatever the secret is",
+    ),
 }
 # Of a byte that differs where an interrupt comes between.
 INTERRUPTED = Told(
@@ -186,6 +192,7 @@ WRITERS = {
     "fault": r" \[e00[02]ed(2[89a-f]|3[4-9ab])| X [3-6] ",
     "exceptions": r" \[e00[02](e[1-7]|ed0[4-7c-f]|ed(1[89a-f]|2[0-7])|ef00)| X ",
     "systick": r" \[e00[02]e01",
+    "mover": r" \[e002ec0",
     "sleep": r" (ldrex|ldaex|strex|stlex)[bh]? | clrex| sev| wf[ei]| X ",
 }
 

@@ -36,10 +36,13 @@ FLAGS = "flags={flags} it={it} t={t} pc={pc}"
 PLAIN = "UNDEFINSTR|INVSTATE|NOCP|UNALIGNED|DIVBYZERO|IBUSERR|INVEP|INVTRAN|DEBUGEVT"
 
 # Each kind of line, with its rank: the lines of a step stand by ascending ranks.
-BEGUN, EVENTS, SLEEP, LOADS, STORES, WAYS, TAKING, CROSSING = 1, 0, 2, 3, 4, 5, 6, 7
+EVENTS, BEGUN, MOVES, SLEEP, LOADS, STORES, WAYS, TAKING, CROSSING = range(9)
 FORMS = [
     ("event", EVENTS, r"event (?P<event>irq [0-9]+|nmi)"),
     ("tick", BEGUN, "SysTick {side} pends"),
+    ("moved", MOVES, f"mover {{side}} {{address}} to {{base}} (?P<value>{WORD}|ERROR)"),
+    ("moves done", MOVES, "mover {side} DONE"),
+    ("moves pend", MOVES, "mover {side} pends irq {number}"),
     ("sleep", SLEEP, "sleep ends"),
     ("load", LOADS, "load {address} {size} {value}(?: {system})?"),
     ("store", STORES, "store {address} {system}"),

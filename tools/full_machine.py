@@ -5,6 +5,7 @@ program. What isn't known is None. It runs no instruction: registers are those t
 is worked out.
 """
 
+import collections
 import pathlib
 import re
 import struct
@@ -31,6 +32,9 @@ ARRAYS = {0x100: ("NVIC_ISER", 32), 0x180: ("NVIC_ICER", 32), 0x200: ("NVIC_ISPR
 for first, (array, count) in ARRAYS.items():
     REGISTERS.update({first + 4 * number: f"{array}{number}" for number in range(count)})
 
+# Those of a board with a mover.
+MOVER_REGISTERS = {0xC00: "MOVER_SRC", 0xC04: "MOVER_DST", 0xC08: "MOVER_COUNT", 0xC0C: "MOVER_CTRL"}
+
 DEMO = """
 secure_vtor = 0x10000000
 nonsecure_vtor = 0x00200000
@@ -53,15 +57,26 @@ size = 0x8000
 """
 
 
-def system_name(address):
+def system_name(address, board):
     """The name of the system register at an address of the private space."""
     suffix = VIEWS.get(address & 0xFFFFF000)
-    name = REGISTERS.get(address & 0xFFC)
+    name = {**REGISTERS, **(MOVER_REGISTERS if board.has_mover else {})}.get(address & 0xFFC)
     return "reserved" if suffix is None or name is None else name + suffix
 
 
+class Region(collections.namedtuple("Region", "base size kind side")):
+    """A region of memory."""
+
+    def has(self, address):
+        return self.base <= address < self.base + self.size
+
+
+# A region of the SAU.
+Unit = collections.namedtuple("Unit", "base limit nsc")
+
+
 class Board:
-    """Of a board file what is asked here: the vector tables, the profile, how many interrupts, and where there is memory."""
+    """Of a board file what is asked here: vector tables, profile, interrupts, the mover, memory, and what is Non-secure."""
 
     def __init__(self, text):
         keys = {}
@@ -72,16 +87,31 @@ class Board:
         self.vtor = {side: int(keys[f"{name}_vtor"][0], 0) for side, name in ((SECURE, "secure"), (NONSECURE, "nonsecure"))}
         self.clears = keys.get("profile", ["v8.0"])[0] == "v8.1"
         self.interrupts = int(keys["interrupts"][0], 0)
-        # The bases of `[[sau]]` have no size beside them.
-        regions = re.split(r"\[\[region\]\]", text)[1:]
-        self.regions = [(number_in(it, "base"), number_in(it, "size")) for it in regions]
+        self.has_mover = keys.get("mover", ["false"])[0] == "true"
+        tables = re.split(r"\[\[(region|sau)\]\]", text)[1:]
+        parts = [(name, values_in(table)) for name, table in zip(tables[::2], tables[1::2])]
+        self.regions = [
+            Region(int(it["base"], 0), int(it["size"], 0), it.get("kind"), it.get("side")) for name, it in parts if name == "region"]
+        self.units = [Unit(int(it["base"], 0), int(it["limit"], 0), it["nsc"]) for name, it in parts if name == "sau"]
 
     def is_mapped(self, address, size):
-        return all(any(base <= at < base + length for base, length in self.regions) for at in range(address, address + size))
+        return all(any(it.has(at) for it in self.regions) for at in range(address, address + size))
+
+    def allows(self, side, address, is_store=False):
+        """Whether code of a side may read a word there, or store it, by attribution and the map."""
+        return all(self.allows_byte(side, at, is_store) for at in range(address, address + 4))
+
+    def allows_byte(self, side, address, is_store):
+        region = next((it for it in self.regions if it.has(address)), None)
+        if region is None or is_store and region.kind != "ram":
+            return False
+        units = [it for it in self.units if it.base <= address <= it.limit]
+        is_nonsecure = region.side == "nonsecure" and len(units) == 1 and units[0].nsc == "false"
+        return side == SECURE or is_nonsecure
 
 
-def number_in(text, key):
-    return int(re.search(rf"^\s*{key}\s*=\s*(\w+)", text, re.M)[1], 0)
+def values_in(text):
+    return {name: value.strip('"') for name, value in re.findall(r"^\s*(\w+)\s*=\s*(\"[^\"]*\"|\w+)", text, re.M)}
 
 
 def segments_of(data):
@@ -103,7 +133,7 @@ class Memory:
     """Bytes by their addresses; None is a byte that isn't known. What isn't written is 0."""
 
     def __init__(self, board, images):
-        self.board, self.bytes = board, {}
+        self.board, self.bytes, self.is_known = board, {}, True
         for image in images:
             for address, content in segments_of(image):
                 self.bytes.update(zip(range(address, address + len(content)), content))
@@ -112,13 +142,16 @@ class Memory:
         """The number there; None where it isn't known, or where there is no memory."""
         places = [(address + at) & 0xFFFFFFFF for at in range(size)]
         found = [self.bytes.get(it, 0) for it in places]
-        if None in found or not all(self.board.is_mapped(it, 1) for it in places):
+        if not self.is_known or None in found or not all(self.board.is_mapped(it, 1) for it in places):
             return None
         return int.from_bytes(bytes(found), "little")
 
     def write(self, address, size, value):
         for at in range(size):
             self.bytes[(address + at) & 0xFFFFFFFF] = None if value is None else value >> 8 * at & 0xFF
+
+    def forget_all(self):
+        self.is_known = False
 
     def forget(self, first, end):
         self.bytes.update((at & 0xFFFFFFFF, None) for at in range(first, end))

@@ -28,6 +28,8 @@ def command_of(folder, words):
     """The runs that a command makes: those of both images where it compares two."""
     words = [it for it in words if it not in ("--view", "all", "ns", "full")]
     first, rest = words[:1], words[1:]
+    if first == ["back"]:
+        first, rest = ["run"], rest[:-1]
     if first in (["run"], ["gates"]) and len(rest) == 5:
         images, rest = [rest[1:3]], rest[:1] + rest[3:]
     elif first in (["pair"], ["explain"]) and len(rest) == 6:
@@ -69,7 +71,7 @@ def all_runs(folder):
     """One run of those that differ in their steps alone."""
     found = {}
     runs = [*commands_of_folders()]
-    for name in ("runs.txt", "pairs.txt", *sorted(path.name for path in (TOP / "cases").glob("full*.txt"))):
+    for name in ("runs.txt", "pairs.txt", "mover.txt", *sorted(path.name for path in (TOP / "cases").glob("full*.txt"))):
         runs += commands_of_cases(folder / name, name)
     for run in runs:
         found[run[:-1]] = max(run.steps, found.get(run[:-1], 0))

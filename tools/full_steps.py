@@ -22,8 +22,9 @@ WRITE = re.compile(r"msr (\w+), (\w+)")
 MASK = re.compile(r"cpsi([de]) ([if]+)")
 LETTERS = {"s": SECURE, "n": NONSECURE}
 SIZES = {1: "byte", 2: "half", 4: "word"}
+MOVES = ("moved", "moves done", "moves pend")
 # Kinds of which a step may have several lines.
-SEVERAL = {"event", "tick", "load", "store", "forced"}
+SEVERAL = {"event", "tick", *MOVES, "load", "store", "forced"}
 
 Line = collections.namedtuple("Line", "step side kind pc code text registers stores number lr")
 
@@ -116,6 +117,8 @@ class Run(Entries):
             if self.system.timers[side].count():
                 self.want("tick", side=side)
                 self.system.pend(15)
+        if not self.is_locked:
+            self.move(line.side)
         if self.core.sleep is None:
             self.free.add("sleep")
         elif self.core.sleep and line.kind != "Z" and not self.is_locked:
@@ -124,6 +127,17 @@ class Run(Entries):
             if self.core.sleep == "wfe" and line.kind == "N":
                 self.core.event = 0
             self.core.sleep = ""
+
+    def move(self, side):
+        """The moves of a step that begins in the state of a side."""
+        memory = self.core.memory
+        moves = self.system.mover.moves(side, memory, self.system.pend_interrupt)
+        if moves is None:
+            self.free.update(MOVES)
+            # What was moved isn't known, and so nothing in memory is.
+            memory.forget_all()
+        else:
+            self.wanted += moves
 
     # ---- an instruction that ran
 
@@ -152,7 +166,7 @@ class Run(Entries):
         self.load_facts(loads, resumed, before[3], is_table(text))
         for address, size, value in line.stores:
             if address in PRIVATE:
-                self.want("store", address=word(address), system=system_name(address))
+                self.want("store", address=word(address), system=self.system_name(address))
             self.system.store(before[3], address, size, value)
 
     def loaded(self, load):
@@ -352,10 +366,13 @@ class Run(Entries):
             private = load.address in PRIVATE if load.address is not None else None
             known = None if load.address is None or private else self.core.memory.read(load.address, load.size)
             self.want("load", address=word(load.address), size=SIZES[load.size], value=self.read_value(load, resumed, known, table),
-                      system=None if private is None else system_name(load.address) if private else ABSENT)
+                      system=None if private is None else self.system_name(load.address) if private else ABSENT)
+
+    def system_name(self, address):
+        return system_name(address, self.core.memory.board)
 
     def status(self, load, side):
-        """A load of a status register: what the faults that were told have left there."""
+        """A load of a status register, or of the mover: what the faults and the moves that were told have left there."""
         word_there = self.system.read(side, load.address & ~3)
         value = self.core.r.get(load.register)
         if word_there is not None and value is not None and not load.signed:

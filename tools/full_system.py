@@ -1,6 +1,7 @@
-"""What stores to system registers tell of exceptions: priorities, what is enabled, what pends, and both SysTicks."""
+"""What stores to system registers tell of exceptions: priorities, what is enabled, what pends, both SysTicks, and the mover."""
 
 from full_machine import NONSECURE, SECURE
+from full_mover import Mover
 
 NAMES = {2: "NMI", 3: "HardFault", 4: "MemManage", 5: "BusFault", 6: "UsageFault", 7: "SecureFault", 11: "SVCall", 14: "PendSV",
          15: "SysTick"}
@@ -119,6 +120,7 @@ class System:
     def __init__(self, core):
         self.core = core
         self.timers = {side: Timer() for side in SIDES}
+        self.mover = Mover(core.memory.board)
         self.priorities, self.enables, self.interrupt_sides = {}, {}, {}
         self.groups = {side: 0 for side in SIDES}
         self.pris, self.is_swapped = 0, 0
@@ -131,6 +133,14 @@ class System:
 
     def pend(self, number):
         self.pending.add(number)
+
+    def pend_interrupt(self, interrupt, side):
+        """Pends an interrupt that the board has and that is of a side; whether it does."""
+        number = FIRST_INTERRUPT + interrupt
+        told = interrupt < self.core.memory.board.interrupts and bool(self.interrupt_sides.get(number)) == (side == NONSECURE)
+        if told:
+            self.pend(number)
+        return told
 
     def may_be_taken(self, number):
         """Whether an exception was pended; it doesn't pend any more."""
@@ -199,9 +209,12 @@ class System:
             self.word(view, offset, value)
 
     def read(self, side, address):
-        """The word of a status register; None of others."""
-        view = view_of(side, address)
-        return None if view is None else self.status.read(view, address & 0xFFF, self.is_swapped)
+        """The word of a status register or of the mover; None of others."""
+        view, offset = view_of(side, address), address & 0xFFF
+        if view is None:
+            return None
+        found = self.status.read(view, offset, self.is_swapped)
+        return self.mover.read(view, offset) if found is None else found
 
     def byte(self, view, offset, value):
         """Priorities, which bytes write, too."""
@@ -218,6 +231,7 @@ class System:
 
     def word(self, view, offset, value):
         timer = self.timers[view]
+        self.mover.write(view, offset, value)
         if offset == SYST_CSR:
             timer.control = value
         elif offset == SYST_RVR:

@@ -1,6 +1,6 @@
 """Traces of view `full` that were written by hand, and each of their lines changed in one place after the other.
 
-Each trace has an image of both sides, a script, and its lines; they were worked out from docs/PROFILE.md. They agree with what
+Each trace has a board, an image of both sides, a script, and its lines; they were worked out from docs/PROFILE.md. They agree with what
 is asked of a trace, and none of the changed ones does.
 """
 
@@ -9,6 +9,24 @@ from full_machine import Board, Core, DEMO, Memory
 from full_runs import events_of, grouped
 from full_steps import Run, line_of
 from full_system import System
+
+# A board with a mover, of Secure memory.
+MOVER_BOARD = """
+secure_vtor = 0x10000000
+nonsecure_vtor = 0x00200000
+interrupts = 8
+mover = true
+[[region]]
+base = 0x10000000
+size = 0x8000
+kind = "rom"
+side = "secure"
+[[region]]
+base = 0x30000000
+size = 0x8000
+kind = "ram"
+side = "secure"
+"""
 
 # Secure code is interrupted by the Non-secure interrupt 0, calls Non-secure code and returns to it, and is called by a
 # gateway; then a division by 0 becomes HardFault, whose handler locks.
@@ -122,16 +140,54 @@ SLEPT = (b"10000000 0010003041000010\n1000003c 81000010\n10000060 10e000e0\n", "
     takes 15 SysTick S, priority 0, DCRS 1
     vector 1000003c 10000081
 """)
-TRACES = [CROSSED, REFUSED, LIMITED, SLEPT]
+
+# Both channels of the mover: the Secure one moves two words to where they are, and pends an interrupt; the Non-secure one
+# can't read its word.
+MOVED = (b"10000000 0010003041000010\n10000060 00ec00e0000000300903000000ec02e0\n30000000 0706050403020100\n", "", """\
+0 s N 10000040 4807 ldr r0, [pc, #28] r0=e000ec00
+    load 10000060 word e000ec00
+1 s N 10000042 4908 ldr r1, [pc, #32] r1=30000000
+    load 10000064 word 30000000
+2 s N 10000044 6001 str r1, [r0, #0] [e000ec00].4=30000000
+    store e000ec00 MOVER_SRC
+3 s N 10000046 6041 str r1, [r0, #4] [e000ec04].4=30000000
+    store e000ec04 MOVER_DST
+4 s N 10000048 2102 movs r1, #2 r1=00000002
+5 s N 1000004a 6081 str r1, [r0, #8] [e000ec08].4=00000002
+    store e000ec08 MOVER_COUNT
+6 s N 1000004c 4906 ldr r1, [pc, #24] r1=00000309
+    load 10000068 word 00000309
+7 s N 1000004e 60c1 str r1, [r0, #12] [e000ec0c].4=00000309
+    store e000ec0c MOVER_CTRL
+8 s N 10000050 bf00 nop
+    mover S 30000000 to 30000000 04050607
+9 s N 10000052 68c1 ldr r1, [r0, #12] r1=0000030a
+    mover S 30000004 to 30000004 00010203
+    mover S DONE
+    mover S pends irq 3
+    load e000ec0c word 0000030a MOVER_CTRL
+10 s N 10000054 4a05 ldr r2, [pc, #20] r2=e002ec00
+    load 1000006c word e002ec00
+11 s N 10000056 6091 str r1, [r2, #8] [e002ec08].4=0000030a
+    store e002ec08 MOVER_COUNT_NS
+12 s N 10000058 2101 movs r1, #1 r1=00000001
+13 s N 1000005a 60d1 str r1, [r2, #12] [e002ec0c].4=00000001
+    store e002ec0c MOVER_CTRL_NS
+14 s N 1000005c bf00 nop
+    mover NS 00000000 to 00000000 ERROR
+""")
+
+# With the board of each.
+TRACES = [(DEMO, *trace) for trace in (CROSSED, REFUSED, LIMITED, SLEPT)] + [(MOVER_BOARD, *MOVED)]
 
 # Fields of which nothing at their own step tells: which fault of an exception it was. Later loads of status registers do.
 UNKNOWN = {("fault", "fault"), ("fault", "address")}
 
 
-def verdict_on(image, script, text):
+def verdict_on(board, image, script, text):
     """What is told of a made trace."""
     verdict = Verdict()
-    core = Core(Memory(Board(DEMO), [image]))
+    core = Core(Memory(Board(board), [image]))
     groups = grouped(text)
     lines = [line for line, _ in groups]
     sides = {it.step: it.side for it in map(line_of, lines)}
@@ -173,8 +229,8 @@ def changed(line):
 def tried():
     """How many changes were tried, and what was told that hasn't to be, or wasn't told."""
     count, missed = 0, []
-    for image, script, text in TRACES:
-        missed += [f"step {step}: {told}" for step, told in verdict_on(image, script, text).disagreements]
+    for board, image, script, text in TRACES:
+        missed += [f"step {step}: {told}" for step, told in verdict_on(board, image, script, text).disagreements]
         lines = text.splitlines()
         for at, line in enumerate(lines):
             if not line.startswith(INDENT):
@@ -182,6 +238,6 @@ def tried():
             for what, instead in changed(line):
                 count += 1
                 trace = "\n".join([*lines[:at], *instead, *lines[at + 1:]]) + "\n"
-                if not verdict_on(image, script, trace).disagreements:
+                if not verdict_on(board, image, script, trace).disagreements:
                     missed.append(f"not told: {line.strip()}: {what}: {''.join(instead).strip()}")
     return count, missed

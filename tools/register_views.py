@@ -20,6 +20,7 @@ sau_regions = 8
 mpu_secure = {REGIONS["S"]}
 mpu_nonsecure = {REGIONS["N"]}
 profile = "v8.1"
+mover = true
 [[region]]
 base = 0x10000000
 size = 0x100000
@@ -80,8 +81,8 @@ FIELD = re.compile(
     r"(?:(\w+) )?(\d+)(?::(\d+))?(?: \(`v8\.1`\))?(, which a read clears and a write keeps)?"
 )
 PASSED = ("see below", "all others read 0 (own)")
-# Bits that tell what pends and what runs.
-TELLING = ("VECTACTIVE", "RETTOBASE", "VECTPENDING", "ISRPENDING")
+# Bits that tell what pends and what runs, and how a channel of the mover ends.
+TELLING = ("VECTACTIVE", "RETTOBASE", "VECTPENDING", "ISRPENDING", "GO", "DONE", "ERROR")
 # The bits of ICSR by the exceptions that they pend.
 PENDING = {"SysTick": "PENDSTSET", "PendSV": "PENDSVSET", "NMI": "PENDNMISET"}
 

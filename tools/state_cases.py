@@ -7,8 +7,9 @@ from case_answers import accepted, anything, length
 from case_jobs import answered, Check, FILE, files, Job
 from case_rows import address, decimal, hexadecimal, text, unescaped, Unreadable, whole, words_of
 
-# What a board file has for a profile, before its regions.
-PROFILES = {"v8.0": b"", "v8.1": b'profile = "v8.1"\n'}
+# What a board file has before its regions; and how many words of the mover stand before those of memory.
+BOARDS = {"v8.0": b"", "v8.1": b'profile = "v8.1"\n', "mover": b"mover = true\n"}
+MOVER_WORDS = {"v8.0": 0, "v8.1": 0, "mover": 8}
 # What is found where a run writes a state, and so what is wanted.
 WRITTEN = "the state"
 # The number of regions among the words of a state; behind it stand four words of each.
@@ -53,14 +54,14 @@ class States:
 
     def __init__(self, board, words):
         before, first, behind = board.partition(b"[[region]]")
-        self.boards = {profile: before + line + first + behind for profile, line in PROFILES.items()}
+        self.boards = {name: before + line + first + behind for name, line in BOARDS.items()}
         self.words = words
         self.states = {}
 
-    def add(self, name, profile, images, values):
+    def add(self, name, board, images, values):
         """A state whose memory has the bytes of images, and which else has other values of words alone."""
-        words = changed(self.words + memory_of(self.words, images), values)
-        self.states[name] = self.boards[profile], words
+        words = changed(self.words + [0] * MOVER_WORDS[board] + memory_of(self.words, images), values)
+        self.states[name] = self.boards[board], words
 
     def files(self, name, values=None):
         """The board's file, and that of the state in which words have these values."""
@@ -97,8 +98,8 @@ def states(cases, lists):
     shelf = {}
     given = States(whole(lists.pop("board")), words_of_rows(lists.pop("words")))
 
-    def state(_, name, profile, images, values):
-        given.add(name, profile, b"".join(shelf[os.fsdecode(it)] for it in images), values)
+    def state(_, name, board, images, values):
+        given.add(name, board, b"".join(shelf[os.fsdecode(it)] for it in images), values)
         return []
 
     def snap(place, name, line):

@@ -60,7 +60,7 @@ fn request_by(
 impl Bus {
     /// Whether attribution lets code of a side access each byte.
     #[tactic(auto, unfolding(tz_state::specs::Access::may_touch))]
-    pub(crate) fn may_touch(&self, side: Side, size: Size, addr: u32) -> bool
+    pub fn may_touch(&self, side: Side, size: Size, addr: u32) -> bool
         ensures { result ≡ may_touch (map_in self.now) side size addr }
     {
         match side {

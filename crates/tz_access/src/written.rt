@@ -33,8 +33,8 @@ impl Default for Was {
     }
 }
 
-/// What the stores of a step overwrote, the newest last: those of its instruction, and those of frames. It stands in a
-/// box, so that a step which notes nothing has no room for it to make ready.
+/// What the stores of a step overwrote, the newest last: those of moves, of its instruction, and of frames. It stands in
+/// a box, so that a step which notes nothing has no room for it to make ready.
 #[derive(Drop)]
 pub struct Written {
     list: Box<ArrayVec<Was, 40>>,
@@ -142,7 +142,7 @@ impl Bus {
     }
 
     /// Writes as `write` does, and notes what it overwrote, where that is wanted.
-    pub(crate) fn write_noted(
+    pub fn write_noted(
         &mut self,
         addr: u32,
         size: Size,

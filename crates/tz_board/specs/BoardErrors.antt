@@ -1,7 +1,7 @@
 -- The errors of the board reader beside the refusals of the grammar.
 use Rattle.std.specs.Prelude.{◌≡◌, ◌≤◌, IsTrue, Option, Some, None, Err}
 use Rattle.tz_model.specs.Board.{is_vtor, within}
-use Rattle.tz_board.specs.Boards.{Key as FileKey, SecureVtor, NonsecureVtor, Interrupts, SauRegions, MpuSecure, MpuNonsecure, Profile, Region, Base, Size, Kind, Side, Sau, Limit, Nsc, Place as FilePlace, Top, InRegion, InSau, BoardRefusal, NotToml, Missing, WrongKind, Range, TooMany, Overlap, Read, Numbers as NumbersValue}
+use Rattle.tz_board.specs.Boards.{Key as FileKey, SecureVtor, NonsecureVtor, Interrupts, SauRegions, MpuSecure, MpuNonsecure, Profile, Mover, Region, Base, Size, Kind, Side, Sau, Limit, Nsc, Place as FilePlace, Top, InRegion, InSau, BoardRefusal, NotToml, Missing, WrongKind, Range, TooMany, Overlap, Read, Numbers as NumbersValue}
 use Rattle.tz_board.specs.declared.board.Numbers.{Numbers}
 use Rattle.tz_board.specs.declared.error.Key.{Key}
 use Rattle.tz_board.specs.declared.error.Key.TheVariants as keys
@@ -19,6 +19,7 @@ key_of keys.SauRegions = SauRegions
 key_of keys.MpuSecure = MpuSecure
 key_of keys.MpuNonsecure = MpuNonsecure
 key_of keys.Profile = Profile
+key_of keys.Mover = Mover
 key_of keys.Region = Region
 key_of keys.Base = Base
 key_of keys.Size = Size

@@ -15,7 +15,7 @@ use Rattle.tz_model.specs.declared.board.SauRegion.{SauRegion}
 
 -- the keys of a board file
 pub data Key : Type 0 where
-  SecureVtor NonsecureVtor Interrupts SauRegions MpuSecure MpuNonsecure Profile : Key
+  SecureVtor NonsecureVtor Interrupts SauRegions MpuSecure MpuNonsecure Profile Mover : Key
   Region Base Size Kind Side : Key
   Sau Limit Nsc : Key
 
@@ -28,6 +28,7 @@ key_text SauRegions = codes "sau_regions"
 key_text MpuSecure = codes "mpu_secure"
 key_text MpuNonsecure = codes "mpu_nonsecure"
 key_text Profile = codes "profile"
+key_text Mover = codes "mover"
 key_text Region = codes "region"
 key_text Base = codes "base"
 key_text Size = codes "size"
@@ -139,6 +140,15 @@ profile_in place (Some d) = of_kind place (as_str d) >>= profile_named place
 -- the profile at a key, which may be absent
 abbrev pub profile_at : Place → Members → Read ProfileValue
 profile_at place ms = profile_in place (found_at place ms)
+
+-- whether there is a mover, which the board hasn't where the file says nothing
+abbrev pub mover_in : Place → Option Data → Read Bool
+mover_in place None = Ok false
+mover_in place (Some d) = of_kind place (as_bool d)
+
+-- the mover at a key, which may be absent
+abbrev pub mover_at : Place → Members → Read Bool
+mover_at place ms = mover_in place (found_at place ms)
 
 -- a region: its base, and a size that ends it at or below 0xE0000000
 abbrev pub region_in : ℕ → Members → Read RegionValue
@@ -272,8 +282,8 @@ numbers_at ms = do
   })
 
 -- the board of its parts
-abbrev pub board_with : Numbers → ProfileValue → List RegionValue → List SauRegion → BoardValue
-board_with n profile regions sau = record {
+abbrev pub board_with : Numbers → ProfileValue → Bool → List RegionValue → List SauRegion → BoardValue
+board_with n profile mover regions sau = record {
   secure_vtor = n.secure_vtor;
   nonsecure_vtor = n.nonsecure_vtor;
   interrupts = n.interrupts;
@@ -281,6 +291,7 @@ board_with n profile regions sau = record {
   mpu_secure = n.mpu_secure;
   mpu_nonsecure = n.mpu_nonsecure;
   profile = profile;
+  mover = mover;
   regions = regions;
   sau = sau;
 }
@@ -290,9 +301,10 @@ unfoldable pub board_in : Members → Read BoardValue
 board_in ms = do
   numbers ← numbers_at ms
   profile ← profile_at (Top Profile) ms
+  mover ← mover_at (Top Mover) ms
   regions ← regions_at ms
   sau ← sau_at ms
-  within_limits (board_with numbers profile regions sau)
+  within_limits (board_with numbers profile mover regions sau)
 
 -- the document in the bytes of a file, which are to be UTF-8
 unfoldable pub document_of : List ℕ → Option Members

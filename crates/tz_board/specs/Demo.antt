@@ -35,6 +35,7 @@ demo = record {
   mpu_secure = 8;
   mpu_nonsecure = 8;
   profile = V80;
+  mover = false;
   regions = demo_regions;
   sau = demo_sau;
 }

@@ -59,6 +59,7 @@ fn read_numbers(table: &Table) -> Result<Numbers, BoardError>
 fn board_within(
     numbers: Numbers,
     profile: Profile,
+    mover: bool,
     regions: Vec<Region>,
     sau: Vec<SauRegion>,
 ) -> Result<Board, BoardError>
@@ -66,8 +67,8 @@ fn board_within(
     requires some_regions { 0 < length regions.items }
     requires regions { IsTrue (are_regions regions.items) }
     requires sau { IsTrue (are_sau_regions sau.items) }
-    ensures ok { IfOk result (λ b. within_limits (board_with (numbers_of numbers) profile regions.items sau.items) ≡ Ok b) }
-    ensures err { IfErr result (λ e. IsBoardRefusal e (within_limits (board_with (numbers_of numbers) profile regions.items sau.items))) }
+    ensures ok { IfOk result (λ b. within_limits (board_with (numbers_of numbers) profile mover regions.items sau.items) ≡ Ok b) }
+    ensures err { IfErr result (λ e. IsBoardRefusal e (within_limits (board_with (numbers_of numbers) profile mover regions.items sau.items))) }
 {
     if !limits::is_small(&regions, &sau, numbers.sau_regions) {
         return Err(BoardError::TooMany);
@@ -83,6 +84,7 @@ fn board_within(
         mpu_secure: numbers.mpu_secure,
         mpu_nonsecure: numbers.mpu_nonsecure,
         profile,
+        mover,
         regions,
         sau,
     })
@@ -96,9 +98,10 @@ fn board_in(alloc: Global, table: &Table) -> Result<Board, BoardError>
 {
     let numbers = read_numbers(table)?;
     let profile = keys::read_profile(table, Place::Top(Key::Profile))?;
+    let mover = keys::read_mover(table, Place::Top(Key::Mover))?;
     let regions = tables::regions(alloc, table)?;
     let sau = tables::sau(alloc, table)?;
-    board_within(numbers, profile, regions, sau)
+    board_within(numbers, profile, mover, regions, sau)
 }
 
 /// The document in the bytes of a file.

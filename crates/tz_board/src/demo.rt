@@ -81,6 +81,7 @@ pub fn demo_board(alloc: Global) -> Result<Board, AllocError>
         mpu_secure: 8,
         mpu_nonsecure: 8,
         profile: Profile::V80,
+        mover: false,
         regions,
         sau,
     })

@@ -2,7 +2,7 @@
 
 ghost use Rattle.std.specs.Prelude.{◌≡◌, ◌<◌, ◌≤◌, ◌%◌, IfOk, IfErr, Ok, option_map};
 ghost use Rattle.toml.specs.View.{table_view, view};
-ghost use Rattle.tz_board.specs.Boards.{found_at, flag_at, in_range, kind_at, bounded_number_at, profile_at, profile_named, side_at, text_at};
+ghost use Rattle.tz_board.specs.Boards.{found_at, flag_at, in_range, kind_at, bounded_number_at, mover_at, profile_at, profile_named, side_at, text_at};
 ghost use Rattle.tz_board.specs.BoardErrors.{IsBoardRefusal, place_of};
 
 use crate::error::{BoardError, Place};
@@ -130,5 +130,16 @@ pub fn read_profile(table: &Table, place: Place) -> Result<Profile, BoardError>
             None => Err(BoardError::WrongKind(place)),
             Some(text) => profile_named(place, text),
         },
+    }
+}
+
+/// Whether there is a mover, which the board hasn't where the file says nothing.
+pub fn read_mover(table: &Table, place: Place) -> Result<bool, BoardError>
+    ensures ok { IfOk result (λ b. mover_at (place_of place) (table_view table.now) ≡ Ok b) }
+    ensures err { IfErr result (λ e. IsBoardRefusal e (mover_at (place_of place) (table_view table.now))) }
+{
+    match value_at(table, place) {
+        None => Ok(false),
+        Some(_) => flag(table, place),
     }
 }

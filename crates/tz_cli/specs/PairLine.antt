@@ -8,7 +8,7 @@ use Rattle.tz_twin.specs.Seen.{crossing, Agree}
 use Rattle.tz_full.specs.CrossingLine.{kind_word}
 use Rattle.tz_iso.specs.Runs.{what_at}
 use Rattle.tz_iso.specs.declared.answer.What.{What}
-use Rattle.tz_iso.specs.declared.answer.What.TheVariants.{Alone, Way, R, Lr, Apsr, Pc, Bytes, Sp, Limit, Control, Mask, Sau, Mpu, Vtor, Ccr, Fault, Exceptions, Systick, Sleep}
+use Rattle.tz_iso.specs.declared.answer.What.TheVariants.{Alone, Way, R, Lr, Apsr, Pc, Bytes, Sp, Limit, Control, Mask, Sau, Mpu, Vtor, Ccr, Fault, Exceptions, Systick, Sleep, Mover}
 
 -- in what two runs differ, as words
 abbrev pub what_words : What → List ℕ
@@ -31,6 +31,7 @@ what_words Fault = codes "fault"
 what_words Exceptions = codes "exceptions"
 what_words Systick = codes "systick"
 what_words Sleep = codes "sleep"
+what_words Mover = codes "mover"
 
 abbrev pub agree_line : ℕ → List ℕ
 agree_line steps = codes "agree " ++ decimal steps ++ codes "\n"

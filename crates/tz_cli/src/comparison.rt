@@ -56,6 +56,7 @@ fn push_what<const N: usize>(text: &mut ArrayString<N>, what: What)
         What::Exceptions => text.push_str("exceptions"),
         What::Systick => text.push_str("systick"),
         What::Sleep => text.push_str("sleep"),
+        What::Mover => text.push_str("mover"),
     }
 }
 

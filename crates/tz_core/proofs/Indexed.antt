@@ -1,47 +1,75 @@
--- The word of an index among all words: of a field, of a slot, of memory.
-use Rattle.std.proofs.Common.{◌≡◌, ℕ, zero, suc, ◌+◌, ◌*◌, ◌/◌, ◌%◌, ◌<◌, ◌≤◌, true, false, List, [], ◌∷◌, ◌++◌, length, get_or, drop, take, Some, None, slice_get, refl, sym, ap, ◌∙◌, subst, arith}
+-- The word of an index among all words: of a field, of a slot, of a register of a channel, of memory.
+use Rattle.std.proofs.Common.{◌≡◌, ℕ, zero, suc, ◌+◌, ◌*◌, ◌/◌, ◌%◌, ◌<◌, ◌≤◌, Bool, true, false, cond, List, [], ◌∷◌, ◌++◌, length, get_or, drop, take, Some, None, slice_get, refl, sym, ap, ◌∙◌, subst, arith}
 use Rattle.std.specs.Prelude.{map}
 use Rattle.std.proofs.lemmas.List.{length-append, length-map}
 use Rattle.std.proofs.lemmas.List.Sums.{sum_by-cons, sum_by-take-le, sum_by_more_le}
 use Rattle.std.proofs.lemmas.Bool.Decides.{nat_tests}
 use Rattle.tz_model.specs.declared.board.Region.{Region}
-use Rattle.tz_model.specs.Board.{in_region, is_region, are_regions, bytes_of}
+use Rattle.tz_model.specs.Board.{BoardValue, in_region, is_region, are_regions, bytes_of}
 use Rattle.tz_state.specs.Access.{is_mapped}
 use Rattle.tz_state.specs.Memory.{Memory, word_at}
 use Rattle.tz_state.specs.State.{State}
+use Rattle.tz_core.specs.declared.fields.ChannelField.{ChannelField}
 use Rattle.tz_core.specs.declared.fields.Field.{Field}
-use Rattle.tz_core.specs.Fields.{fields, slot_places}
-use Rattle.tz_core.specs.StateWords.{word_of, slot_word, words_from, memory_words, state_words, field_count, slot_count, memory_count, word_count}
+use Rattle.tz_core.specs.Fields.{fields, slot_places, channel_fields}
+use Rattle.tz_core.specs.StateWords.{word_of, slot_word, channel_word, words_from, memory_words, state_words, field_count, slot_count, channel_count, memory_count, word_count}
 use Rattle.tz_core.proofs.Order.{at_left, at_right, at_mapped, length_fields, length_slots}
 
 slot_words : State → List ℕ
 slot_words s = map (slot_word s.exceptions) (slot_places s.bus.board.interrupts)
 
-pub field_told : (s : State) (i : ℕ) (f : Field) → slice_get (fields s.bus.board) i ≡ Some f → slice_get (state_words s) i ≡ Some (word_of s f)
-unfolding state_words
-field_told s i f e =
-    at_left (map (word_of s) (fields s.bus.board)) (map (slot_word s.exceptions) (slot_places s.bus.board.interrupts) ++ memory_words s.bus.memory s.bus.board.regions) i (word_of s f)
-    (at_mapped (word_of s) (fields s.bus.board) i f e)
+channel_words : State → List ℕ
+channel_words s = map (channel_word s) (channel_fields s.bus.board.mover)
 
-past_fields : (s : State) (i j : ℕ) → i ≡ field_count s.bus.board + j → slice_get (state_words s) i ≡ slice_get (slot_words s ++ memory_words s.bus.memory s.bus.board.regions) j
-unfolding state_words slot_words
+-- channels, and memory behind them
+last_words : State → List ℕ
+last_words s = channel_words s ++ memory_words s.bus.memory s.bus.board.regions
+
+pub length_channels : (b : BoardValue) → length (channel_fields b.mover) ≡ channel_count b
+length_channels b = go b.mover where
+  go : (t : Bool) → length (channel_fields t) ≡ cond t 8 0
+  go true = refl
+  go false = refl
+
+pub field_told : (s : State) (i : ℕ) (f : Field) → slice_get (fields s.bus.board) i ≡ Some f → slice_get (state_words s) i ≡ Some (word_of s f)
+unfolding state_words slot_words last_words channel_words
+field_told s i f e =
+    at_left (map (word_of s) (fields s.bus.board)) (slot_words s ++ last_words s) i (word_of s f) (at_mapped (word_of s) (fields s.bus.board) i f e)
+
+past_fields : (s : State) (i j : ℕ) → i ≡ field_count s.bus.board + j → slice_get (state_words s) i ≡ slice_get (slot_words s ++ last_words s) j
+unfolding state_words slot_words last_words channel_words
 past_fields s i j e =
     let size : length (map (word_of s) (fields s.bus.board)) ≡ field_count s.bus.board = length-map (fields s.bus.board) (word_of s) ∙ length_fields s.bus.board in
-    at_right (map (word_of s) (fields s.bus.board)) (map (slot_word s.exceptions) (slot_places s.bus.board.interrupts) ++ memory_words s.bus.memory s.bus.board.regions) i j (omega (arith, size))
+    at_right (map (word_of s) (fields s.bus.board)) (slot_words s ++ last_words s) i j (omega (arith, size))
 
 pub slot_told : (s : State) (i j p : ℕ) → i ≡ field_count s.bus.board + j → slice_get (slot_places s.bus.board.interrupts) j ≡ Some p → slice_get (state_words s) i ≡ Some (slot_word s.exceptions p)
 unfolding slot_words
 slot_told s i j p e g =
     past_fields s i j e
-    ∙ at_left (map (slot_word s.exceptions) (slot_places s.bus.board.interrupts)) (memory_words s.bus.memory s.bus.board.regions) j (slot_word s.exceptions p)
+    ∙ at_left (map (slot_word s.exceptions) (slot_places s.bus.board.interrupts)) (last_words s) j (slot_word s.exceptions p)
     (at_mapped (slot_word s.exceptions) (slot_places s.bus.board.interrupts) j p g)
 
-pub memory_told : (s : State) (i j : ℕ) → i ≡ field_count s.bus.board + slot_count s.bus.board + j → slice_get (state_words s) i ≡ slice_get (memory_words s.bus.memory s.bus.board.regions) j
+past_slots : (s : State) (i j : ℕ) → i ≡ field_count s.bus.board + slot_count s.bus.board + j → slice_get (state_words s) i ≡ slice_get (last_words s) j
 unfolding slot_words
-memory_told s i j e =
+past_slots s i j e =
     let size : length (map (slot_word s.exceptions) (slot_places s.bus.board.interrupts)) ≡ slot_count s.bus.board = length-map (slot_places s.bus.board.interrupts) (slot_word s.exceptions) ∙ length_slots s.bus.board.interrupts in
     past_fields s i (slot_count s.bus.board + j) (omega arith)
-    ∙ at_right (map (slot_word s.exceptions) (slot_places s.bus.board.interrupts)) (memory_words s.bus.memory s.bus.board.regions) (slot_count s.bus.board + j) j (omega (arith, size))
+    ∙ at_right (map (slot_word s.exceptions) (slot_places s.bus.board.interrupts)) (last_words s) (slot_count s.bus.board + j) j (omega (arith, size))
+
+pub channel_told : (s : State) (i j : ℕ) (f : ChannelField) → i ≡ field_count s.bus.board + slot_count s.bus.board + j → slice_get (channel_fields s.bus.board.mover) j ≡ Some f
+    → slice_get (state_words s) i ≡ Some (channel_word s f)
+unfolding last_words channel_words
+channel_told s i j f e g =
+    past_slots s i j e
+    ∙ at_left (map (channel_word s) (channel_fields s.bus.board.mover)) (memory_words s.bus.memory s.bus.board.regions) j (channel_word s f)
+    (at_mapped (channel_word s) (channel_fields s.bus.board.mover) j f g)
+
+pub memory_told : (s : State) (i j : ℕ) → i ≡ field_count s.bus.board + slot_count s.bus.board + channel_count s.bus.board + j → slice_get (state_words s) i ≡ slice_get (memory_words s.bus.memory s.bus.board.regions) j
+unfolding last_words channel_words
+memory_told s i j e =
+    let size : length (map (channel_word s) (channel_fields s.bus.board.mover)) ≡ channel_count s.bus.board = length-map (channel_fields s.bus.board.mover) (channel_word s) ∙ length_channels s.bus.board in
+    past_slots s i (channel_count s.bus.board + j) (omega arith)
+    ∙ at_right (map (channel_word s) (channel_fields s.bus.board.mover)) (memory_words s.bus.memory s.bus.board.regions) (channel_count s.bus.board + j) j (omega (arith, size))
 
 -- ---- memory
 
@@ -146,11 +174,13 @@ length_memory m (r ∷ rs) =
     ∙ sym (sum_by-cons (λ (x : Region). x.size / 4) r rs)
 
 pub length_state : (s : State) → length (state_words s) ≡ word_count s.bus.board
-unfolding state_words
+unfolding state_words slot_words last_words channel_words
 length_state s =
     let f : length (map (word_of s) (fields s.bus.board)) ≡ field_count s.bus.board = length-map (fields s.bus.board) (word_of s) ∙ length_fields s.bus.board in
     let e : length (map (slot_word s.exceptions) (slot_places s.bus.board.interrupts)) ≡ slot_count s.bus.board = length-map (slot_places s.bus.board.interrupts) (slot_word s.exceptions) ∙ length_slots s.bus.board.interrupts in
+    let c : length (map (channel_word s) (channel_fields s.bus.board.mover)) ≡ channel_count s.bus.board = length-map (channel_fields s.bus.board.mover) (channel_word s) ∙ length_channels s.bus.board in
     let m = length_memory s.bus.memory s.bus.board.regions in
-    let behind = length-append (map (slot_word s.exceptions) (slot_places s.bus.board.interrupts)) (memory_words s.bus.memory s.bus.board.regions) in
-    let all = length-append (map (word_of s) (fields s.bus.board)) (map (slot_word s.exceptions) (slot_places s.bus.board.interrupts) ++ memory_words s.bus.memory s.bus.board.regions) in
-    omega (arith, f, e, m, behind, all)
+    let last = length-append (map (channel_word s) (channel_fields s.bus.board.mover)) (memory_words s.bus.memory s.bus.board.regions) in
+    let behind = length-append (slot_words s) (last_words s) in
+    let all = length-append (map (word_of s) (fields s.bus.board)) (slot_words s ++ last_words s) in
+    omega (arith, f, e, c, m, last, behind, all)

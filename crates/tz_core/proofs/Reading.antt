@@ -8,8 +8,9 @@ use Rattle.tz_model.specs.declared.board.Region.{Region}
 use Rattle.tz_model.specs.Words.{wrap}
 use Rattle.tz_state.specs.Memory.{Memory, with_byte, with_word, with_bytes}
 use Rattle.tz_state.specs.State.{State}
+use Rattle.tz_core.specs.declared.fields.ChannelField.{ChannelField}
 use Rattle.tz_core.specs.declared.fields.Field.{Field}
-use Rattle.tz_core.specs.ReadWords.{written, slot_written, fits, slot_fits, read_fields, read_slots, with_words, with_regions, words_of, AreWords}
+use Rattle.tz_core.specs.ReadWords.{written, slot_written, channel_written, fits, slot_fits, channel_fits, read_fields, read_slots, read_channels, with_words, with_regions, words_of, AreWords}
 use Rattle.tz_core.specs.StateWords.{memory_count}
 use Rattle.tz_core.proofs.Indexed.{IsBlock}
 
@@ -38,6 +39,12 @@ first_of_drop [] zero = refl
 first_of_drop [] (suc i) = refl
 first_of_drop (x ∷ xs) zero = refl
 first_of_drop (x ∷ xs) (suc i) = first_of_drop xs i
+
+-- a word past the first ones
+pub past_first : (ws : List ℕ) (n f i w : ℕ) → n ≡ f → slice_get ws (n + i) ≡ Some w → slice_get (drop f ws) i ≡ Some w
+past_first ws n f i w e at =
+    let sum : f + i ≡ n + i = omega arith in
+    first_of_drop (drop f ws) i ∙ ap (λ xs. slice_get xs 0) (drop_twice f i (n + i) ws (sym sum)) ∙ sym (first_of_drop ws (n + i)) ∙ at
 
 pub dropped_all : {X : Type 0} (xs : List X) (i : ℕ) → length xs ≤ i → drop i xs ≡ []
 dropped_all [] zero l = refl
@@ -117,6 +124,21 @@ slot_refused is ws i k p w s at h not = rw (drop_at is i (i + 1) p refl at, drop
 pub slots_end : (is ws : List ℕ) (i k : ℕ) (s : State) → length is ≤ i → read_slots (drop i is) ws k s ≡ Ok s
 unfolding read_slots
 slots_end is ws i k s l = rw (dropped_all is i l) refl
+
+-- ---- a register of a channel more
+
+pub channel_read : (fs : List ChannelField) (ws : List ℕ) (i n k m : ℕ) (f : ChannelField) (w : ℕ) (s : State) → n ≡ i + 1 → m ≡ k + 1 → slice_get fs i ≡ Some f → slice_get ws i ≡ Some w → channel_fits s f w ≡ true →
+    read_channels (drop i fs) (drop i ws) k s ≡ read_channels (drop n fs) (drop n ws) m (channel_written s f w)
+unfolding read_channels
+channel_read fs ws i n k m f w s e g at h ok = rw (drop_at fs i n f e at, drop_at ws i n w e h) (rw ok (ap (λ x. read_channels (drop n fs) (drop n ws) x (channel_written s f w)) (sym g)))
+
+pub channel_refused : (fs : List ChannelField) (ws : List ℕ) (i k : ℕ) (f : ChannelField) (w : ℕ) (s : State) → slice_get fs i ≡ Some f → slice_get ws i ≡ Some w → channel_fits s f w ≡ false → read_channels (drop i fs) (drop i ws) k s ≡ Err k
+unfolding read_channels
+channel_refused fs ws i k f w s at h not = rw (drop_at fs i (i + 1) f refl at, drop_at ws i (i + 1) w refl h) (rw not refl)
+
+pub channels_end : (fs : List ChannelField) (ws : List ℕ) (i k : ℕ) (s : State) → length fs ≤ i → read_channels (drop i fs) ws k s ≡ Ok s
+unfolding read_channels
+channels_end fs ws i k s l = rw (dropped_all fs i l) refl
 
 -- ---- a region more
 

@@ -1,9 +1,11 @@
 -- The fields of a state that have a word of their own, in the order of their words: what runs, the Secure side, the
--- Non-secure side, what both share.
-use Rattle.std.specs.Prelude.{ℕ, zero, suc, ◌+◌, List, [], ◌∷◌, ◌++◌, map}
+-- Non-secure side, what both share; behind the slots the channels of a mover.
+use Rattle.std.specs.Prelude.{ℕ, zero, suc, ◌+◌, Bool, true, false, List, [], ◌∷◌, ◌++◌, map}
 use Rattle.std.specs.List.{range_with_len}
 use Rattle.tz_table.specs.declared.units.Side.TheVariants.{Secure, NonSecure}
 use Rattle.tz_model.specs.Board.{BoardValue}
+use Rattle.tz_state.specs.declared.register.MoverRegister.TheVariants.{Src, Dst, Count, Ctrl}
+use Rattle.tz_core.specs.declared.fields.ChannelField.{ChannelField}
 use Rattle.tz_core.specs.declared.fields.Field.{Field}
 use Rattle.tz_core.specs.declared.fields.Field.TheVariants.{Running, Banked, Shared}
 use Rattle.tz_core.specs.declared.fields.RunningField.{RunningField}
@@ -69,3 +71,12 @@ system_places = 4 ∷ 6 ∷ 7 ∷ 8 ∷ 9 ∷ 10 ∷ 12 ∷ 13 ∷ 14 ∷ 22 ∷
 -- the places of all slots: by number, and of one number the Secure slot first
 unfoldable pub slot_places : ℕ → List ℕ
 slot_places interrupts = system_places ++ range_with_len first_interrupt_place interrupts
+
+-- the registers of both channels, of a board that has a mover
+abbrev pub channel_fields : Bool → List ChannelField
+channel_fields false = []
+channel_fields true =
+    record { side = Secure; register = Src } ∷ record { side = Secure; register = Dst }
+    ∷ record { side = Secure; register = Count } ∷ record { side = Secure; register = Ctrl }
+    ∷ record { side = NonSecure; register = Src } ∷ record { side = NonSecure; register = Dst }
+    ∷ record { side = NonSecure; register = Count } ∷ record { side = NonSecure; register = Ctrl } ∷ []

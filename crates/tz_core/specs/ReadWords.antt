@@ -7,6 +7,7 @@ use Rattle.tz_table.specs.declared.units.Side.{Side}
 use Rattle.tz_table.specs.declared.units.Side.TheVariants.{Secure, NonSecure}
 use Rattle.tz_table.specs.declared.units.Size.TheVariants.{Byte, Half, Word}
 use Rattle.tz_model.specs.declared.board.Region.{Region}
+use Rattle.tz_model.specs.declared.channel.Channel.{Channel}
 use Rattle.tz_model.specs.declared.report.Sleep.{Sleep}
 use Rattle.tz_model.specs.declared.report.Sleep.TheVariants.{Awake, Wfi, Wfe}
 use Rattle.tz_model.specs.Board.{BoardValue}
@@ -17,12 +18,14 @@ use Rattle.tz_regs.specs.Banks.{stacks_of, with_stacks, masks_of, with_masks, st
 use Rattle.tz_regs.specs.FaultBits.{mmfsr_bits, bfsr_bits, ufsr_bits, hfsr_bits, sfsr_bits}
 use Rattle.tz_regs.specs.RegisterBits.{ccr_bits, control_spsel}
 use Rattle.tz_regs.specs.Registers.{word_aligned}
-use Rattle.tz_regs.specs.Reset.{reset_core}
+use Rattle.tz_regs.specs.Reset.{no_channel, reset_core}
 use Rattle.tz_regs.specs.Special.{apsr_from}
 use Rattle.tz_frames.specs.ReturnBits.{retpsr_it_high, retpsr_t, retpsr_it_low}
 use Rattle.tz_frames.specs.Registers.{number_in}
 use Rattle.tz_state.specs.declared.request.Exclusive.{Exclusive}
 use Rattle.tz_state.specs.declared.slot.SlotState.{SlotState}
+use Rattle.tz_state.specs.declared.register.MoverRegister.{MoverRegister}
+use Rattle.tz_state.specs.declared.register.MoverRegister.TheVariants.{Src, Dst, Count, Ctrl}
 use Rattle.tz_state.specs.declared.units.MpuRegister.TheVariants as mpu
 use Rattle.tz_state.specs.declared.units.SauRegister.TheVariants as sau
 use Rattle.tz_state.specs.Access.{is_mapped}
@@ -31,10 +34,12 @@ use Rattle.tz_state.specs.SlotChanges.{with_prigroup, with_timer, is_fault_side_
 use Rattle.tz_state.specs.Slots.{places, first_interrupt_place, idle, at, with_slot, is_place, exception_number, is_always_enabled, has_fixed_priority, timer_of, reset_exceptions}
 use Rattle.tz_state.specs.State.{State, mpu_of, with_mpu, with_core, with_bus, with_exceptions, with_registers, with_monitor}
 use Rattle.tz_state.specs.SysTickBits.{syst_csr_bits}
+use Rattle.tz_state.specs.MoverBits.{mover_ctrl_bits}
 use Rattle.tz_state.specs.UnitRegisters.{with_rbar, with_rlar, with_sau_value, with_mpu_value, rlar_bits, reset_bus}
 use Rattle.tz_state.specs.Zeros.{zero_memory}
 use Rattle.tz_core.specs.declared.from_words.WordsError.{WordsError}
 use Rattle.tz_core.specs.declared.from_words.WordsError.TheVariants.{Value, Memory as NoMemory}
+use Rattle.tz_core.specs.declared.fields.ChannelField.{ChannelField}
 use Rattle.tz_core.specs.declared.fields.Field.{Field}
 use Rattle.tz_core.specs.declared.fields.Field.TheVariants.{Running, Banked, Shared}
 use Rattle.tz_core.specs.declared.fields.RunningField.{RunningField}
@@ -43,8 +48,8 @@ use Rattle.tz_core.specs.declared.fields.BankedField.{BankedField}
 use Rattle.tz_core.specs.declared.fields.BankedField.TheVariants.{Msp, Psp, Msplim, Psplim, Primask, Basepri, Faultmask, Control, Vtor, Ccr, Ufsr, Mmfsr, Mmfar, Prigroup, MpuCtrl, MpuRnr, Mair0, Mair1, MpuRbar, MpuRlar, SystCsr, SystRvr, SystCvr}
 use Rattle.tz_core.specs.declared.fields.SharedField.{SharedField}
 use Rattle.tz_core.specs.declared.fields.SharedField.TheVariants.{SauCtrl, SauRnr, SauRbar, SauRlar, Sfsr, Sfar, Bfsr, Bfar, Hfsr, Pris, Bfhfnmins}
-use Rattle.tz_core.specs.Fields.{fields, slot_places}
-use Rattle.tz_core.specs.StateWords.{word_of, slot_word, held_address, field_count, slot_count}
+use Rattle.tz_core.specs.Fields.{fields, slot_places, channel_fields}
+use Rattle.tz_core.specs.StateWords.{word_of, slot_word, channel_word, held_address, field_count, slot_count, channel_count}
 
 -- ---- numbers as values
 
@@ -169,6 +174,19 @@ slot_from i w =
 abbrev pub slot_written : State → ℕ → ℕ → State
 slot_written s i w = with_exceptions s (with_slot s.exceptions i (slot_from i w))
 
+-- ---- a register of a channel written
+
+-- all its bits; what a write by software keeps of CTRL is less
+abbrev pub channel_put : Channel → MoverRegister → ℕ → Channel
+channel_put c Src w = record c { src = word_aligned w }
+channel_put c Dst w = record c { dst = word_aligned w }
+channel_put c Count w = record c { count = w % 2 ^ 16 }
+channel_put c Ctrl w = record c { ctrl = bit_and w mover_ctrl_bits }
+
+abbrev pub channel_written : State → ChannelField → ℕ → State
+channel_written s f w =
+    with_core s (with_status f.side s.core (record (status_of f.side s.core) { channel = channel_put (status_of f.side s.core).channel f.register w }))
+
 -- ---- which words are in range
 
 abbrev pub fits : State → Field → ℕ → Bool
@@ -176,6 +194,9 @@ fits s f w = word_of (written s f w) f == w
 
 abbrev pub slot_fits : State → ℕ → ℕ → Bool
 slot_fits s i w = slot_word (slot_written s i w).exceptions i == w
+
+abbrev pub channel_fits : State → ChannelField → ℕ → Bool
+channel_fits s f w = channel_word (channel_written s f w) f == w
 
 -- ---- reading
 
@@ -191,6 +212,12 @@ unfoldable pub read_slots : List ℕ → List ℕ → ℕ → State → Result S
 read_slots [] ws k s = Ok s
 read_slots (i ∷ is) [] k s = Ok s
 read_slots (i ∷ is) (w ∷ ws) k s = if slot_fits s i w then read_slots is ws (k + 1) (slot_written s i w) else Err k
+
+-- registers of channels likewise
+unfoldable pub read_channels : List ChannelField → List ℕ → ℕ → State → Result State ℕ
+read_channels [] ws k s = Ok s
+read_channels (f ∷ fs) [] k s = Ok s
+read_channels (f ∷ fs) (w ∷ ws) k s = if channel_fits s f w then read_channels fs ws (k + 1) (channel_written s f w) else Err k
 
 -- n words put from an address on
 unfoldable pub with_words : Memory → ℕ → ℕ → List ℕ → Memory
@@ -211,11 +238,15 @@ abbrev pub and_slots : BoardValue → List ℕ → Result State ℕ → Result S
 and_slots b ws (Err k) = Err k
 and_slots b ws (Ok s) = read_slots (slot_places b.interrupts) (drop (field_count b) ws) (field_count b) s
 
+abbrev pub and_channels : BoardValue → List ℕ → Result State ℕ → Result State ℕ
+and_channels b ws (Err k) = Err k
+and_channels b ws (Ok s) = read_channels (channel_fields b.mover) (drop (field_count b + slot_count b) ws) (field_count b + slot_count b) s
+
 -- the state of a board that has these words, or the index of the first that is out of range
 unfoldable pub read_words : BoardValue → List ℕ → Result State ℕ
 read_words b ws =
-    let m = with_regions (zero_memory b.regions) b.regions (drop (field_count b + slot_count b) ws) in
-    and_slots b ws (read_fields (fields b) ws 0 (blank b m))
+    let m = with_regions (zero_memory b.regions) b.regions (drop (field_count b + slot_count b + channel_count b) ws) in
+    and_channels b ws (and_slots b ws (read_fields (fields b) ws 0 (blank b m)))
 
 -- why words aren't read: the first that is out of range; for want of memory whatever they are
 abbrev pub IsWordsRefusal : WordsError → Result State ℕ → Type 0
@@ -249,6 +280,9 @@ IsTold s f = (word_of s f < 2 ^ 32) × (written s f (word_of s f) ≡ s)
 abbrev pub IsSlotTold : State → ℕ → Type 0
 IsSlotTold s i = slot_written s i (slot_word s.exceptions i) ≡ s
 
+abbrev pub IsChannelTold : State → ChannelField → Type 0
+IsChannelTold s f = (channel_word s f < 2 ^ 32) × (channel_written s f (channel_word s f) ≡ s)
+
 -- what a state of this board holds beyond its types
 pub record IsState (b : BoardValue) (s : State) : Type 0 where
   pub board : s.bus.board ≡ b
@@ -262,6 +296,9 @@ pub record IsState (b : BoardValue) (s : State) : Type 0 where
   -- each field and each slot holds a value that its word tells
   pub fields : (k : ℕ) (f : Field) → slice_get (fields b) k ≡ Some f → IsTold s f
   pub slot_fields : (k i : ℕ) → slice_get (slot_places b.interrupts) k ≡ Some i → IsSlotTold s i
+  pub channels : (k : ℕ) (f : ChannelField) → slice_get (channel_fields b.mover) k ≡ Some f → IsChannelTold s f
+  -- where there is no mover its channels are as at boot
+  pub still : b.mover ≡ false → (s.core.status.s.channel ≡ no_channel) × (s.core.status.ns.channel ≡ no_channel)
   -- where no slot stands is what stands there at boot
   pub others : (i : ℕ) → i < places → is_place s.exceptions i ≡ false → at s.exceptions i ≡ idle
   -- there is a byte at exactly the addresses of the regions

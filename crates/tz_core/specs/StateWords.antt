@@ -1,5 +1,6 @@
--- A state as words: a field each, then a slot each, then the bytes of the board's regions, four to a word.
-use Rattle.std.specs.Prelude.{ℕ, zero, suc, ◌+◌, ◌*◌, ◌/◌, ◌^◌, List, [], ◌∷◌, ◌++◌, map, sum_by, slice_index, Option, Some, None}
+-- A state as words: a field each, then a slot each, then a register each of the channels of a mover, then the bytes of the
+-- board's regions, four to a word.
+use Rattle.std.specs.Prelude.{ℕ, zero, suc, ◌+◌, ◌*◌, ◌/◌, ◌^◌, Bool, if◌then◌else◌, List, [], ◌∷◌, ◌++◌, map, sum_by, slice_index, Option, Some, None}
 use Rattle.tz_table.specs.declared.units.Side.{Side}
 use Rattle.tz_table.specs.declared.units.Size.{Size}
 use Rattle.tz_table.specs.declared.units.Size.TheVariants.{Byte, Half, Word}
@@ -16,6 +17,8 @@ use Rattle.tz_state.specs.Memory.{Memory, word_at}
 use Rattle.tz_state.specs.Slots.{ExceptionsValue, at, is_enabled, prigroup_of, timer_of}
 use Rattle.tz_state.specs.State.{State, mpu_of}
 use Rattle.tz_state.specs.UnitRegisters.{bounds_at}
+use Rattle.tz_state.specs.MoverRegisters.{channel_value}
+use Rattle.tz_core.specs.declared.fields.ChannelField.{ChannelField}
 use Rattle.tz_core.specs.declared.fields.Field.{Field}
 use Rattle.tz_core.specs.declared.fields.Field.TheVariants.{Running, Banked, Shared}
 use Rattle.tz_core.specs.declared.fields.RunningField.{RunningField}
@@ -24,7 +27,7 @@ use Rattle.tz_core.specs.declared.fields.BankedField.{BankedField}
 use Rattle.tz_core.specs.declared.fields.BankedField.TheVariants.{Msp, Psp, Msplim, Psplim, Primask, Basepri, Faultmask, Control, Vtor, Ccr, Ufsr, Mmfsr, Mmfar, Prigroup, MpuCtrl, MpuRnr, Mair0, Mair1, MpuRbar, MpuRlar, SystCsr, SystRvr, SystCvr}
 use Rattle.tz_core.specs.declared.fields.SharedField.{SharedField}
 use Rattle.tz_core.specs.declared.fields.SharedField.TheVariants.{SauCtrl, SauRnr, SauRbar, SauRlar, Sfsr, Sfar, Bfsr, Bfar, Hfsr, Pris, Bfhfnmins}
-use Rattle.tz_core.specs.Fields.{fields, slot_places}
+use Rattle.tz_core.specs.Fields.{fields, slot_places, channel_fields}
 
 -- ---- values as numbers
 
@@ -118,6 +121,11 @@ slot_word e i =
     (at e i).priority + 2 ^ 8 * number_of (at e i).pending + 2 ^ 9 * number_of (at e i).active + 2 ^ 10 * number_of (is_enabled e i)
     + 2 ^ 11 * side_number (at e i).target
 
+-- ---- the word of a register of a channel
+
+abbrev pub channel_word : State → ChannelField → ℕ
+channel_word s f = channel_value (status_of f.side s.core).channel f.register
+
 -- ---- memory
 
 -- n words from an address on
@@ -135,18 +143,22 @@ memory_words m (r ∷ rs) = words_from m r.base (r.size / 4) ++ memory_words m r
 unfoldable pub state_words : State → List ℕ
 state_words s =
     map (word_of s) (fields s.bus.board)
-    ++ (map (slot_word s.exceptions) (slot_places s.bus.board.interrupts) ++ memory_words s.bus.memory s.bus.board.regions)
+    ++ (map (slot_word s.exceptions) (slot_places s.bus.board.interrupts)
+    ++ (map (channel_word s) (channel_fields s.bus.board.mover) ++ memory_words s.bus.memory s.bus.board.regions))
 
 -- how many they are, of a board: 22 of what runs, 21 of each side, 9 of what both share and 15 of the system's slots,
--- two for each region of a unit, one for each interrupt, and memory's
+-- two for each region of a unit, one for each interrupt, eight of a mover, and memory's
 abbrev pub field_count : BoardValue → ℕ
 field_count b = 73 + 2 * (b.mpu_secure + b.mpu_nonsecure + b.sau_regions)
 
 abbrev pub slot_count : BoardValue → ℕ
 slot_count b = 15 + b.interrupts
 
+abbrev pub channel_count : BoardValue → ℕ
+channel_count b = if b.mover then 8 else 0
+
 abbrev pub memory_count : List Region → ℕ
 memory_count rs = sum_by (λ r. r.size / 4) rs
 
 abbrev pub word_count : BoardValue → ℕ
-word_count b = field_count b + slot_count b + memory_count b.regions
+word_count b = field_count b + slot_count b + channel_count b + memory_count b.regions

@@ -104,7 +104,7 @@ impl Machine {
         written: &mut Option<Written>,
     ) -> Close
         requires unnoted { noted.old ≡ None }
-        requires few { noted_count written.old ≤ 14 }
+        requires few { noted_count written.old ≤ 16 }
         ensures does { comes_back before.now self.old course code.now value ≡ record { state = self.new; ending = ending_of result noted.new } }
         ensures back { before_stores written.new self.new.bus.memory ≡ before_stores written.old self.old.bus.memory }
     {
@@ -134,7 +134,7 @@ impl Machine {
         written: &mut Option<Written>,
     ) -> Close
         requires unnoted { noted.old ≡ None }
-        requires few { noted_count written.old ≤ 14 }
+        requires few { noted_count written.old ≤ 16 }
         ensures does { exchanged before.now self.old (past insn.now self.old) course code.now target ns ≡ record { state = self.new; ending = ending_of result noted.new } }
         ensures back { before_stores written.new self.new.bus.memory ≡ before_stores written.old self.old.bus.memory }
     {
@@ -161,7 +161,7 @@ impl Machine {
         written: &mut Option<Written>,
     ) -> Close
         requires unnoted { noted.old ≡ None }
-        requires few { noted_count written.old ≤ 14 }
+        requires few { noted_count written.old ≤ 16 }
         ensures does { calls (past insn.now) self.old course code.now target (wrap (self.old.core.registers.pc + length_of code.now)) ≡ record { state = self.new; stores = stores.new.items; ending = ending_of result noted.new } }
         ensures back { before_stores written.new self.new.bus.memory ≡ before_stores written.old self.old.bus.memory }
     {

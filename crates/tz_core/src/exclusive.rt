@@ -36,10 +36,10 @@ impl Machine {
     ) -> Result<Outcome, Fault>
         requires negative { negative ≡ is_negative_at (priority_in self.old) }
         requires empty { array_vec_len stores.old ≡ 0 }
-        requires unwritten { noted_count written.old ≡ 0 }
+        requires few { noted_count written.old ≤ 2 }
         ensures does { loads_stores self.old insn.now ≡ record { state = self.new; stores = stores.new.items; outcome = result } }
         ensures back { before_stores written.new self.new.bus.memory ≡ before_stores written.old self.old.bus.memory }
-        ensures few { noted_count written.new ≤ 14 }
+        ensures few { noted_count written.new ≤ 16 }
     {
         let asker = self.asker(negative);
         let mut port = port_over(
@@ -67,10 +67,10 @@ impl Machine {
     ) -> Result<Outcome, Fault>
         requires negative { negative ≡ is_negative_at (priority_in self.old) }
         requires empty { array_vec_len stores.old ≡ 0 }
-        requires unwritten { noted_count written.old ≡ 0 }
+        requires few { noted_count written.old ≤ 2 }
         ensures does { marked (record { addr = addr; size = size }) (loads_stores self.old insn.now) ≡ record { state = self.new; stores = stores.new.items; outcome = result } }
         ensures back { before_stores written.new self.new.bus.memory ≡ before_stores written.old self.old.bus.memory }
-        ensures few { noted_count written.new ≤ 14 }
+        ensures few { noted_count written.new ≤ 16 }
     {
         match self.load_store(insn, negative, stores, written) {
             Ok(outcome) => {
@@ -95,10 +95,10 @@ impl Machine {
     ) -> Result<Outcome, Fault>
         requires negative { negative ≡ is_negative_at (priority_in self.old) }
         requires empty { array_vec_len stores.old ≡ 0 }
-        requires unwritten { noted_count written.old ≡ 0 }
+        requires few { noted_count written.old ≤ 2 }
         ensures does { stores_exclusive self.old insn.now (record { addr = addr; size = size }) rd ≡ record { state = self.new; stores = stores.new.items; outcome = result } }
         ensures back { before_stores written.new self.new.bus.memory ≡ before_stores written.old self.old.bus.memory }
-        ensures few { noted_count written.new ≤ 14 }
+        ensures few { noted_count written.new ≤ 16 }
     {
         if !is_aligned(size, addr) {
             return Err(Fault::Unaligned);
@@ -120,10 +120,10 @@ impl Machine {
     ) -> Result<Outcome, Fault>
         requires negative { negative ≡ is_negative_at (priority_in self.old) }
         requires empty { array_vec_len stores.old ≡ 0 }
-        requires unwritten { noted_count written.old ≡ 0 }
+        requires few { noted_count written.old ≤ 2 }
         ensures does { executed_by LoadStore self.old insn.now ≡ record { state = self.new; stores = stores.new.items; outcome = result } }
         ensures back { before_stores written.new self.new.bus.memory ≡ before_stores written.old self.old.bus.memory }
-        ensures few { noted_count written.new ≤ 14 }
+        ensures few { noted_count written.new ≤ 16 }
     {
         match *insn {
             Insn::LoadExclusive {

@@ -46,10 +46,10 @@ impl Machine {
     ) -> Result<Outcome, Fault>
         requires negative { negative ≡ is_negative_at (priority_in self.old) }
         requires empty { array_vec_len stores.old ≡ 0 }
-        requires unwritten { noted_count written.old ≡ 0 }
+        requires few { noted_count written.old ≤ 2 }
         ensures does { executed_by Branch self.old insn.now ≡ record { state = self.new; stores = stores.new.items; outcome = result } }
         ensures back { before_stores written.new self.new.bus.memory ≡ before_stores written.old self.old.bus.memory }
-        ensures few { noted_count written.new ≤ 14 }
+        ensures few { noted_count written.new ≤ 16 }
     {
         let asker = self.asker(negative);
         let mut port = port_over(
@@ -85,10 +85,10 @@ impl Machine {
     ) -> Result<Outcome, Fault>
         requires negative { negative ≡ is_negative_at (priority_in self.old) }
         requires empty { array_vec_len stores.old ≡ 0 }
-        requires unwritten { noted_count written.old ≡ 0 }
+        requires few { noted_count written.old ≤ 2 }
         ensures does { executed self.old insn.now ≡ record { state = self.new; stores = stores.new.items; outcome = result } }
         ensures back { before_stores written.new self.new.bus.memory ≡ before_stores written.old self.old.bus.memory }
-        ensures few { noted_count written.new ≤ 14 }
+        ensures few { noted_count written.new ≤ 16 }
     {
         match *insn {
             Insn::DataImm { .. }

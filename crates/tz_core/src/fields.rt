@@ -1,9 +1,11 @@
-//! The fields of a state that have a word of their own, but for slots and memory.
+//! The fields of a state that have a word of their own, but for slots and memory; and the registers of channels, whose
+//! words stand behind those of slots.
 //!
 //! A state as words is a list of such fields in an order; the word of each tells what it holds. `fields` of
 //! `StateWords` has the order, `word_of` reads a field and `with_word` writes it.
 
 use tz_model::Side;
+use tz_state::MoverRegister;
 
 /// What stands once in a core beside the fields of the units: whose code runs, its registers, the monitor.
 #[derive(Clone, Copy)]
@@ -74,4 +76,11 @@ pub enum Field {
     Running(RunningField),
     Banked(Side, BankedField),
     Shared(SharedField),
+}
+
+/// A register of the channel of a side, of a board with a mover.
+#[derive(Clone, Copy)]
+pub struct ChannelField {
+    pub side: Side,
+    pub register: MoverRegister,
 }

@@ -1,16 +1,17 @@
-//! A machine from its words: memory first, then each field and each slot, whose word has to be one that it can hold.
+//! A machine from its words: memory first, then each field, each slot and each register of a channel, whose word has to be
+//! one that it can hold.
 
 ghost use Rattle.std.specs.Prelude.{◌≡◌, ◌≤◌, ◌+◌, ◌*◌, Ok, Err, Some, MatchResult, IfOk, true, length, drop, take, slice_get};
 ghost use Rattle.tz_model.specs.Board.{are_regions};
 ghost use Rattle.tz_state.specs.Memory.{with_bytes};
 ghost use Rattle.tz_state.specs.State.{with_memory};
 ghost use Rattle.tz_state.specs.Zeros.{zero_memory};
-ghost use Rattle.tz_core.specs.Fields.{fields, slot_places};
-ghost use Rattle.tz_core.specs.StateWords.{field_count, slot_count, memory_count, word_count};
-ghost use Rattle.tz_core.specs.ReadWords.{read_fields, read_slots, with_regions, blank, read_words, words_of, IsWordsRefusal, IsFresh};
+ghost use Rattle.tz_core.specs.Fields.{fields, slot_places, channel_fields};
+ghost use Rattle.tz_core.specs.StateWords.{field_count, slot_count, channel_count, memory_count, word_count};
+ghost use Rattle.tz_core.specs.ReadWords.{read_fields, read_slots, read_channels, with_regions, blank, read_words, words_of, IsWordsRefusal, IsFresh};
 
 use crate::running::Machine;
-use crate::words::{field_at, field_count, slot_count, slot_place};
+use crate::words::{channel_count, channel_field, field_at, field_count, slot_count, slot_place};
 use std::alloc::{AllocError, Global};
 use thiserror::Error;
 use tz_access::Bus;
@@ -107,6 +108,23 @@ impl Machine {
         Ok(())
     }
 
+    /// Writes all registers of channels by their words, and tells the index of the first that doesn't hold its word.
+    fn read_channels(&mut self, board: &Board, bytes: &[u8]) -> Result<(), u32>
+        requires { 4 * (field_count board.now + slot_count board.now + channel_count board.now) ≤ length bytes.now }
+        ensures { MatchResult result
+            (λ _. read_channels (channel_fields board.now.mover) (drop (field_count board.now + slot_count board.now) (words_of bytes.now)) (field_count board.now + slot_count board.now) self.old ≡ Ok self.new)
+            (λ k. read_channels (channel_fields board.now.mover) (drop (field_count board.now + slot_count board.now) (words_of bytes.now)) (field_count board.now + slot_count board.now) self.old ≡ Err k) }
+    {
+        let first = field_count(board) + slot_count(board);
+        for index in 0..channel_count(board) {
+            let word = word_at(bytes, first + index);
+            if !self.put_channel(channel_field(board, index), word) {
+                return Err((first + index) as u32);
+            }
+        }
+        Ok(())
+    }
+
     /// A machine of a board to read into, with its memory.
     fn blank(alloc: Global, board: &Board, memory: &[u8]) -> Result<Machine, AllocError>
         requires { length memory.now ≡ 4 * memory_count board.now.regions }
@@ -135,7 +153,7 @@ impl Machine {
             (λ m. read_words board.now (words_of bytes.now) ≡ Ok m)
             (λ e. IsWordsRefusal e (read_words board.now (words_of bytes.now))) }
     {
-        let memory = 4 * (field_count(board) + slot_count(board));
+        let memory = 4 * (field_count(board) + slot_count(board) + channel_count(board));
         let Ok(mut machine) = Machine::blank(alloc, board, &bytes[memory..]) else {
             return Err(WordsError::Memory);
         };
@@ -143,6 +161,9 @@ impl Machine {
             return Err(WordsError::Value(index));
         }
         if let Err(index) = machine.read_slots(board, bytes) {
+            return Err(WordsError::Value(index));
+        }
+        if let Err(index) = machine.read_channels(board, bytes) {
             return Err(WordsError::Value(index));
         }
         Ok(machine)

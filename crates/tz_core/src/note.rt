@@ -9,6 +9,7 @@ ghost use Rattle.tz_access.specs.Written.{before_stores, noted_count};
 ghost use Rattle.tz_core.specs.Undo.{note_of, undo_of};
 
 use crate::running::Machine;
+use crate::waiting::no_moves;
 use std::alloc::{AllocError, Global};
 use std::marker::Model;
 use tz_access::{Units, Written};
@@ -97,7 +98,8 @@ impl Machine {
         self.note_state(note);
         begin(&mut note.written);
         let mut noted = None;
-        self.report_step(due, report, &mut noted, &mut note.written);
+        let mut moves = no_moves();
+        self.report_step(due, report, &mut noted, &mut note.written, &mut moves);
     }
 
     /// Makes one step as `step` does, and notes what takes it back. It takes no memory.

@@ -88,11 +88,11 @@ impl Port for CorePort<'_> {
 
     ghost answer = { access };
 
-    ghost room = { λ p. 16 - max (array_vec_len p.stores.now) (noted_count p.written.now) };
+    ghost room = { λ p. 16 - max (array_vec_len p.stores.now) (noted_count p.written.now - 2) };
 
     ghost Lent = { ℕ × ℕ × ℕ × ℕ × Option Memory × ℕ };
 
-    ghost lent = { λ p. (p.exceptions.ghost_name, p.bus.ghost_name, p.stores.ghost_name, p.written.ghost_name, before_stores p.written.now p.bus.now.memory, noted_count p.written.now - 16) };
+    ghost lent = { λ p. (p.exceptions.ghost_name, p.bus.ghost_name, p.stores.ghost_name, p.written.ghost_name, before_stores p.written.now p.bus.now.memory, noted_count p.written.now - 18) };
 
     #[tactic(auto, using(crate::proofs::Private::private_aligned), unfolding(tz_state::specs::Access::access))]
     fn load(&mut self, addr: u32, size: Size, must_align: bool, user: bool) -> Result<u32, Fault> {

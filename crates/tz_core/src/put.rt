@@ -1,4 +1,4 @@
-//! Fields and slots written by their words. Each keeps the bits that it has; a word that isn't read back is none of its
+//! Fields, slots and channels written by their words. Each keeps the bits that it has; a word that isn't read back is none of its
 //! values.
 
 ghost use Rattle.std.specs.Prelude.{◌≡◌, ◌<◌};
@@ -7,18 +7,19 @@ ghost use Rattle.tz_state.specs.Slots.{is_always_enabled};
 ghost use Rattle.tz_core.specs.declared.fields.RunningField.TheVariants as running;
 ghost use Rattle.tz_core.specs.declared.fields.BankedField.TheVariants as banked;
 ghost use Rattle.tz_core.specs.declared.fields.SharedField.TheVariants as shared;
-ghost use Rattle.tz_core.specs.ReadWords.{side_from, sleep_from, with_psr, running_written, banked_written, shared_written, written, slot_written, fits, slot_fits, IsFresh};
+ghost use Rattle.tz_core.specs.ReadWords.{side_from, sleep_from, with_psr, running_written, banked_written, shared_written, written, slot_written, channel_put, channel_written, fits, slot_fits, channel_fits, IsFresh};
 
-use crate::fields::{BankedField, Field, RunningField, SharedField};
+use crate::fields::{BankedField, ChannelField, Field, RunningField, SharedField};
 use crate::running::Machine;
 use tz_frames::return_bits::{RETPSR_IT_HIGH, RETPSR_IT_LOW, RETPSR_T};
-use tz_model::{Side, Size, Sleep};
+use tz_model::{Channel, Side, Size, Sleep};
 use tz_nvic::FIRST_INTERRUPT_PLACE;
 use tz_regs::register_bits::{APSR_C, APSR_N, APSR_Q, APSR_V, APSR_Z};
 use tz_regs::{Apsr, Registers};
 use tz_state::exception::{HARD_FAULT, NMI, PEND_SV, SV_CALL, SYS_TICK};
+use tz_state::mover_bits::MOVER_CTRL_BITS;
 use tz_state::systick_bits::SYST_CSR_BITS;
-use tz_state::{MpuRegister, SauRegister, SlotState};
+use tz_state::{MoverRegister, MpuRegister, SauRegister, SlotState};
 
 fn side_from(word: u32) -> Side
     ensures { result ≡ side_from word }
@@ -74,6 +75,30 @@ fn is_always_enabled(number: u16) -> bool
         || number == SV_CALL
         || number == PEND_SV
         || number == SYS_TICK
+}
+
+/// The channel with a register written: with all bits that it has.
+fn channel_put(channel: Channel, register: MoverRegister, word: u32) -> Channel
+    ensures { result ≡ channel_put channel register word }
+{
+    match register {
+        MoverRegister::Src => Channel {
+            src: word / 4 * 4,
+            ..channel
+        },
+        MoverRegister::Dst => Channel {
+            dst: word / 4 * 4,
+            ..channel
+        },
+        MoverRegister::Count => Channel {
+            count: (word % 0x1_0000) as u16,
+            ..channel
+        },
+        MoverRegister::Ctrl => Channel {
+            ctrl: word & MOVER_CTRL_BITS,
+            ..channel
+        },
+    }
 }
 
 impl Machine {
@@ -283,5 +308,23 @@ impl Machine {
         };
         self.exceptions.put_at(place, slot);
         self.slot_word(place) == word
+    }
+
+    /// Writes a register of a channel, and tells whether it holds the word.
+    pub(crate) fn put_channel(&mut self, field: ChannelField, word: u32) -> bool
+        ensures put { self.new ≡ channel_written self.old field word }
+        ensures fits { result ≡ channel_fits self.old field word }
+    {
+        match field.side {
+            Side::Secure => {
+                let channel = self.core.status.s.channel;
+                self.core.status.s.channel = channel_put(channel, field.register, word);
+            }
+            Side::NonSecure => {
+                let channel = self.core.status.ns.channel;
+                self.core.status.ns.channel = channel_put(channel, field.register, word);
+            }
+        }
+        self.channel_word(field) == word
     }
 }

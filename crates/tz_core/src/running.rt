@@ -5,6 +5,9 @@ ghost use Rattle.arrayvec.specs.ArrayVec.{array_vec_len};
 ghost use Rattle.tz_model.specs.Words.{wrap};
 ghost use Rattle.tz_model.specs.Codes.{second_of};
 ghost use Rattle.tz_sem.specs.Step.{length_of, sleep_of};
+ghost use Rattle.tz_state.specs.Due.{begun};
+ghost use Rattle.tz_state.specs.Moves.{moves_of, no_moves};
+ghost use Rattle.tz_state.specs.State.{with_exceptions};
 ghost use Rattle.tz_access.specs.Written.{before_stores, noted_count};
 
 use crate::changes::Stores;
@@ -12,17 +15,19 @@ use crate::ending::{Close, Passage, changes_handler, ending_of};
 use crate::exchange::{is_call, ran_by};
 use crate::it_rules::{ignores_condition, is_misplaced, is_passed_over};
 use crate::noting::pends_next;
+use crate::waiting::no_moves;
 use std::marker::Model;
 use tz_access::{Bus, Written};
 use tz_decode::Decoded;
 use tz_excret::takes_first_uncounted;
 use tz_gate::secure_gateway;
 use tz_kept::Codes;
-use tz_model::{Board, Code, Fault, Insn, Outcome, Report, ScriptEvent, Side, Sleep};
+use tz_model::{Board, Channels, Code, Fault, Insn, Outcome, Report, ScriptEvent, Side, Sleep};
 use tz_nvic::Exceptions;
 use tz_prio::is_negative;
 use tz_regs::Core;
 use tz_sem::{Account, Cause, Course, Handling};
+use tz_state::Moves;
 
 /// The machine: the core, the exceptions, and memory with the units that guard it; beside that, which is no part of
 /// its state, the instructions that it decoded last.
@@ -73,6 +78,7 @@ fn sleep_of(event: bool) -> Sleep
 
 impl Machine {
     ghost use Rattle.std.specs.Prelude.{[], None, true, if◌then◌else◌};
+    ghost use Rattle.tz_regs.specs.Banks.{channels_of};
     ghost use Rattle.tz_state.specs.State.{side_of, priority_in, is_negative_at};
     ghost use Rattle.tz_sem.specs.Exec.{executed};
     ghost use Rattle.tz_model.specs.Codes.{meaning_of};
@@ -116,6 +122,13 @@ impl Machine {
         &self.exceptions
     }
 
+    /// The channels of the mover.
+    pub fn channels(&self) -> Channels
+        ensures { result ≡ channels_of self.now.core }
+    {
+        self.core.channels()
+    }
+
     /// Memory, with the units that guard it.
     pub fn bus(&self) -> &Bus
         ensures { result.now ≡ self.now.bus }
@@ -156,7 +169,7 @@ impl Machine {
         written: &mut Option<Written>,
     ) -> Close
         requires unnoted { noted.old ≡ None }
-        requires few { noted_count written.old ≤ 14 }
+        requires few { noted_count written.old ≤ 16 }
         ensures does { goes_on before.now insn.now self.old course code.now stores.old.items outcome ≡ record { state = self.new; stores = stores.new.items; ending = ending_of result noted.new } }
         ensures back { before_stores written.new self.new.bus.memory ≡ before_stores written.old self.old.bus.memory }
     {
@@ -197,7 +210,7 @@ impl Machine {
         written: &mut Option<Written>,
     ) -> Close
         requires unnoted { noted.old ≡ None }
-        requires few { noted_count written.old ≤ 14 }
+        requires few { noted_count written.old ≤ 16 }
         ensures does { concludes before.now insn.now self.old course code.now stores.old.items outcome ≡ record { state = self.new; stores = stores.new.items; ending = ending_of result noted.new } }
         ensures back { before_stores written.new self.new.bus.memory ≡ before_stores written.old self.old.bus.memory }
     {
@@ -239,7 +252,7 @@ impl Machine {
         requires negative { course.negative ≡ is_negative_at (priority_in self.old) }
         requires empty { array_vec_len stores.old ≡ 0 }
         requires unnoted { noted.old ≡ None }
-        requires unwritten { noted_count written.old ≡ 0 }
+        requires few { noted_count written.old ≤ 2 }
         ensures does { executes self.old.core course code.now insn.now (executed self.old insn.now) ≡ record { state = self.new; stores = stores.new.items; ending = ending_of result noted.new } }
         ensures back { before_stores written.new self.new.bus.memory ≡ before_stores written.old self.old.bus.memory }
     {
@@ -261,7 +274,7 @@ impl Machine {
         requires negative { course.negative ≡ is_negative_at (priority_in self.old) }
         requires empty { array_vec_len stores.old ≡ 0 }
         requires unnoted { noted.old ≡ None }
-        requires unwritten { noted_count written.old ≡ 0 }
+        requires few { noted_count written.old ≤ 2 }
         ensures does { placed self.old course code.now insn.now ≡ record { state = self.new; stores = stores.new.items; ending = ending_of result noted.new } }
         ensures back { before_stores written.new self.new.bus.memory ≡ before_stores written.old self.old.bus.memory }
     {
@@ -286,7 +299,7 @@ impl Machine {
         requires negative { course.negative ≡ is_negative_at (priority_in self.old) }
         requires empty { array_vec_len stores.old ≡ 0 }
         requires unnoted { noted.old ≡ None }
-        requires unwritten { noted_count written.old ≡ 0 }
+        requires few { noted_count written.old ≤ 2 }
         ensures does { decoded self.old course code.now (meaning_of code.now) ≡ record { state = self.new; stores = stores.new.items; ending = ending_of result noted.new } }
         ensures back { before_stores written.new self.new.bus.memory ≡ before_stores written.old self.old.bus.memory }
     {
@@ -344,7 +357,7 @@ impl Machine {
         written: &mut Option<Written>,
     ) -> Close
         requires unnoted { noted.old ≡ None }
-        requires unwritten { noted_count written.old ≡ 0 }
+        requires few { noted_count written.old ≤ 2 }
         ensures does { faulting self.old (course_in self.old (touches_secure self.old.core.run.side self.old)) (unready (touches_secure self.old.core.run.side self.old) self.old.core.run.side) ≡ record { state = self.new; stores = []; ending = ending_of result noted.new } }
         ensures back { before_stores written.new self.new.bus.memory ≡ before_stores written.old self.old.bus.memory }
     {
@@ -363,7 +376,7 @@ impl Machine {
     ) -> Close
         requires empty { array_vec_len stores.old ≡ 0 }
         requires unnoted { noted.old ≡ None }
-        requires unwritten { noted_count written.old ≡ 0 }
+        requires few { noted_count written.old ≤ 2 }
         ensures does { instructs self.old ≡ record { state = self.new; stores = stores.new.items; ending = ending_of result noted.new } }
         ensures back { before_stores written.new self.new.bus.memory ≡ before_stores written.old self.old.bus.memory }
     {
@@ -435,7 +448,7 @@ impl Machine {
     ) -> Close
         requires empty { array_vec_len stores.old ≡ 0 }
         requires unnoted { noted.old ≡ None }
-        requires unwritten { noted_count written.old ≡ 0 }
+        requires few { noted_count written.old ≤ 2 }
         ensures does { by_sleep self.old.core.run.sleep self.old ≡ record { state = self.new; stores = stores.new.items; ending = ending_of result noted.new } }
         ensures back { before_stores written.new self.new.bus.memory ≡ before_stores written.old self.old.bus.memory }
     {
@@ -448,7 +461,7 @@ impl Machine {
 
     /// Takes the exception that comes first before an instruction, which ends a sleep.
     fn take(&mut self, noted: &mut Option<Handling>, written: &mut Option<Written>) -> Close
-        requires unwritten { noted_count written.old ≡ 0 }
+        requires few { noted_count written.old ≤ 2 }
         ensures does { takes_exception self.old ≡ record { state = self.new; stores = []; ending = ending_of result noted.new } }
         ensures back { before_stores written.new self.new.bus.memory ≡ before_stores written.old self.old.bus.memory }
     {
@@ -470,7 +483,7 @@ impl Machine {
     ) -> Close
         requires empty { array_vec_len stores.old ≡ 0 }
         requires unnoted { noted.old ≡ None }
-        requires unwritten { noted_count written.old ≡ 0 }
+        requires few { noted_count written.old ≤ 2 }
         ensures does { ended self.old ≡ record { state = self.new; stores = stores.new.items; ending = ending_of result noted.new } }
         ensures back { before_stores written.new self.new.bus.memory ≡ before_stores written.old self.old.bus.memory }
     {
@@ -490,17 +503,20 @@ impl Machine {
         report: &mut Report,
         noted: &mut Option<Handling>,
         written: &mut Option<Written>,
+        moves: &mut Moves,
     ) -> Close
         requires unnoted { noted.old ≡ None }
         requires unwritten { noted_count written.old ≡ 0 }
+        requires unmoved { moves.old ≡ no_moves }
         ensures step { step self.old due.now ≡ record { state = self.new; report = report.new } }
+        ensures moves { moves.new ≡ (moves_of (with_exceptions self.old (begun self.old.exceptions due.now))).told }
         ensures ending { (ended (started self.old due.now)).ending ≡ ending_of result noted.new }
         ensures back { before_stores written.new self.new.bus.memory ≡ before_stores written.old self.old.bus.memory }
     {
         let before = self.core.before();
         report.changes.clear();
         report.stores.clear();
-        self.start(due);
+        self.start(due, written, moves);
         let close = self.make_step(&mut report.stores, noted, written);
         self.tell(&before, &close, report);
         close
@@ -525,8 +541,9 @@ impl Machine {
         let start = self.core.running_side();
         stores.clear();
         *noted = None;
-        self.start(due);
         let mut written = None;
+        let mut moves = no_moves();
+        self.start(due, &mut written, &mut moves);
         let close = self.make_step(stores, noted, &mut written);
         Passage {
             way: self.way(start, &close),
@@ -543,7 +560,8 @@ impl Machine {
     {
         let mut noted = None;
         let mut written = None;
-        self.report_step(due, report, &mut noted, &mut written);
+        let mut moves = no_moves();
+        self.report_step(due, report, &mut noted, &mut written, &mut moves);
     }
 
     /// Makes one step at which these events are due, and tells in `report` what it did, and beside that what neither
@@ -558,11 +576,13 @@ impl Machine {
         let ticked_ns = pends_next(&self.exceptions.timer(Side::NonSecure));
         let mut noted = None;
         let mut written = None;
-        let close = self.report_step(due, report, &mut noted, &mut written);
+        let mut moves = no_moves();
+        let close = self.report_step(due, report, &mut noted, &mut written, &mut moves);
         Account {
             core,
             ticked_s,
             ticked_ns,
+            moves,
             ending: ending_of(&close, noted),
         }
     }

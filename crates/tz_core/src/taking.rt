@@ -105,7 +105,7 @@ impl Machine {
         noted: &mut Option<Handling>,
         written: &mut Option<Written>,
     ) -> Close
-        requires few { noted_count written.old ≤ 16 }
+        requires few { noted_count written.old ≤ 18 }
         ensures does { preempted self.old course back ≡ record { state = self.new; ending = ending_of result noted.new } }
         ensures back { before_stores written.new self.new.bus.memory ≡ before_stores written.old self.old.bus.memory }
     {
@@ -140,7 +140,7 @@ impl Machine {
         written: &mut Option<Written>,
     ) -> Close
         requires unnoted { noted.old ≡ None }
-        requires few { noted_count written.old ≤ 16 }
+        requires few { noted_count written.old ≤ 18 }
         ensures does { faults self.old course fault ≡ record { state = self.new; ending = ending_of result noted.new } }
         ensures back { before_stores written.new self.new.bus.memory ≡ before_stores written.old self.old.bus.memory }
     {
@@ -179,7 +179,7 @@ impl Machine {
         noted: &mut Option<Handling>,
         written: &mut Option<Written>,
     ) -> Close
-        requires few { noted_count written.old ≤ 16 }
+        requires few { noted_count written.old ≤ 18 }
         ensures does { returns self.old course code.now value ≡ record { state = self.new; ending = ending_of result noted.new } }
         ensures back { before_stores written.new self.new.bus.memory ≡ before_stores written.old self.old.bus.memory }
     {

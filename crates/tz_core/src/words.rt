@@ -1,6 +1,7 @@
-//! The words of a machine, each by its index: fields in their order, slots by their places, memory.
+//! The words of a machine, each by its index: fields in their order, slots by their places, the channels of a mover,
+//! memory.
 
-ghost use Rattle.std.specs.Prelude.{◌≡◌, ◌<◌, ◌+◌, ◌*◌, ◌/◌, ◌^◌, ℕ, true, Some, slice_get};
+ghost use Rattle.std.specs.Prelude.{◌≡◌, ◌<◌, ◌≤◌, ◌+◌, ◌*◌, ◌/◌, ◌^◌, ℕ, true, Some, slice_get};
 ghost use Rattle.tz_frames.specs.Registers.{psr_word};
 ghost use Rattle.tz_model.specs.Board.{in_region, are_regions};
 ghost use Rattle.tz_state.specs.Access.{is_mapped};
@@ -8,16 +9,16 @@ ghost use Rattle.tz_state.specs.Memory.{word_at};
 ghost use Rattle.tz_state.specs.State.{mpu_of};
 ghost use Rattle.tz_state.specs.UnitRegisters.{bounds_at};
 ghost use Rattle.tz_core.specs.declared.fields.RunningField.TheVariants as variants;
-ghost use Rattle.tz_core.specs.Fields.{running_fields, banked_fields, shared_fields, fields, slot_places};
-ghost use Rattle.tz_core.specs.StateWords.{side_number, sleep_number, size_number, running_word, banked_word, shared_word, word_of, slot_word, memory_words, state_words, field_count, slot_count, memory_count, word_count};
+ghost use Rattle.tz_core.specs.Fields.{running_fields, banked_fields, shared_fields, fields, slot_places, channel_fields};
+ghost use Rattle.tz_core.specs.StateWords.{side_number, sleep_number, size_number, running_word, banked_word, shared_word, word_of, slot_word, channel_word, memory_words, state_words, field_count, slot_count, channel_count, memory_count, word_count};
 
-use crate::fields::{BankedField, Field, RunningField, SharedField};
+use crate::fields::{BankedField, ChannelField, Field, RunningField, SharedField};
 use crate::running::Machine;
 use tz_frames::return_bits::{RETPSR_IT_HIGH, RETPSR_IT_LOW, RETPSR_T};
-use tz_model::{Board, Region, Side, Size, Sleep};
+use tz_model::{Board, Channel, Region, Side, Size, Sleep};
 use tz_nvic::FIRST_INTERRUPT_PLACE;
 use tz_regs::Registers;
-use tz_state::{Bounds, MpuRegister, SauRegister};
+use tz_state::{Bounds, MoverRegister, MpuRegister, SauRegister};
 
 const RUNNING: [RunningField; 22] = [
     RunningField::Side,
@@ -89,6 +90,42 @@ const SHARED_LAST: [SharedField; 7] = [
 
 /// The places of the system's slots.
 const SYSTEM_PLACES: [usize; 15] = [4, 6, 7, 8, 9, 10, 12, 13, 14, 22, 23, 28, 29, 30, 31];
+
+/// The registers of the channels of a mover.
+const CHANNELS: [ChannelField; 8] = [
+    ChannelField {
+        side: Side::Secure,
+        register: MoverRegister::Src,
+    },
+    ChannelField {
+        side: Side::Secure,
+        register: MoverRegister::Dst,
+    },
+    ChannelField {
+        side: Side::Secure,
+        register: MoverRegister::Count,
+    },
+    ChannelField {
+        side: Side::Secure,
+        register: MoverRegister::Ctrl,
+    },
+    ChannelField {
+        side: Side::NonSecure,
+        register: MoverRegister::Src,
+    },
+    ChannelField {
+        side: Side::NonSecure,
+        register: MoverRegister::Dst,
+    },
+    ChannelField {
+        side: Side::NonSecure,
+        register: MoverRegister::Count,
+    },
+    ChannelField {
+        side: Side::NonSecure,
+        register: MoverRegister::Ctrl,
+    },
+];
 
 // ---- the order
 
@@ -205,6 +242,23 @@ pub(crate) fn slot_place(board: &Board, index: usize) -> usize
     }
 }
 
+/// How many registers of channels have words.
+pub(crate) fn channel_count(board: &Board) -> usize
+    ensures is { result ≡ channel_count board.now }
+    ensures few { result ≤ 8 }
+{
+    if board.mover { CHANNELS.len() } else { 0 }
+}
+
+/// The register of a channel by its index among them.
+pub(crate) fn channel_field(board: &Board, index: usize) -> ChannelField
+    requires { index < channel_count board.now }
+    ensures { slice_get (channel_fields board.now.mover) index ≡ Some result }
+{
+    let _mover = board.mover;
+    CHANNELS[index]
+}
+
 /// How many words a state of a board has.
 pub fn word_count(board: &Board) -> u32
     ensures { result ≡ word_count board.now }
@@ -213,7 +267,7 @@ pub fn word_count(board: &Board) -> u32
     for region in &board.regions {
         memory += region.size / 4;
     }
-    (field_count(board) + slot_count(board)) as u32 + memory
+    (field_count(board) + slot_count(board) + channel_count(board)) as u32 + memory
 }
 
 // ---- values as numbers
@@ -387,6 +441,19 @@ impl Machine {
             + 0x800 * side_number(slot.target)
     }
 
+    /// The word of a register of a channel.
+    pub(crate) fn channel_word(&self, field: ChannelField) -> u32
+        ensures { result ≡ channel_word self.now field }
+    {
+        let channel: Channel = self.core.side_status(field.side).channel;
+        match field.register {
+            MoverRegister::Src => channel.src,
+            MoverRegister::Dst => channel.dst,
+            MoverRegister::Count => u32::from(channel.count),
+            MoverRegister::Ctrl => channel.ctrl,
+        }
+    }
+
     /// A word of a region, all of whose bytes are in memory.
     fn region_word(&self, region: &Region, index: u32) -> u32
         requires there { index < region.now.size / 4 }
@@ -417,9 +484,9 @@ impl Machine {
         None
     }
 
-    /// The word of an index, of those that tell all of the machine: fields, slots, memory. None exactly past
-    /// their count.
-    #[tactic(auto, using(crate::proofs::Indexed::field_told, crate::proofs::Indexed::slot_told, crate::proofs::Indexed::memory_told))]
+    /// The word of an index, of those that tell all of the machine: fields, slots, the channels of a mover, memory. None
+    /// exactly past their count.
+    #[tactic(auto, using(crate::proofs::Indexed::field_told, crate::proofs::Indexed::slot_told, crate::proofs::Indexed::channel_told, crate::proofs::Indexed::memory_told))]
     pub fn word(&self, index: u32) -> Option<u32>
         ensures { result ≡ slice_get (state_words self.now) index }
     {
@@ -432,6 +499,11 @@ impl Machine {
         if index - fields < slots {
             return Some(self.slot_word(slot_place(board, (index - fields) as usize)));
         }
-        self.memory_word(&board.regions, index - fields - slots)
+        let channels = channel_count(board) as u32;
+        let behind = index - fields - slots;
+        if behind < channels {
+            return Some(self.channel_word(channel_field(board, behind as usize)));
+        }
+        self.memory_word(&board.regions, behind - channels)
     }
 }

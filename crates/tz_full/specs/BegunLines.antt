@@ -1,4 +1,4 @@
--- What a step begins with: the events of the script that are due, SysTicks that pend, and a sleep that ends.
+-- What a step begins with: the events of the script that are due, SysTicks that pend, moves, and a sleep that ends.
 use Rattle.std.specs.Prelude.{ℕ, Bool, true, false, ◌&&◌, not, if◌then◌else◌, List, [], ◌∷◌, ◌++◌, codes, decimal}
 use Rattle.tz_model.specs.declared.report.Report.{Report}
 use Rattle.tz_model.specs.declared.report.ScriptEvent.{ScriptEvent}
@@ -9,6 +9,7 @@ use Rattle.tz_model.specs.declared.report.StepKind.{StepKind}
 use Rattle.tz_model.specs.declared.report.StepKind.TheVariants.{Idle}
 use Rattle.tz_regs.specs.declared.parts.Running.{Running}
 use Rattle.tz_sem.specs.declared.account.Account.{Account}
+use Rattle.tz_full.specs.MoveLines.{moves_text}
 
 -- ---- events
 
@@ -45,4 +46,4 @@ sleep_ends r kind = is_asleep r.sleep && (not r.locked && not (is_idle kind))
 unfoldable pub begun_text : Account → Report → List ℕ
 begun_text a r =
     line_where a.ticked_s (codes "    SysTick S pends\n") ++ line_where a.ticked_ns (codes "    SysTick NS pends\n")
-    ++ line_where (sleep_ends a.core.run r.kind) (codes "    sleep ends\n")
+    ++ moves_text a.moves ++ line_where (sleep_ends a.core.run r.kind) (codes "    sleep ends\n")

@@ -18,7 +18,7 @@ use Rattle.tz_full.specs.TakenLines.{taken_text}
 
 -- the accesses of the instruction, then SG, a call or a return from one
 unfoldable pub ran_text : Account → Report → State → List ℕ
-ran_text t r s = loads_by t s (done_by t.core r.kind) ++ store_lines r.stores.items ++ ways_text t r s
+ran_text t r s = loads_by t s (done_by t.core r.kind) ++ store_lines s.bus.board.mover r.stores.items ++ ways_text t r s
 
 -- what exceptions did, and the crossing to Non-secure code last
 unfoldable pub handled_text : Account → Report → State → List ℕ

@@ -8,6 +8,7 @@ pub mod FrameLines
 pub mod Full
 pub mod Instruction
 pub mod LoadLines
+pub mod MoveLines
 pub mod RefusalLines
 pub mod RegisterNames
 pub mod TakenLines

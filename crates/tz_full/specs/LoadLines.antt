@@ -86,7 +86,7 @@ held_text b size a = if every (is_mapped b.board.regions) a size then hex_word (
 -- what a load read: in the private space the word that its register has, with the name of the system register
 abbrev pub read_text : Bus → Size → ℕ → Option ℕ → List ℕ
 read_text b size a word =
-    if is_private a then known_text (option_map (cut_to size) word) ++ codes " " ++ name_at a else held_text b size a
+    if is_private a then known_text (option_map (cut_to size) word) ++ codes " " ++ name_at b.board.mover a else held_text b size a
 
 unfoldable pub load_line : Bus → Size → ℕ → Option ℕ → List ℕ
 load_line b size a word = codes "    load " ++ hex_word a ++ size_text size ++ read_text b size a word ++ codes "\n"
@@ -107,9 +107,9 @@ loads_by t s (Some i) = loads_of t s i
 
 -- ---- stores to system registers
 
-unfoldable pub store_line : stored.Store → List ℕ
-store_line store = if is_private store.addr then codes "    store " ++ hex_word store.addr ++ codes " " ++ name_at store.addr ++ codes "\n" else []
+unfoldable pub store_line : Bool → stored.Store → List ℕ
+store_line mover store = if is_private store.addr then codes "    store " ++ hex_word store.addr ++ codes " " ++ name_at mover store.addr ++ codes "\n" else []
 
-unfoldable pub store_lines : List stored.Store → List ℕ
-store_lines [] = []
-store_lines (store ∷ more) = store_line store ++ store_lines more
+unfoldable pub store_lines : Bool → List stored.Store → List ℕ
+store_lines mover [] = []
+store_lines mover (store ∷ more) = store_line mover store ++ store_lines mover more

@@ -1,9 +1,9 @@
 -- The names of the system registers (DDI0553, chapter D1.2), and what an address in the private space is called.
-use Rattle.std.specs.Prelude.{ℕ, ◌==◌, if◌then◌else◌, List, [], ◌++◌, codes, decimal, Option, Some, None}
+use Rattle.std.specs.Prelude.{ℕ, ◌==◌, Bool, if◌then◌else◌, List, [], ◌++◌, codes, decimal, Option, Some, None}
 use Rattle.tz_model.specs.AddressMap.{scs_first, scs_last, scs_ns_first, scs_ns_last}
 use Rattle.tz_model.specs.Board.{within}
 use Rattle.tz_state.specs.declared.register.Register.{Register}
-use Rattle.tz_state.specs.declared.register.Register.TheVariants.{Ictr, Stir, Timer, Bits, Priorities, Control, Fault, Mpu, Sau}
+use Rattle.tz_state.specs.declared.register.Register.TheVariants.{Ictr, Stir, Timer, Bits, Priorities, Control, Fault, Mover, Mpu, Sau}
 use Rattle.tz_state.specs.declared.register.TimerRegister.{TimerRegister}
 use Rattle.tz_state.specs.declared.register.TimerRegister.TheVariants as syst
 use Rattle.tz_state.specs.declared.register.Bank.{Bank}
@@ -12,6 +12,8 @@ use Rattle.tz_state.specs.declared.register.ControlRegister.{ControlRegister}
 use Rattle.tz_state.specs.declared.register.ControlRegister.TheVariants as scb
 use Rattle.tz_state.specs.declared.register.FaultRegister.{FaultRegister}
 use Rattle.tz_state.specs.declared.register.FaultRegister.TheVariants as fault
+use Rattle.tz_state.specs.declared.register.MoverRegister.{MoverRegister}
+use Rattle.tz_state.specs.declared.register.MoverRegister.TheVariants as channel
 use Rattle.tz_state.specs.declared.units.MpuRegister.{MpuRegister}
 use Rattle.tz_state.specs.declared.units.MpuRegister.TheVariants as mpu
 use Rattle.tz_state.specs.declared.units.SauRegister.{SauRegister}
@@ -51,6 +53,13 @@ fault_name fault.Bfar = codes "BFAR"
 fault_name fault.Sfsr = codes "SFSR"
 fault_name fault.Sfar = codes "SFAR"
 
+-- (own)
+abbrev pub mover_name : MoverRegister → List ℕ
+mover_name channel.Src = codes "MOVER_SRC"
+mover_name channel.Dst = codes "MOVER_DST"
+mover_name channel.Count = codes "MOVER_COUNT"
+mover_name channel.Ctrl = codes "MOVER_CTRL"
+
 -- the aliases 1 to 3 reach the regions behind that of MPU_RNR
 abbrev pub alias_name : ℕ → List ℕ
 alias_name alias = if alias == 0 then [] else if alias == 1 then codes "_A1" else if alias == 2 then codes "_A2" else codes "_A3"
@@ -80,17 +89,19 @@ register_name (Bits bank word) = bank_name bank ++ decimal word
 register_name (Priorities word) = codes "NVIC_IPR" ++ decimal word
 register_name (Control r) = control_name r
 register_name (Fault r) = fault_name r
+register_name (Mover r) = mover_name r
 register_name (Mpu r) = mpu_name r
 register_name (Sau r) = sau_name r
 
--- a register by its name, and what stands behind it
-abbrev pub named : Option Register → List ℕ → List ℕ
-named None suffix = codes "reserved"
-named (Some register) suffix = register_name register ++ suffix
+-- a register by its name, and what stands behind it; those of the mover are there where the board has one
+abbrev pub named : Bool → Option Register → List ℕ → List ℕ
+named mover None suffix = codes "reserved"
+named mover (Some (Mover r)) suffix = if mover then mover_name r ++ suffix else codes "reserved"
+named mover (Some register) suffix = register_name register ++ suffix
 
 -- the register whose word holds an address, with _NS where the alias of the Non-secure view has it
-unfoldable pub name_at : ℕ → List ℕ
-name_at a =
-    if within scs_first scs_last a then named (in_window scs_first a) []
-    else if within scs_ns_first scs_ns_last a then named (in_window scs_ns_first a) (codes "_NS")
+unfoldable pub name_at : Bool → ℕ → List ℕ
+name_at mover a =
+    if within scs_first scs_last a then named mover (in_window scs_first a) []
+    else if within scs_ns_first scs_ns_last a then named mover (in_window scs_ns_first a) (codes "_NS")
     else codes "reserved"

@@ -1,9 +1,10 @@
-//! What a step begins with: events of the script that are due, SysTicks that pend, and a sleep that ends.
+//! What a step begins with: events of the script that are due, SysTicks that pend, moves, and a sleep that ends.
 
 ghost use Rattle.std.specs.Prelude.{◌≡◌, ◌≤◌, ◌+◌, ◌++◌, length};
 ghost use Rattle.arrayvec.specs.ArrayString.{array_string_len};
 ghost use Rattle.tz_full.specs.BegunLines.{irq_line, event_line, line_where, is_asleep, is_idle, sleep_ends, begun_text};
 
+use crate::moves::push_moves;
 use crate::text::Text;
 use tz_model::{Report, ScriptEvent, Sleep, StepKind};
 use tz_regs::Running;
@@ -72,15 +73,16 @@ fn sleep_ends(run: &Running, kind: &StepKind) -> bool
     is_asleep(run.sleep) && !run.locked && !is_idle(kind)
 }
 
-/// SysTicks that pend at the beginning of a step, and a sleep that ends in it.
+/// SysTicks that pend at the beginning of a step, moves, and a sleep that ends in it.
 #[tactic(auto, unfolding(crate::specs::BegunLines::begun_text))]
 pub fn push_begun(text: &mut Text, account: &Account, report: &Report)
-    requires { array_string_len text.old + 100 ≤ 4096 }
+    requires { array_string_len text.old + 340 ≤ 4096 }
     ensures bytes { text.new.bytes ≡ text.old.bytes ++ begun_text account.now report.now }
-    ensures len { array_string_len text.new ≤ array_string_len text.old + 100 }
+    ensures len { array_string_len text.new ≤ array_string_len text.old + 340 }
 {
     push_line_where(text, account.ticked_s, "    SysTick S pends\n");
     push_line_where(text, account.ticked_ns, "    SysTick NS pends\n");
+    push_moves(text, &account.moves);
     push_line_where(
         text,
         sleep_ends(&account.core.run, &report.kind),

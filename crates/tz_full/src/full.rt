@@ -30,7 +30,7 @@ fn push_ran(text: &mut Text, account: &Account, report: &Report, machine: &Machi
 {
     let insn = done_by(&account.core, &report.kind);
     push_loads_by(text, account, machine, &insn);
-    push_stores(text, report.stores.as_slice());
+    push_stores(text, machine.board().mover, report.stores.as_slice());
     push_ways(text, account, report, machine);
 }
 
@@ -49,9 +49,9 @@ fn push_handled(text: &mut Text, account: &Account, report: &Report, machine: &M
 /// All lines but those of events.
 #[tactic(auto, unfolding(crate::specs::Full::rest_text))]
 fn push_rest(text: &mut Text, account: &Account, report: &Report, machine: &Machine)
-    requires { array_string_len text.old + 3586 ≤ 4096 }
+    requires { array_string_len text.old + 3826 ≤ 4096 }
     ensures bytes { text.new.bytes ≡ text.old.bytes ++ rest_text account.now report.now machine.now }
-    ensures len { array_string_len text.new ≤ array_string_len text.old + 3586 }
+    ensures len { array_string_len text.new ≤ array_string_len text.old + 3826 }
 {
     push_begun(text, account, report);
     push_ran(text, account, report, machine);

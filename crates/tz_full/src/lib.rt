@@ -14,6 +14,7 @@ mod frames;
 mod full;
 mod instruction;
 mod loads;
+mod moves;
 mod names;
 mod refusals;
 mod register_names;

@@ -131,7 +131,7 @@ fn push_read(text: &mut Text, bus: &Bus, size: Size, addr: u32, word: Option<u32
     if is_private(addr) {
         push_known(text, size, word);
         text.push_str(" ");
-        push_name_at(text, addr);
+        push_name_at(text, bus.board().mover, addr);
     } else {
         push_held(text, bus, size, addr);
     }
@@ -293,28 +293,28 @@ pub fn push_loads_by(text: &mut Text, account: &Account, machine: &Machine, insn
 
 /// The line of a store, where it went to a system register.
 #[tactic(auto, unfolding(crate::specs::LoadLines::store_line))]
-fn push_store(text: &mut Text, store: &Store)
+fn push_store(text: &mut Text, mover: bool, store: &Store)
     requires { array_string_len text.old + 42 ≤ 4096 }
-    ensures bytes { text.new.bytes ≡ text.old.bytes ++ store_line store.now }
+    ensures bytes { text.new.bytes ≡ text.old.bytes ++ store_line mover store.now }
     ensures len { array_string_len text.new ≤ array_string_len text.old + 42 }
 {
     if is_private(store.addr) {
         text.push_str("    store ");
         push_hex_word(text, store.addr);
         text.push_str(" ");
-        push_name_at(text, store.addr);
+        push_name_at(text, mover, store.addr);
         text.push_str("\n");
     }
 }
 
 /// The lines of stores to system registers.
 #[tactic(auto, unfolding(crate::specs::LoadLines::store_lines))]
-pub fn push_stores(text: &mut Text, stores: &[Store])
+pub fn push_stores(text: &mut Text, mover: bool, stores: &[Store])
     requires { array_string_len text.old + 42 * length stores.now ≤ 4096 }
-    ensures bytes { text.new.bytes ≡ text.old.bytes ++ store_lines stores.now }
+    ensures bytes { text.new.bytes ≡ text.old.bytes ++ store_lines mover stores.now }
     ensures len { array_string_len text.new ≤ array_string_len text.old + 42 * length stores.now }
 {
     for store in stores {
-        push_store(text, store);
+        push_store(text, mover, store);
     }
 }

@@ -3,13 +3,14 @@
 ghost use Rattle.std.specs.Prelude.{◌≡◌, ◌≤◌, ◌+◌, ◌++◌, decimal, length};
 ghost use Rattle.arrayvec.specs.ArrayString.{array_string_len};
 ghost use Rattle.tz_state.specs.RegisterTable.{register_at};
-ghost use Rattle.tz_full.specs.RegisterNames.{timer_name, bank_name, control_name, fault_name, mpu_name, sau_name, register_name, named, name_at};
+ghost use Rattle.tz_full.specs.RegisterNames.{timer_name, bank_name, control_name, fault_name, mover_name, mpu_name, sau_name, register_name, named, name_at};
 
 use crate::text::Text;
 use tz_model::address_map::{SCS_FIRST, SCS_LAST, SCS_NS_FIRST, SCS_NS_LAST};
 use tz_scs::register_at;
 use tz_state::{
-    Bank, ControlRegister, FaultRegister, MpuRegister, Register, SauRegister, TimerRegister,
+    Bank, ControlRegister, FaultRegister, MoverRegister, MpuRegister, Register, SauRegister,
+    TimerRegister,
 };
 use tz_syntax::push_decimal;
 
@@ -67,6 +68,18 @@ fn fault_name(register: FaultRegister) -> &'static str
         FaultRegister::Bfar => "BFAR",
         FaultRegister::Sfsr => "SFSR",
         FaultRegister::Sfar => "SFAR",
+    }
+}
+
+fn mover_name(register: MoverRegister) -> &'static str
+    ensures name { result.now ≡ mover_name register }
+    ensures short { length result.now ≤ 11 }
+{
+    match register {
+        MoverRegister::Src => "MOVER_SRC",
+        MoverRegister::Dst => "MOVER_DST",
+        MoverRegister::Count => "MOVER_COUNT",
+        MoverRegister::Ctrl => "MOVER_CTRL",
     }
 }
 
@@ -129,19 +142,22 @@ fn push_register_name(text: &mut Text, register: Register)
         Register::Priorities(word) => push_numbered(text, "NVIC_IPR", word),
         Register::Control(register) => text.push_str(control_name(register)),
         Register::Fault(register) => text.push_str(fault_name(register)),
+        Register::Mover(register) => text.push_str(mover_name(register)),
         Register::Mpu(register) => text.push_str(mpu_name(register)),
         Register::Sau(register) => text.push_str(sau_name(register)),
     }
 }
 
-/// The name of the register whose word has an offset, and what stands behind it.
-fn push_at_offset(text: &mut Text, offset: u32, suffix: &str)
+/// The name of the register whose word has an offset, and what stands behind it. Those of the mover are there where the board
+/// has one.
+fn push_at_offset(text: &mut Text, mover: bool, offset: u32, suffix: &str)
     requires { array_string_len text.old + 19 + length suffix.now ≤ 4096 }
-    ensures bytes { text.new.bytes ≡ text.old.bytes ++ named (register_at offset) suffix.now }
+    ensures bytes { text.new.bytes ≡ text.old.bytes ++ named mover (register_at offset) suffix.now }
     ensures len { array_string_len text.new ≤ array_string_len text.old + 19 + length suffix.now }
 {
     match register_at(offset) {
         None => text.push_str("reserved"),
+        Some(Register::Mover(_)) if !mover => text.push_str("reserved"),
         Some(register) => {
             push_register_name(text, register);
             text.push_str(suffix);
@@ -150,17 +166,17 @@ fn push_at_offset(text: &mut Text, offset: u32, suffix: &str)
 }
 
 /// The register whose word holds an address, with `_NS` where the alias of the Non-secure view has it; `reserved` where
-/// there is none.
+/// there is none, as are those of the mover on a board without one.
 #[tactic(auto, unfolding(crate::specs::RegisterNames::name_at))]
-pub fn push_name_at(text: &mut Text, addr: u32)
+pub fn push_name_at(text: &mut Text, mover: bool, addr: u32)
     requires { array_string_len text.old + 22 ≤ 4096 }
-    ensures bytes { text.new.bytes ≡ text.old.bytes ++ name_at addr }
+    ensures bytes { text.new.bytes ≡ text.old.bytes ++ name_at mover addr }
     ensures len { array_string_len text.new ≤ array_string_len text.old + 22 }
 {
     if addr >= SCS_FIRST && addr <= SCS_LAST {
-        push_at_offset(text, (addr - SCS_FIRST) / 4 * 4, "");
+        push_at_offset(text, mover, (addr - SCS_FIRST) / 4 * 4, "");
     } else if addr >= SCS_NS_FIRST && addr <= SCS_NS_LAST {
-        push_at_offset(text, (addr - SCS_NS_FIRST) / 4 * 4, "_NS");
+        push_at_offset(text, mover, (addr - SCS_NS_FIRST) / 4 * 4, "_NS");
     } else {
         text.push_str("reserved");
     }

@@ -1,6 +1,6 @@
 -- Where what gates rest upon stays, each entry is at a gate.
 use Rattle.std.proofs.Common.{◌≡◌, ℕ, zero, suc, ◌+◌, ◌%◌, ◌<◌, Bool, true, false, ◌&&◌, cond, List, Option, Some, None, refl, sym, ap, ◌∙◌, arith, inl, inr}
-use Rattle.std.specs.Prelude.{◌==◌, nat_le, not}
+use Rattle.std.specs.Prelude.{◌==◌, nat_le, not, unwrap_or}
 use Rattle.std.proofs.lemmas.Bool.{and_parts, and_from, not-true, eqb-true, eq-eqb}
 use Rattle.std.proofs.lemmas.Bool.Decides.{nat_tests}
 use Rattle.std.proofs.lemmas.List.Sums.{sum_by-append}
@@ -15,7 +15,7 @@ use Rattle.tz_regs.specs.declared.parts.Before.{Before}
 use Rattle.tz_regs.specs.declared.parts.Core.{Core}
 use Rattle.tz_regs.specs.declared.parts.Stacks.{Stacks}
 use Rattle.tz_regs.specs.Registers.{before_in}
-use Rattle.tz_state.specs.Attribution.{MapState, attribution, fetch_attribution, mapped_side, own_side}
+use Rattle.tz_state.specs.Attribution.{MapState, attribution, fetch_attribution, data_attribution, mapped_side, own_side, is_exempt, is_open}
 use Rattle.tz_state.specs.State.{State, map_of, side_of}
 use Rattle.tz_state.specs.Fetch.{is_entry}
 use Rattle.tz_sem.specs.declared.ending.Cause.{Cause}
@@ -24,12 +24,12 @@ use Rattle.tz_sem.specs.Ended.{Ended, kind_without, told_by, ran_in, report_of}
 use Rattle.tz_sem.specs.Run.{Events, state_after}
 use Rattle.tz_sem.specs.Step.{ended, started, step}
 use Rattle.tz_twin.specs.Integrity.{IsGatewayHalf, Came, ByException, ByReturn, ByUnstacking, WayIn}
-use Rattle.tz_twin.proofs.Unharmed.{enters_secure}
+use Rattle.tz_twin.proofs.Unharmed.{begins_kept, enters_secure}
 use Rattle.tz_gates.specs.Gates.{is_gate_half, is_gate, gates_of}
 use Rattle.tz_gates.specs.Entries.{is_sg, sg_place, goes_in, entry_of, listed, entered, is_among, count_elsewhere, other_entries}
 use Rattle.tz_gates.specs.Stays.{KeepsGates, KeepsGatesFor, HasEvenPc}
 use Rattle.tz_gates.proofs.Listed.{gate_among}
-use Rattle.tz_gates.proofs.Finding.{gate_back}
+use Rattle.tz_gates.proofs.Finding.{callable_own, entry_stays, gate_back}
 use Rattle.tz_gates.proofs.Entering.{goes_ended}
 use Rattle.tz_gates.proofs.EvenTaken.{Even}
 use Rattle.tz_gates.proofs.EvenStep.{even_after}
@@ -108,8 +108,30 @@ gate_from s t a is even k p q =
     and_from (a % 2 == 0) (is_gate_half s a && is_gate_half s (wrap (a + 2))) even
     (and_from (is_gate_half s a) (is_gate_half s (wrap (a + 2))) (half_of_gate s t a is two k p) (half_of_gate s t (wrap (a + 2)) is next k q))
 
-keeps_started : (s t : State) (events : List ScriptEvent) → KeepsGates s t → KeepsGates s (started t events)
-keeps_started s t events k = record { board = k.board; ctrl = k.ctrl; regions = k.regions; bytes = k.bytes }
+-- what Non-secure code may call is none of its data
+entry_closed : (m : MapState) (a : ℕ) → is_entry m a ≡ true → is_open m a ≡ false
+unfolding is_open data_attribution fetch_attribution
+entry_closed m a entry =
+    let low : a < 0xE0000000 = entry_low m a entry in
+    let low_f : nat_le 0xF0000000 a ≡ false = grind (arith, nat_tests) in
+    let low_e : nat_le 0xE0000000 a ≡ false = grind (arith, nat_tests) in
+    let not_exempt : is_exempt a ≡ false = exempt_high a low in
+    let mapped : is_callable (mapped_side m a) ≡ true = rw (low_f, low_e) at entry in
+    rw not_exempt (callable_own (mapped_side m a) mapped)
+  where
+    exempt_high : (a : ℕ) → a < 0xE0000000 → is_exempt a ≡ false
+    exempt_high a low = grind (arith, nat_tests)
+
+-- so moves at the beginning of a step of Non-secure code leave it
+keeps_started : (s t : State) (events : List ScriptEvent) → is_nonsecure_side (side_of t) ≡ true → KeepsGates s t → KeepsGates s (started t events)
+keeps_started s t events is k = record {
+  board = k.board;
+  ctrl = k.ctrl;
+  regions = k.regions;
+  bytes = λ a entry.
+      ap (λ (o : Option ℕ). unwrap_or o 0) ((begins_kept t events is).bytes a (entry_closed (map_of t) a (entry_stays s t a k ∙ entry)))
+      ∙ k.bytes a entry;
+}
 
 entry_at_gate : (s t : State) (events : List ScriptEvent) (p : ℕ) → are_regions s.bus.board.regions ≡ true → KeepsGates s t → is_multiple 2 t.core.registers.pc ≡ true → entry_of (step t events).report ≡ Some p
     → is_among (gates_of s) p ≡ true
@@ -119,7 +141,7 @@ entry_at_gate s t events p is k even told =
   where
     by_way : Entry (before_in t.core) (ended (started t events)) p → WayIn (started t events) (step t events) (ended (started t events)).ending.cause → is_among (gates_of s) p ≡ true
     by_way h (inl g) =
-        let gate = gate_from s (started t events) t.core.registers.pc is even (keeps_started s t events k) g.first g.second in
+        let gate = gate_from s (started t events) t.core.registers.pc is even (keeps_started s t events h.start k) g.first g.second in
         let low : t.core.registers.pc < 0xE0000000 = entry_low (map_of t) t.core.registers.pc (callable_entry (map_of t) t.core.registers.pc g.first.callable.1) in
         ap (is_among (gates_of s)) h.place ∙ gate_among s t.core.registers.pc (omega arith) gate
     by_way h (inr c) = absurd (came_otherwise _ _ _ _ c ((goes_ended (started t events)).goes h.code h.ran h.sg))

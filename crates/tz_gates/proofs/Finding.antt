@@ -64,7 +64,7 @@ gate_half_stays s t a is even small k h = record {
 
 -- ---- the fetch
 
-callable_own : (r : RegionSide) → is_callable r ≡ true → is_nonsecure r ≡ false
+pub callable_own : (r : RegionSide) → is_callable r ≡ true → is_nonsecure r ≡ false
 callable_own sides.Secure e = cc
 callable_own sides.Nsc e = refl
 callable_own sides.NonSecure e = cc

@@ -89,13 +89,6 @@ begun_alike e f events h alike =
     let pend = pends_alike e f alike in
     ticked_alike (due e events) (due f events) (due_alike e f events h) pend.0 pend.1
 
--- the same exceptions begin alike
-pub begin_itself : (e : ExceptionsValue) → begin_alike e e ≡ true
-begin_itself e = either_right (is_still e && is_still e) (is_same_timers e e) (same.and_both _ _ (same.timer_itself e.timer_s) (same.timer_itself e.timer_ns)) where
-  either_right : (p q : Bool) → q ≡ true → (p || q) ≡ true
-  either_right true q e = refl
-  either_right false q e = e
-
 -- what tells exceptions apart is nothing of the timers
 pub differ_timers : (other e f : ExceptionsValue) → exceptions_differ e (with_timers_of other f) ≡ exceptions_differ e f
 unfolding exceptions_differ

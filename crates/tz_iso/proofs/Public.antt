@@ -9,7 +9,7 @@ use Rattle.tz_state.specs.State.{State, map_of}
 use Rattle.tz_state.proofs.Difference.{same_sau, sau_itself, same_mpu, mpu_itself, same_exceptions, exceptions_itself, same_shown, shown_alike}
 use Rattle.tz_twin.specs.Seen.{open_bytes, open_bus, public_of}
 use Rattle.tz_twin.proofs.Bytes.{and_first, and_second}
-use Rattle.tz_iso.specs.Parts.{is_same_sp, is_same_limits, is_same_control, is_same_masks, is_same_side_faults, is_same_open_faults, is_same_faults, is_same_timers, is_same_monitor, is_same_sleep, is_same_rest}
+use Rattle.tz_iso.specs.Parts.{is_same_sp, is_same_limits, is_same_control, is_same_masks, is_same_side_faults, is_same_open_faults, is_same_faults, is_same_timers, is_same_monitor, is_same_sleep, is_same_rest, is_same_channel}
 use Rattle.tz_iso.specs.What.{public_apart}
 use Rattle.tz_iso.proofs.Same as same
 
@@ -71,11 +71,12 @@ same_public s t regions e =
     let a11 = same.first_same _ _ _ a10.1 in
     let a12 = same.first_same _ _ _ a11.1 in
     let a13 = same.first_same _ _ _ a12.1 in
+    let a14 = same.first_same _ _ _ a13.1 in
     let stacks = same.same_stacks s.core.stacks_ns t.core.stacks_ns a2.0 a3.0 a4.0 in
     let masks = same.same_masks s.core.masks t.core.masks a5.0 in
     let sau = same_sau s.bus.sau t.bus.sau (not_false _ a6.0) in
     let mpu = same_mpu s.bus.mpu_ns t.bus.mpu_ns (not_false _ a7.0) in
-    let status = same.same_side_status s.core.status.ns t.core.status.ns a8.0 a9.0 (and_first _ _ a10.0) in
+    let status = same.same_side_status s.core.status.ns t.core.status.ns a8.0 a9.0 (and_first _ _ a10.0) a14.0 in
     let timer_s = same.same_timer s.exceptions.timer_s t.exceptions.timer_s (and_first _ _ a12.0) in
     let timer_ns = same.same_timer s.exceptions.timer_ns t.exceptions.timer_ns (and_second _ _ a12.0) in
     let exceptions = same_exceptions s.exceptions t.exceptions (not_false _ a11.0) timer_s timer_ns in
@@ -125,4 +126,5 @@ none_public s t e =
     (same.also_same _ _ _ faults
     (same.also_same _ _ _ (false_not _ (subst (λ (x : ExceptionsValue). exceptions_differ s.exceptions x ≡ false) exceptions (exceptions_itself s.exceptions)))
     (same.also_same _ _ _ timers
-    (same.also_same _ _ _ rest refl))))))))))))
+    (same.also_same _ _ _ rest
+    (same.also_same _ _ _ (same.passed_by_same is_same_channel same.channel_itself s.core.status.ns.channel t.core.status.ns.channel (λ i. (status i).channel)) refl)))))))))))))

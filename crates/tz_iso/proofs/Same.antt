@@ -13,6 +13,7 @@ use Rattle.tz_regs.specs.declared.parts.Stacks.{Stacks}
 use Rattle.tz_regs.specs.declared.parts.SideMasks.{SideMasks}
 use Rattle.tz_regs.specs.declared.parts.Masks.{Masks}
 use Rattle.tz_regs.specs.declared.parts.SideStatus.{SideStatus}
+use Rattle.tz_model.specs.declared.channel.Channel.{Channel}
 use Rattle.tz_regs.specs.declared.parts.BusStatus.{BusStatus}
 use Rattle.tz_state.specs.declared.request.Exclusive.{Exclusive}
 use Rattle.tz_state.specs.declared.slot.Timer.{Timer}
@@ -20,7 +21,7 @@ use Rattle.tz_state.specs.Difference.{is_same_flag}
 use Rattle.tz_state.specs.State.{is_same_size}
 use Rattle.tz_twin.proofs.Bytes.{and_first, and_second}
 use Rattle.tz_iso.specs.declared.answer.What.{What}
-use Rattle.tz_iso.specs.Parts.{kind_number, is_same_lr, is_same_way, is_same_flags, is_same_sp, is_same_limits, is_same_control, is_same_side_masks, is_same_masks, is_same_side_faults, is_same_bus_faults, is_same_timer, is_same_monitor, is_same_sleep}
+use Rattle.tz_iso.specs.Parts.{kind_number, is_same_lr, is_same_way, is_same_flags, is_same_sp, is_same_limits, is_same_control, is_same_side_masks, is_same_masks, is_same_side_faults, is_same_bus_faults, is_same_timer, is_same_monitor, is_same_sleep, is_same_channel}
 
 pub and_both : (p q : Bool) → p ≡ true → q ≡ true → (p && q) ≡ true
 and_both true q e h = h
@@ -144,15 +145,29 @@ same_masks a b e =
 pub masks_itself : (a : Masks) → is_same_masks a a ≡ true
 masks_itself a = and_both _ _ (side_masks_itself a.s) (side_masks_itself a.ns)
 
-pub same_side_status : (a b : SideStatus) → (a.vtor == b.vtor) ≡ true → (a.ccr == b.ccr) ≡ true → is_same_side_faults a b ≡ true → a ≡ b
-same_side_status a b v c e =
+same_channel : (a b : Channel) → is_same_channel a b ≡ true → a ≡ b
+same_channel a b e =
+    let rest = and_second _ _ e in
+    let last = and_second _ _ rest in
+    let src = eqb-true a.src b.src (and_first _ _ e) in
+    let dst = eqb-true a.dst b.dst (and_first _ _ rest) in
+    let count = eqb-true a.count b.count (and_first _ _ last) in
+    let ctrl = eqb-true a.ctrl b.ctrl (and_second _ _ last) in
+    λ i. record { src = src i; dst = dst i; count = count i; ctrl = ctrl i }
+
+pub channel_itself : (a : Channel) → is_same_channel a a ≡ true
+channel_itself a = and_both _ _ (number_itself a.src) (and_both _ _ (number_itself a.dst) (and_both _ _ (number_itself a.count) (number_itself a.ctrl)))
+
+pub same_side_status : (a b : SideStatus) → (a.vtor == b.vtor) ≡ true → (a.ccr == b.ccr) ≡ true → is_same_side_faults a b ≡ true → is_same_channel a.channel b.channel ≡ true → a ≡ b
+same_side_status a b v c e m =
     let rest = and_second _ _ e in
     let vtor = eqb-true a.vtor b.vtor v in
     let ccr = eqb-true a.ccr b.ccr c in
     let ufsr = eqb-true a.ufsr b.ufsr (and_first _ _ e) in
     let mmfsr = eqb-true a.mmfsr b.mmfsr (and_first _ _ rest) in
     let mmfar = eqb-true a.mmfar b.mmfar (and_second _ _ rest) in
-    λ i. record { vtor = vtor i; ccr = ccr i; ufsr = ufsr i; mmfsr = mmfsr i; mmfar = mmfar i }
+    let channel = same_channel a.channel b.channel m in
+    λ i. record { vtor = vtor i; ccr = ccr i; ufsr = ufsr i; mmfsr = mmfsr i; mmfar = mmfar i; channel = channel i }
 
 pub side_faults_itself : (a : SideStatus) → is_same_side_faults a a ≡ true
 side_faults_itself a = and_both _ _ (number_itself a.ufsr) (and_both _ _ (number_itself a.mmfsr) (number_itself a.mmfar))

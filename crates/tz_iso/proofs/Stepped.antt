@@ -9,16 +9,18 @@ use Rattle.tz_regs.specs.Banks.{stacks_of}
 use Rattle.tz_state.specs.Attribution.{MapState, is_open}
 use Rattle.tz_state.specs.Due.{begun}
 use Rattle.tz_state.specs.Slots.{ExceptionsValue}
-use Rattle.tz_state.specs.State.{State, map_of, side_of}
+use Rattle.tz_state.specs.State.{State, map_of, side_of, with_exceptions}
 use Rattle.tz_sem.specs.Step.{ended, started, step}
 use Rattle.tz_twin.specs.Seen.{Public, public_of, open_bytes, Seen, Hidden, Shown, seen}
 use Rattle.tz_twin.specs.Writing.{is_framed, is_exceptional, with_timers_of}
 use Rattle.tz_twin.proofs.Elsewhere.{writes_told}
+use Rattle.tz_twin.proofs.Moved.{moves_told}
+use Rattle.tz_twin.proofs.TwoRuns.{seen_started}
 use Rattle.tz_twin.proofs.Split.{board_seen, board_seen-seen, sides_alike}
 use Rattle.tz_iso.specs.declared.marks.Marks.{Marks}
-use Rattle.tz_iso.specs.Marks.{marks_byte, Notes, Marked, begin_alike}
+use Rattle.tz_iso.specs.Marks.{marks_byte, Grows, Notes, NotesMoves, Marked, begin_alike}
 use Rattle.tz_iso.specs.Runs.{IsLinked}
-use Rattle.tz_iso.proofs.Beginning.{begin_itself, begun_alike}
+use Rattle.tz_iso.proofs.Beginning.{begun_alike}
 use Rattle.tz_iso.proofs.Marking.{or_first, grows_then}
 
 -- ---- states that are seen alike
@@ -52,11 +54,32 @@ marked_linked m s t linked is =
       exceptions = λ none. λ i. with_timers_of s.exceptions (p i).exceptions;
     }
 
--- and their timers pend alike
-pub begin_linked : (s t : State) → IsLinked s t → is_nonsecure_side (side_of s) ≡ true → begin_alike s.exceptions t.exceptions ≡ true
-begin_linked s t linked is =
-    let p = same_public s t linked is in
-    subst (λ (x : ExceptionsValue). begin_alike s.exceptions x ≡ true) (λ i. (p i).exceptions) (begin_itself s.exceptions)
+-- nor does anything after what a step begins with
+pub marked_started : (m : Marks) (s t : State) (due : List ScriptEvent) → IsLinked s t → is_nonsecure_side (side_of s) ≡ true → Marked m (started s due) (started t due)
+marked_started m s t due linked is = marked_linked m (started s due) (started t due) (seen_started s t due linked) is
+
+-- ---- what a step begins with
+
+-- where what moves may write is marked, and the timers pend alike, what may differ is
+pub begun_marked : (m m0 m1 m2 : Marks) (s t : State) (due : List ScriptEvent) → Marked m s t → Grows m m0 → (m0.exceptions ≡ false → begin_alike s.exceptions t.exceptions ≡ true)
+    → NotesMoves s m0 m1 → NotesMoves t m1 m2 → Marked m2 (started s due) (started t due)
+begun_marked m m0 m1 m2 s t due h first alike n n' =
+    let x = with_exceptions s (begun s.exceptions due) in
+    let y = with_exceptions t (begun t.exceptions due) in
+    let a = moves_told x in
+    let b = moves_told y in
+    let all = grows_then m m1 m2 (grows_then m m0 m1 first n.grows) n'.grows in
+    record {
+      sau = λ none. h.sau (all.all none);
+      bytes = λ q shown unmarked.
+          a.bytes q (n.beside q (n'.grows.blocks (q / 32) unmarked)) ∙ h.bytes q shown (all.blocks (q / 32) unmarked) ∙ sym (b.bytes q (n'.beside q unmarked));
+      exceptions = λ none.
+          let none1 = n'.grows.exceptions none in
+          let e = begun_alike s.exceptions t.exceptions due (h.exceptions (all.exceptions none)) (alike (n.grows.exceptions none1)) in
+          let p = a.exceptions (n.exceptions none1) in
+          let q = b.exceptions (n'.exceptions none) in
+          p ∙ e ∙ ap (with_timers_of (begun s.exceptions due)) (sym q) ∙ ap (λ (z : ExceptionsValue). with_timers_of z (started t due).exceptions) (sym p);
+    }
 
 -- ---- a step
 
@@ -71,15 +94,15 @@ marked_all m s t all exceptions = record {
   exceptions = λ e. true_is_false (sym exceptions ∙ e);
 }
 
--- of one machine, in which a step is noted
-record Moved (m m' : Marks) (s e : State) (x : ExceptionsValue) : Type 0 where
+-- of one machine, in which a step is noted, from what it begins with
+record Moved (m m' : Marks) (s e : State) : Type 0 where
   pub sau : m'.all ≡ false → e.bus.sau ≡ s.bus.sau
   pub board : e.bus.board ≡ s.bus.board
   pub bytes : (a : ℕ) → marks_byte m' a ≡ false → get e.bus.memory a ≡ get s.bus.memory a
-  pub exceptions : m'.exceptions ≡ false → e.exceptions ≡ with_timers_of e.exceptions x
+  pub exceptions : m'.exceptions ≡ false → e.exceptions ≡ with_timers_of e.exceptions s.exceptions
 
 moved_step : (m m' : Marks) (s : State) (due : List ScriptEvent) (exceptional : Bool) → exceptional ≡ is_exceptional (step s due).state.core (ended (started s due)).ending.cause
-    → Notes (ended (started s due)).stores exceptional (stacks_of s.core.run.side (step s due).state.core) m m' → Moved m m' s (step s due).state (begun s.exceptions due)
+    → Notes (ended (started s due)).stores exceptional (stacks_of s.core.run.side (step s due).state.core) m m' → Moved m m' (started s due) (step s due).state
 moved_step m m' s due exceptional is n =
     let w = writes_told s due in
     record {
@@ -91,11 +114,11 @@ moved_step m m' s due exceptional is n =
       exceptions = λ none. w.exceptions (n.exceptions none) (sym is ∙ n.plain none);
     }
 
-pub marked_step : (m m' m'' : Marks) (s t : State) (due : List ScriptEvent) (x y : Bool) → Marked m s t → (m.exceptions ≡ false → begin_alike s.exceptions t.exceptions ≡ true)
+marked_step : (m m' m'' : Marks) (s t : State) (due : List ScriptEvent) (x y : Bool) → Marked m (started s due) (started t due)
     → x ≡ is_exceptional (step s due).state.core (ended (started s due)).ending.cause → Notes (ended (started s due)).stores x (stacks_of s.core.run.side (step s due).state.core) m m'
     → y ≡ is_exceptional (step t due).state.core (ended (started t due)).ending.cause → Notes (ended (started t due)).stores y (stacks_of t.core.run.side (step t due).state.core) m' m''
     → Marked m'' (step s due).state (step t due).state
-marked_step m m' m'' s t due x y h alike is n is' n' =
+marked_step m m' m'' s t due x y h is n is' n' =
     let e = (step s due).state in
     let f = (step t due).state in
     let a = moved_step m m' s due x is n in
@@ -109,9 +132,8 @@ marked_step m m' m'' s t due x y h alike is n is' n' =
           a.bytes q (n'.grows.blocks (q / 32) unmarked) ∙ h.bytes q (subst (λ (z : MapState). is_open z q ≡ true) map shown) (all.blocks (q / 32) unmarked)
           ∙ sym (b.bytes q unmarked);
       exceptions = λ none.
-          let first = all.exceptions none in
           a.exceptions (n'.grows.exceptions none)
-          ∙ ap (with_timers_of e.exceptions) (begun_alike s.exceptions t.exceptions due (h.exceptions first) (alike first))
+          ∙ ap (with_timers_of e.exceptions) (h.exceptions (all.exceptions none))
           ∙ sym (ap (with_timers_of e.exceptions) (b.exceptions none));
     }
 
@@ -135,9 +157,9 @@ noted_step m m' s s' due stores exceptional stacks is told is_told left n = reco
 }
 
 -- so what may differ of what two steps left is marked
-pub marked_after : (m m' m'' : Marks) (s t s' t' : State) (due : List ScriptEvent) → Marked m s t → (m.exceptions ≡ false → begin_alike s.exceptions t.exceptions ≡ true)
+pub marked_after : (m m' m'' : Marks) (s t s' t' : State) (due : List ScriptEvent) → Marked m (started s due) (started t due)
     → Noted m m' s s' due → Noted m' m'' t t' due → Marked m'' s' t'
-marked_after m m' m'' s t s' t' due h alike n n' =
+marked_after m m' m'' s t s' t' due h n n' =
     subst (λ (z : State). Marked m'' z t') (sym n.is)
     (subst (λ (z : State). Marked m'' (step s due).state z) (sym n'.is)
-    (marked_step m m' m'' s t due n.exceptional n'.exceptional h alike n.is_told n.notes n'.is_told n'.notes))
+    (marked_step m m' m'' s t due n.exceptional n'.exceptional h n.is_told n.notes n'.is_told n'.notes))

@@ -8,7 +8,7 @@ use Rattle.tz_state.specs.Attribution.{is_open}
 use Rattle.tz_state.specs.Slots.{ExceptionsValue}
 use Rattle.tz_state.specs.State.{Bus, State, map_in}
 use Rattle.tz_state.specs.Timers.{counts}
-use Rattle.tz_twin.specs.Writing.{are_beside, are_in_memory, is_framed, with_timers_of}
+use Rattle.tz_twin.specs.Writing.{are_beside, are_in_memory, move_stores, is_framed, with_timers_of}
 use Rattle.tz_iso.specs.declared.marks.Blocks.{Blocks}
 use Rattle.tz_iso.specs.declared.marks.Marks.{Marks}
 use Rattle.tz_iso.specs.Parts.{is_same_timers}
@@ -45,6 +45,12 @@ pub record Notes (stores : List Store) (exceptional : Bool) (stacks : Stacks) (m
   pub plain : m'.exceptions ≡ false → exceptional ≡ false
   pub beside : (a : ℕ) → marks_byte m' a ≡ false → are_beside stores a ≡ true
   pub unframed : (a : ℕ) → marks_byte m' a ≡ false → (exceptional && is_framed stacks a) ≡ false
+
+-- what the moves at the beginning of a step from a state may write is marked
+pub record NotesMoves (s : State) (m m' : Marks) : Type 0 where
+  pub grows : Grows m m'
+  pub exceptions : m'.exceptions ≡ false → move_stores s ≡ []
+  pub beside : (a : ℕ) → marks_byte m' a ≡ false → are_beside (move_stores s) a ≡ true
 
 -- open bytes that aren't marked are the same
 abbrev pub AreMarked : Marks → Bus → Bus → Type 0

@@ -1,5 +1,6 @@
 -- Whether two machines have the same in a part of what Secure code leaves at a crossing out of Secure state.
 use Rattle.std.specs.Prelude.{ℕ, ◌==◌, Bool, true, false, ◌&&◌, Option, Some, None}
+use Rattle.tz_model.specs.declared.channel.Channel.{Channel}
 use Rattle.tz_model.specs.declared.report.Sleep.{Sleep}
 use Rattle.tz_model.specs.declared.report.Sleep.TheVariants.{Awake, Wfi, Wfe}
 use Rattle.tz_model.specs.declared.report.CrossKind.{CrossKind}
@@ -104,3 +105,7 @@ is_same_sleep sleep other = false
 abbrev pub is_same_rest : State → State → Bool
 is_same_rest s t =
     is_same_monitor s.bus.monitor t.bus.monitor && (is_same_flag s.core.event t.core.event && is_same_sleep s.core.run.sleep t.core.run.sleep)
+
+-- SRC, DST, COUNT and CTRL of a channel of the mover
+abbrev pub is_same_channel : Channel → Channel → Bool
+is_same_channel a b = a.src == b.src && (a.dst == b.dst && (a.count == b.count && a.ctrl == b.ctrl))

@@ -12,7 +12,7 @@ use Rattle.tz_frames.specs.Registers.{saved_of}
 use Rattle.tz_sem.specs.Step.{Stepped}
 use Rattle.tz_iso.specs.declared.answer.What.{What}
 use Rattle.tz_iso.specs.declared.answer.What.TheVariants as whats
-use Rattle.tz_iso.specs.Parts.{is_same_way, is_same_apsr, is_same_sp, is_same_limits, is_same_control, is_same_masks, is_same_faults, is_same_timers, is_same_rest}
+use Rattle.tz_iso.specs.Parts.{is_same_way, is_same_apsr, is_same_sp, is_same_limits, is_same_control, is_same_masks, is_same_faults, is_same_timers, is_same_rest, is_same_channel}
 
 -- the first of these parts that isn't the same in both
 abbrev pub first_apart : List (Bool × What) → Option What
@@ -68,7 +68,8 @@ public_apart s t =
     (is_same_faults s t, whats.Fault) ∷
     (not (exceptions_differ s.exceptions t.exceptions), whats.Exceptions) ∷
     (is_same_timers s.exceptions t.exceptions, whats.Systick) ∷
-    (is_same_rest s t, whats.Sleep) ∷ [])
+    (is_same_rest s t, whats.Sleep) ∷
+    (is_same_channel s.core.status.ns.channel t.core.status.ns.channel, whats.Mover) ∷ [])
 
 -- ---- two steps
 

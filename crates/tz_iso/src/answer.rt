@@ -40,6 +40,8 @@ pub enum What {
     Systick,
     /// The exclusive monitor, the event flag, or what the core waits for.
     Sleep,
+    /// The Non-secure channel of the mover.
+    Mover,
 }
 
 /// What came of a step of a pair.

@@ -10,13 +10,13 @@ ghost use Rattle.tz_state.specs.Access.{is_private};
 ghost use Rattle.tz_state.specs.Memory.{every};
 ghost use Rattle.tz_frames.specs.Stack.{both_frames_size};
 ghost use Rattle.tz_access.specs.Checks.{last_of};
-ghost use Rattle.tz_twin.specs.Writing.{is_within, is_framed, are_beside, are_in_memory};
-ghost use Rattle.tz_iso.specs.Marks.{is_among, marks_block, marks_byte, Grows, Notes};
+ghost use Rattle.tz_twin.specs.Writing.{is_within, is_framed, are_beside, are_in_memory, channel_stores};
+ghost use Rattle.tz_iso.specs.Marks.{is_among, marks_block, marks_byte, Grows, Notes, NotesMoves};
 
 use arrayvec::ArrayVec;
-use tz_core::Stores;
+use tz_core::{Machine, Stores};
 use tz_model::address_map::{PRIVATE_FIRST, PRIVATE_LAST};
-use tz_model::{Side, Size, Store};
+use tz_model::{Channel, Side, Size, Store};
 use tz_regs::{Core, Stacks};
 
 /// Blocks of 32 bytes that follow one another, by their numbers.
@@ -185,6 +185,30 @@ impl Marks {
     {
         self.note_frames_at(stacks.msp);
         self.note_frames_at(stacks.psp);
+    }
+
+    /// Marks what a move of a channel may write, where it goes: a word, and the interrupt that it pends.
+    #[tactic(auto, unfolding(tz_twin::specs::Writing::are_beside))]
+    fn note_move(&mut self, channel: &Channel)
+        ensures grows { Grows self.old self.new }
+        ensures exceptions { self.new.exceptions ≡ false → channel_stores channel.now ≡ [] }
+        ensures bytes { (a : ℕ) → marks_byte self.new a ≡ false → are_beside (channel_stores channel.now) a ≡ true }
+    {
+        if channel.ctrl % 2 == 1 {
+            self.exceptions = true;
+            self.note_store(Size::Word, channel.dst);
+        }
+    }
+
+    /// Marks what the moves at the beginning of a step may write.
+    pub fn note_moves(&mut self, machine: &Machine)
+        ensures { NotesMoves machine.now self.old self.new }
+    {
+        if machine.board().mover {
+            let channels = machine.channels();
+            self.note_move(&channels.secure);
+            self.note_move(&channels.nonsecure);
+        }
     }
 
     /// Marks what a step may have written that made these stores, and left this core, of code that ran on a side. Most

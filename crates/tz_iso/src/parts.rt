@@ -4,7 +4,7 @@ ghost use Rattle.std.specs.Prelude.{◌≡◌, ◌==◌, not, false, ◌∷◌, 
 ghost use Rattle.tz_state.specs.Difference.{sau_differs, mpu_differs, exceptions_differ as differ};
 ghost use Rattle.tz_twin.specs.Writing.{with_timers_of};
 ghost use Rattle.tz_iso.specs.Marks.{Marked};
-ghost use Rattle.tz_iso.specs.Parts.{is_same_sp, is_same_limits, is_same_control, is_same_side_masks, is_same_masks, is_same_side_faults, is_same_bus_faults, is_same_faults, is_same_timer, is_same_timers, is_same_monitor, is_same_sleep, is_same_rest};
+ghost use Rattle.tz_iso.specs.Parts.{is_same_sp, is_same_limits, is_same_control, is_same_side_masks, is_same_masks, is_same_side_faults, is_same_bus_faults, is_same_faults, is_same_timer, is_same_timers, is_same_monitor, is_same_sleep, is_same_rest, is_same_channel};
 ghost use Rattle.tz_iso.specs.What.{first_apart, public_apart};
 
 use crate::answer::What;
@@ -13,7 +13,7 @@ use crate::handed::is_same_flag;
 use crate::marks::Marks;
 use tz_access::Bus;
 use tz_core::Machine;
-use tz_model::{Side, Sleep};
+use tz_model::{Channel, Side, Sleep};
 use tz_nvic::Exceptions;
 use tz_regs::{BusStatus, Masks, SideMasks, SideStatus, Stacks};
 use tz_state::Timer;
@@ -129,6 +129,13 @@ fn is_same_rest(m: &Machine, n: &Machine) -> bool
         && is_same_sleep(a.run.sleep, b.run.sleep)
 }
 
+/// Whether a channel of the mover is the same.
+fn is_same_channel(a: &Channel, b: &Channel) -> bool
+    ensures { result ≡ is_same_channel a.now b.now }
+{
+    a.src == b.src && a.dst == b.dst && a.count == b.count && a.ctrl == b.ctrl
+}
+
 /// What of the stacks isn't the same.
 fn stacks_apart(a: &Stacks, b: &Stacks) -> Option<What>
     ensures { result ≡ first_apart ((is_same_sp a.now b.now, What.Sp) ∷ (is_same_limits a.now b.now, What.Limit) ∷ (is_same_control a.now b.now, What.Control) ∷ []) }
@@ -159,10 +166,25 @@ fn units_apart(marks: &Marks, b: &Bus, c: &Bus) -> Option<What>
     None
 }
 
-/// What of the exceptions, or of what the core waits for, isn't the same.
+/// What of what the core waits for, or of the mover, isn't the same.
+fn last_apart(m: &Machine, n: &Machine) -> Option<What>
+    ensures { result ≡ first_apart ((is_same_rest m.now n.now, What.Sleep) ∷ (is_same_channel m.now.core.status.ns.channel n.now.core.status.ns.channel, What.Mover) ∷ []) }
+{
+    if !is_same_rest(m, n) {
+        return Some(What::Sleep);
+    }
+    let a = &m.core().status.ns.channel;
+    let b = &n.core().status.ns.channel;
+    if !is_same_channel(a, b) {
+        return Some(What::Mover);
+    }
+    None
+}
+
+/// What of the exceptions, or of the parts after them, isn't the same.
 fn rest_apart(marks: &Marks, m: &Machine, n: &Machine) -> Option<What>
     requires { marks.now.exceptions ≡ false → m.now.exceptions ≡ with_timers_of m.now.exceptions n.now.exceptions }
-    ensures { result ≡ first_apart ((not (differ m.now.exceptions n.now.exceptions), What.Exceptions) ∷ (is_same_timers m.now.exceptions n.now.exceptions, What.Systick) ∷ (is_same_rest m.now n.now, What.Sleep) ∷ []) }
+    ensures { result ≡ first_apart ((not (differ m.now.exceptions n.now.exceptions), What.Exceptions) ∷ (is_same_timers m.now.exceptions n.now.exceptions, What.Systick) ∷ (is_same_rest m.now n.now, What.Sleep) ∷ (is_same_channel m.now.core.status.ns.channel n.now.core.status.ns.channel, What.Mover) ∷ []) }
 {
     if exceptions_differ(marks, m.exceptions(), n.exceptions()) {
         return Some(What::Exceptions);
@@ -170,16 +192,13 @@ fn rest_apart(marks: &Marks, m: &Machine, n: &Machine) -> Option<What>
     if !is_same_timers(m.exceptions(), n.exceptions()) {
         return Some(What::Systick);
     }
-    if !is_same_rest(m, n) {
-        return Some(What::Sleep);
-    }
-    None
+    last_apart(m, n)
 }
 
 /// What of the status registers, or of the parts after them, isn't the same.
 fn status_apart(marks: &Marks, m: &Machine, n: &Machine) -> Option<What>
     requires { marks.now.exceptions ≡ false → m.now.exceptions ≡ with_timers_of m.now.exceptions n.now.exceptions }
-    ensures { result ≡ first_apart ((m.now.core.status.ns.vtor == n.now.core.status.ns.vtor, What.Vtor) ∷ (m.now.core.status.ns.ccr == n.now.core.status.ns.ccr, What.Ccr) ∷ (is_same_faults m.now n.now, What.Fault) ∷ (not (differ m.now.exceptions n.now.exceptions), What.Exceptions) ∷ (is_same_timers m.now.exceptions n.now.exceptions, What.Systick) ∷ (is_same_rest m.now n.now, What.Sleep) ∷ []) }
+    ensures { result ≡ first_apart ((m.now.core.status.ns.vtor == n.now.core.status.ns.vtor, What.Vtor) ∷ (m.now.core.status.ns.ccr == n.now.core.status.ns.ccr, What.Ccr) ∷ (is_same_faults m.now n.now, What.Fault) ∷ (not (differ m.now.exceptions n.now.exceptions), What.Exceptions) ∷ (is_same_timers m.now.exceptions n.now.exceptions, What.Systick) ∷ (is_same_rest m.now n.now, What.Sleep) ∷ (is_same_channel m.now.core.status.ns.channel n.now.core.status.ns.channel, What.Mover) ∷ []) }
 {
     let a = &m.core().status.ns;
     let b = &n.core().status.ns;

@@ -1,13 +1,14 @@
 //! The pair of machines and its step.
 
-ghost use Rattle.std.specs.Prelude.{◌≡◌, ◌<◌, ◌↔◌, ℕ, true, false, None, IfOk};
+ghost use Rattle.std.specs.Prelude.{◌≡◌, ◌<◌, ◌↔◌, ℕ, List, true, None, IfOk};
 ghost use Rattle.tz_model.specs.declared.report.View.TheVariants.{Ns};
-ghost use Rattle.tz_sem.specs.Step.{step};
+ghost use Rattle.tz_sem.specs.Step.{started, step};
 ghost use Rattle.tz_state.specs.State.{side_of};
 ghost use Rattle.tz_table.specs.declared.units.Side.TheVariants.{NonSecure};
 ghost use Rattle.tz_text.specs.Line.{line};
 ghost use Rattle.tz_twin.specs.Seen.{crossing};
-ghost use Rattle.tz_iso.specs.Marks.{Marked, begin_alike};
+ghost use Rattle.tz_model.specs.declared.report.ScriptEvent.{ScriptEvent};
+ghost use Rattle.tz_iso.specs.Marks.{Marked};
 ghost use Rattle.tz_iso.specs.What.{what_of};
 ghost use Rattle.tz_iso.specs.Runs.{IsLinked};
 
@@ -55,16 +56,19 @@ impl Model for Pair {
     ghost invariant = { λ p. p.found ≡ None → IsLinked p.first p.second × Marked p.marks p.first p.second };
 }
 
-/// What may differ of two machines before their next step: nothing where Non-secure code runs, else what is marked, and
-/// the exceptions where the timers may pend them apart.
+/// What may differ of two machines after what their next step begins with: nothing where Non-secure code runs, else what is
+/// marked, what moves may write, and the exceptions where the timers may pend them apart.
 fn begin_marks(marks: &mut Marks, first: &Machine, second: &Machine)
     requires linked { IsLinked first.now second.now }
     requires marked { Marked marks.old first.now second.now }
-    ensures marked { Marked marks.new first.now second.now }
-    ensures timers { marks.new.exceptions ≡ false → begin_alike first.now.exceptions second.now.exceptions ≡ true }
+    ensures { (due : List ScriptEvent) → Marked marks.new (started first.now due) (started second.now due) }
 {
     match first.side() {
-        Side::Secure => note_timers(marks, first.exceptions(), second.exceptions()),
+        Side::Secure => {
+            note_timers(marks, first.exceptions(), second.exceptions());
+            marks.note_moves(first);
+            marks.note_moves(second);
+        }
         Side::NonSecure => marks.clear(),
     }
 }

@@ -14,6 +14,7 @@ pub record BoardValue : Type 0 where
   pub mpu_secure : ℕ
   pub mpu_nonsecure : ℕ
   pub profile : Profile
+  pub mover : Bool
   pub regions : List Region
   pub sau : List SauRegion
 

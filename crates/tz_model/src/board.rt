@@ -64,6 +64,8 @@ pub struct Board {
     pub mpu_secure: u8,
     pub mpu_nonsecure: u8,
     pub profile: Profile,
+    /// Whether there is a mover, with a channel of each side.
+    pub mover: bool,
     /// The memory map: 1 to 32 regions, no two of which share a byte, of 4 MiB at most together.
     pub regions: Vec<Region>,
     /// The SAU at boot. It starts enabled exactly where this list isn't empty.
@@ -83,6 +85,7 @@ impl Model for Board {
       mpu_secure = b.mpu_secure;
       mpu_nonsecure = b.mpu_nonsecure;
       profile = b.profile;
+      mover = b.mover;
       regions = b.regions.items;
       sau = b.sau.items;
     } };
@@ -95,6 +98,7 @@ impl Model for Board {
       mpu_secure = b.mpu_secure;
       mpu_nonsecure = b.mpu_nonsecure;
       profile = b.profile;
+      mover = b.mover;
       regions = b.regions.items;
       sau = b.sau.items;
     }) };
@@ -115,6 +119,7 @@ impl Board {
             mpu_secure: self.mpu_secure,
             mpu_nonsecure: self.mpu_nonsecure,
             profile: self.profile,
+            mover: self.mover,
             regions,
             sau,
         })

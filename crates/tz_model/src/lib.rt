@@ -6,6 +6,7 @@
 
 pub mod address_map;
 mod board;
+mod channel;
 mod fetch;
 mod image;
 mod outside;
@@ -13,6 +14,7 @@ mod port;
 mod report;
 
 pub use board::{Board, Profile, Region, RegionKind, RegionSide, SauRegion};
+pub use channel::{Channel, Channels};
 pub use fetch::{FetchAnswer, Fetched};
 pub use image::{Image, Segment};
 pub use outside::{Shelf, ShelfError, Sink, SinkError};

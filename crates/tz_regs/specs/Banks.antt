@@ -1,6 +1,7 @@
 -- Things that stand once a side, and the choice among them.
 use Rattle.tz_table.specs.declared.units.Side.{Side}
 use Rattle.tz_table.specs.declared.units.Side.TheVariants.{Secure, NonSecure}
+use Rattle.tz_model.specs.declared.channel.Channels.{Channels}
 use Rattle.tz_regs.specs.declared.parts.Core.{Core}
 use Rattle.tz_regs.specs.declared.parts.Stacks.{Stacks}
 use Rattle.tz_regs.specs.declared.parts.Masks.{Masks}
@@ -40,3 +41,16 @@ status_of side c = of_side side c.status.s c.status.ns
 abbrev pub with_status : Side → Core → SideStatus → Core
 with_status side c own =
     record c { status = record c.status { s = secure_after side own c.status.s; ns = nonsecure_after side own c.status.ns } }
+
+-- the channels of the mover
+abbrev pub channels_of : Core → Channels
+channels_of c = record { secure = c.status.s.channel; nonsecure = c.status.ns.channel }
+
+abbrev pub with_channels : Core → Channels → Core
+with_channels c channels =
+    record c {
+      status = record c.status {
+        s = record c.status.s { channel = channels.secure };
+        ns = record c.status.ns { channel = channels.nonsecure };
+      };
+    }

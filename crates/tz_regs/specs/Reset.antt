@@ -1,6 +1,7 @@
 -- The core after a reset (DDI0553, `TakeReset`).
 use Rattle.std.specs.Prelude.{ℕ, ◌%◌, ◌==◌, Bool, false, replicate}
 use Rattle.tz_table.specs.declared.units.Side.TheVariants.{Secure}
+use Rattle.tz_model.specs.declared.channel.Channel.{Channel}
 use Rattle.tz_model.specs.declared.report.Sleep.TheVariants.{Awake}
 use Rattle.tz_model.specs.Words.{even_of}
 use Rattle.tz_regs.specs.declared.parts.Core.{Core}
@@ -15,8 +16,12 @@ reset_stacks msp = record { msp = word_aligned msp; psp = 0; msplim = 0; psplim 
 abbrev pub no_masks : SideMasks
 no_masks = record { primask = false; basepri = 0; faultmask = false }
 
+-- a channel that doesn't go, whose registers are zero
+abbrev pub no_channel : Channel
+no_channel = record { src = 0; dst = 0; count = 0; ctrl = 0 }
+
 abbrev pub reset_status : ℕ → SideStatus
-reset_status vtor = record { vtor = vtor; ccr = 0; ufsr = 0; mmfsr = 0; mmfar = 0 }
+reset_status vtor = record { vtor = vtor; ccr = 0; ufsr = 0; mmfsr = 0; mmfar = 0; channel = no_channel }
 
 -- (own) with these vector tables, stack pointer and start; R0 to R12 and the flags, which a reset leaves
 -- UNKNOWN, are zero

@@ -6,6 +6,7 @@
 #![tactic(auto)]
 
 mod access;
+mod channels;
 pub mod fault_bits;
 mod it;
 mod parts;

@@ -4,7 +4,7 @@
 //! the system registers and by faults. Words are 32 bits, bit 0 of PC is clear, and so are the low bits of
 //! stack pointers (2) and limits (3).
 
-use tz_model::{Side, Sleep};
+use tz_model::{Channel, Side, Sleep};
 
 /// The flags of the application (DDI0553, APSR).
 #[derive(Clone, Copy)]
@@ -70,7 +70,8 @@ pub struct Masks {
     pub ns: SideMasks,
 }
 
-/// The configuration and the fault registers of a side.
+/// The configuration, the fault registers and the channel of the mover of a side. Of a board without a mover the channel
+/// is zero.
 #[derive(Clone, Copy)]
 pub struct SideStatus {
     pub vtor: u32,
@@ -78,6 +79,7 @@ pub struct SideStatus {
     pub ufsr: u32,
     pub mmfsr: u32,
     pub mmfar: u32,
+    pub channel: Channel,
 }
 
 /// The fault registers of SecureFault.
@@ -95,7 +97,7 @@ pub struct BusStatus {
     pub hfsr: u32,
 }
 
-/// All that system registers and faults write of the core.
+/// All that system registers and faults write of the core, and moves.
 #[derive(Clone, Copy)]
 pub struct Status {
     pub s: SideStatus,

@@ -1,13 +1,13 @@
 //! The core after a reset.
 
 ghost use Rattle.std.specs.Prelude.{◌≡◌, false};
-ghost use Rattle.tz_regs.specs.Reset.{reset_stacks, no_masks, reset_status, reset_core};
+ghost use Rattle.tz_regs.specs.Reset.{reset_stacks, no_masks, no_channel, reset_status, reset_core};
 
 use crate::parts::{
     Apsr, BusStatus, Core, Masks, Registers, Running, SecurityStatus, SideMasks, SideStatus,
     Stacks, Status,
 };
-use tz_model::{Side, Sleep};
+use tz_model::{Channel, Side, Sleep};
 
 impl Stacks {
     fn reset(msp: u32) -> Stacks
@@ -36,6 +36,18 @@ impl SideMasks {
     }
 }
 
+/// A channel that doesn't go, whose registers are zero.
+fn no_channel() -> Channel
+    ensures { result ≡ no_channel }
+{
+    Channel {
+        src: 0,
+        dst: 0,
+        count: 0,
+        ctrl: 0,
+    }
+}
+
 impl SideStatus {
     fn reset(vtor: u32) -> SideStatus
         ensures { result ≡ reset_status vtor }
@@ -46,6 +58,7 @@ impl SideStatus {
             ufsr: 0,
             mmfsr: 0,
             mmfar: 0,
+            channel: no_channel(),
         }
     }
 }

@@ -1,15 +1,16 @@
 -- SVC of Secure code whose basic frame is written without a fault leaves the core in Secure state: what it pends is of
 -- the Secure side and comes first, and so is the HardFault that stands in for it.
-use Rattle.std.proofs.Common.{◌≡◌, ℕ, suc, ◌<◌, Bool, true, false, ◌&&◌, ◌||◌, not, cond, List, [], ◌∷◌, length, Option, Some, None, Result, Ok, Err, refl, sym, ap, ◌∙◌, subst, arith}
+use Rattle.std.proofs.Common.{◌≡◌, ℕ, suc, ◌+◌, ◌<◌, Bool, true, false, ◌&&◌, ◌||◌, not, cond, List, [], ◌∷◌, length, Option, Some, None, Result, Ok, Err, refl, sym, ap, ◌∙◌, subst, arith}
 use Rattle.std.specs.Prelude.{nat_lt, slice_set}
 use Rattle.std.proofs.lemmas.Bool.Decides.{nat_tests}
 use Rattle.std.proofs.lemmas.List.{length-set}
 use Rattle.tz_table.specs.declared.units.Side.{Side}
-use Rattle.tz_table.specs.declared.units.Side.TheVariants.{Secure}
+use Rattle.tz_table.specs.declared.units.Side.TheVariants.{Secure, NonSecure}
 use Rattle.tz_model.specs.declared.board.Profile.{Profile}
 use Rattle.tz_model.specs.declared.report.Fault.{Fault}
 use Rattle.tz_model.specs.declared.report.Fault.TheVariants.{Call}
 use Rattle.tz_model.specs.declared.report.ScriptEvent.{ScriptEvent}
+use Rattle.tz_model.specs.declared.channel.Channel.{Channel}
 use Rattle.tz_model.specs.declared.report.Slot.{Slot}
 use Rattle.tz_regs.specs.declared.parts.Core.{Core}
 use Rattle.tz_regs.specs.declared.parts.Masks.{Masks}
@@ -20,10 +21,12 @@ use Rattle.tz_state.specs.Due.{slot_of_event, slots_pended, slots_due, due, begu
 use Rattle.tz_state.specs.Escalation.{hard_side, hardened, escalated}
 use Rattle.tz_state.specs.Execution.{execution, takes_first}
 use Rattle.tz_state.specs.First.{FitGroups}
+use Rattle.tz_state.specs.Memory.{word_at, with_word}
+use Rattle.tz_state.specs.Moves.{goes, moves_word, after_move, irq_of, pends_irq, Moving, channel_of, moved_by, moved, all_moved, moving_in, moves_of}
 use Rattle.tz_state.specs.Priority.{hard_priority, priority_of, chosen}
 use Rattle.tz_state.specs.SlotChanges.{pended}
-use Rattle.tz_state.specs.Slots.{ExceptionsValue, places, at, exists, index_of}
-use Rattle.tz_state.specs.State.{State}
+use Rattle.tz_state.specs.Slots.{ExceptionsValue, places, first_interrupt_place, at, exists, index_of}
+use Rattle.tz_state.specs.State.{Bus, State, with_exceptions, with_memory}
 use Rattle.tz_state.specs.Timers.{ticked_s}
 use Rattle.tz_frames.specs.declared.entering.Entered.{Entered}
 use Rattle.tz_frames.specs.declared.entering.Entered.TheVariants as entered
@@ -39,7 +42,9 @@ use Rattle.tz_sem.specs.Ended.{Ended}
 use Rattle.tz_sem.specs.Step.{started}
 use Rattle.tz_sem.specs.Taking.{state_of, framed_in, taken_by, after_entry, preempted, goes_on_at, passed_by, after_raise, faults}
 use Rattle.tz_resume.specs.Resumption.{basic_pushed}
+use Rattle.tz_resume.specs.Words.{IsWhole}
 use Rattle.tz_resume.specs.Steps.{IsTyped, CallsBy, raised_by_call, behind_call}
+use Rattle.tz_resume.proofs.Words.{word_stays}
 use Rattle.tz_resume.proofs.Least.{none_lower, call_first, hard_first, hard_after_call}
 
 -- ---- what a step begins with keeps what types say
@@ -58,9 +63,56 @@ slots_kept (event ∷ more) e = slots_kept more (record e { slots = slots_pended
 begun_slots : (e : ExceptionsValue) (events : List ScriptEvent) → length (begun e events).slots ≡ length e.slots
 begun_slots e events = length-set (ticked_s (due e events)).slots 31 _ ∙ length-set (due e events).slots 30 _ ∙ slots_kept events e
 
+-- memory that has a byte for each address of the regions, and so many slots
+record Fits (b : Bus) (n : ℕ) (m : Moving) : Type 0 where
+  pub whole : IsWhole (with_memory b m.memory)
+  pub slots : length m.slots ≡ n
+
+fits_moved : (b : Bus) (e : ExceptionsValue) (side : Side) (n : ℕ) (m : Moving) → Fits b n m → Fits b n (moved b e side m)
+fits_moved b e side n m k = go (goes c) where
+  c : Channel
+  c = channel_of side m.channels
+
+  after : Channel
+  after = after_move b side c
+
+  here : ExceptionsValue
+  here = record e { slots = m.slots }
+
+  i : ℕ
+  i = first_interrupt_place + irq_of after
+
+  whole : (t : Bool) → IsWhole (with_memory b (cond t (with_word m.memory c.dst (word_at m.memory c.src)) m.memory))
+  whole true q mapped = word_stays m.memory c.dst (word_at m.memory c.src) q (k.whole q mapped)
+  whole false q mapped = k.whole q mapped
+
+  slots : (t : Bool) → length (cond t (slice_set m.slots i (record (at here i) { pending = true })) m.slots) ≡ n
+  slots true = length-set m.slots i (record (at here i) { pending = true }) ∙ k.slots
+  slots false = k.slots
+
+  go : (t : Bool) → Fits b n (cond t (moved_by b e side c m) m)
+  go true = record { whole = whole (moves_word b side c); slots = slots (pends_irq side here after) }
+  go false = k
+
+fits_all : (b : Bus) (e : ExceptionsValue) (side : Side) (n : ℕ) (m : Moving) → Fits b n m → Fits b n (all_moved b e side m)
+unfolding all_moved
+fits_all b e Secure n m k = fits_moved b e NonSecure n (moved b e Secure m) (fits_moved b e Secure n m k)
+fits_all b e NonSecure n m k = fits_moved b e NonSecure n m k
+
+fits_of : (s : State) → IsWhole s.bus → Fits s.bus (length s.exceptions.slots) (moves_of s)
+unfolding moves_of
+fits_of s k = go (s.bus.board.mover && not s.core.run.locked) where
+  here : Fits s.bus (length s.exceptions.slots) (moving_in s)
+  here = record { whole = k; slots = refl }
+
+  go : (t : Bool) → Fits s.bus (length s.exceptions.slots) (cond t (all_moved s.bus s.exceptions s.core.run.side (moving_in s)) (moving_in s))
+  go true = fits_all s.bus s.exceptions s.core.run.side (length s.exceptions.slots) (moving_in s) here
+  go false = here
+
 pub typed_started : (s : State) (events : List ScriptEvent) → IsTyped s → IsTyped (started s events)
 typed_started s events t =
-    record { registers = t.registers; pointer = t.pointer; whole = t.whole; slots = begun_slots s.exceptions events ∙ t.slots; groups = t.groups }
+    let f = fits_of (with_exceptions s (begun s.exceptions events)) t.whole in
+    record { registers = t.registers; pointer = t.pointer; whole = f.whole; slots = f.slots ∙ begun_slots s.exceptions events ∙ t.slots; groups = t.groups }
 
 -- ---- an entry whose first exception is Secure
 

@@ -123,7 +123,7 @@ code_resumes s events from course typed numbered i k s' events' later value p r 
       sound = subst (λ (r : Registers). IsSound r) (sym i.registers) (sound_of s typed numbered);
       fits = typed.registers.pc;
       pointer = subst (λ (own : Stacks). sp_of q own < 2 ^ 32) (sym i.stacks) (typed.pointer q);
-      whole = i.whole typed.whole;
+      whole = i.whole (typed_started s events typed).whole;
       basic = k.basic;
       additional = k.additional;
     } in

@@ -6,6 +6,7 @@
 #![tactic(auto)]
 
 mod bits;
+mod channels;
 mod control;
 mod faults;
 mod interrupts;

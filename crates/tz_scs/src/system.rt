@@ -7,6 +7,7 @@ ghost use Rattle.tz_state.specs.SystemRegisters.{control_value, control_written,
 ghost use Rattle.tz_state.specs.Views.{narrow_of, narrow_written, sized_written, system_value, system_read, system_written};
 ghost use Rattle.tz_scs.specs.Lent.{state_of, SameLoans, SameSystem, machine_of, system_of, with_system};
 
+use crate::channels::{channel_after, channel_seen, put_own_channel};
 use crate::control;
 use crate::faults::{fault_value, own_status, put_own_status, write_fault};
 use crate::interrupts::{bank_value, priorities_value, write_bank, write_priorities, write_stir};
@@ -106,6 +107,11 @@ impl SystemRegisters<'_> {
                 self.exceptions.fault_side(),
                 register,
             ),
+            Register::Mover(register) => channel_seen(
+                self.bus.board().mover,
+                own_status(view, self.status).channel,
+                register,
+            ),
             Register::Mpu(register) => self.bus.mpu_register(view, register),
             Register::Sau(register) => self.sau_value(view, register),
         }
@@ -127,6 +133,7 @@ impl SystemRegisters<'_> {
             | Register::Priorities(_)
             | Register::Control(_)
             | Register::Fault(_)
+            | Register::Mover(_)
             | Register::Mpu(_)
             | Register::Sau(_) => {}
         }
@@ -154,6 +161,11 @@ impl SystemRegisters<'_> {
                 register,
                 value,
             ),
+            Register::Mover(register) => {
+                let channel = own_status(view, self.status).channel;
+                let after = channel_after(self.bus.board().mover, channel, register, value);
+                put_own_channel(self.status, view, after);
+            }
             Register::Mpu(register) => self.bus.set_mpu_register(view, register, value),
             Register::Sau(register) => self.write_sau(view, register, value),
         }

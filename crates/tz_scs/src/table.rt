@@ -1,10 +1,11 @@
 //! Where the system registers stand (DDI0553, chapter D1.2), by pages of the table of offsets.
 
 ghost use Rattle.std.specs.Prelude.{◌≡◌, ◌/◌, ◌%◌};
-ghost use Rattle.tz_state.specs.RegisterTable.{register_in, timer_rows, nvic_rows, control_rows, mpu_rows, sau_rows, register_at};
+ghost use Rattle.tz_state.specs.RegisterTable.{register_in, timer_rows, nvic_rows, mover_rows, control_rows, mpu_rows, sau_rows, register_at};
 
 use tz_state::{
-    Bank, ControlRegister, FaultRegister, MpuRegister, Register, SauRegister, TimerRegister,
+    Bank, ControlRegister, FaultRegister, MoverRegister, MpuRegister, Register, SauRegister,
+    TimerRegister,
 };
 
 /// ICTR and the registers of SysTick.
@@ -35,6 +36,19 @@ fn nvic_row(offset: u32) -> Option<Register>
         7 => Some(Register::Bits(Bank::Target, word)),
         8 => Some(Register::Priorities(word)),
         9 => Some(Register::Priorities(32 + word)),
+        _ => None,
+    }
+}
+
+/// The mover.
+fn mover_row(offset: u32) -> Option<Register>
+    ensures { result ≡ register_in mover_rows offset }
+{
+    match offset {
+        0xC00 => Some(Register::Mover(MoverRegister::Src)),
+        0xC04 => Some(Register::Mover(MoverRegister::Dst)),
+        0xC08 => Some(Register::Mover(MoverRegister::Count)),
+        0xC0C => Some(Register::Mover(MoverRegister::Ctrl)),
         _ => None,
     }
 }
@@ -106,8 +120,10 @@ pub fn register_at(offset: u32) -> Option<Register>
 {
     if offset < 0x100 {
         timer_row(offset)
-    } else if offset < 0xD00 {
+    } else if offset < 0xC00 {
         nvic_row(offset)
+    } else if offset < 0xD00 {
+        mover_row(offset)
     } else if offset < 0xD90 {
         control_row(offset)
     } else if offset < 0xDD0 {

@@ -27,6 +27,7 @@ use Rattle.tz_regs.specs.ItState.{it_advanced}
 use Rattle.tz_state.specs.declared.fetcher.Fetcher.{Fetcher}
 use Rattle.tz_state.specs.State.{State, map_of, is_privileged_in, priority_in, is_negative_at, with_core, with_exceptions, with_run, with_registers, with_pc}
 use Rattle.tz_state.specs.Due.{begun}
+use Rattle.tz_state.specs.Moves.{after_moves}
 use Rattle.tz_state.specs.Execution.{takes_first, wakes}
 use Rattle.tz_state.specs.Fetch.{fetch, is_own_fetch}
 use Rattle.tz_sem.specs.ItRules.{is_misplaced, is_passed_over, ignores_condition}
@@ -215,9 +216,9 @@ pub record Stepped : Type 0 where
 abbrev pub stepped : Before → Ended → Stepped
 stepped b e = record { state = e.state; report = report_of b e }
 
--- at its beginning, of a locked machine too, the events that are due pend, and the timers count
+-- at its beginning, of a locked machine too, the events that are due pend, and the timers count; then the mover moves
 abbrev pub started : State → List ScriptEvent → State
-started s events = with_exceptions s (begun s.exceptions events)
+started s events = after_moves (with_exceptions s (begun s.exceptions events))
 
 -- one step
 abbrev pub step : State → List ScriptEvent → Stepped

@@ -2,6 +2,7 @@
 
 use crate::ending::Ending;
 use tz_regs::Core;
+use tz_state::Moves;
 
 /// What is told of a step beside its report: what neither that nor the state after the step tells.
 #[derive(Clone, Copy)]
@@ -12,5 +13,7 @@ pub struct Account {
     pub ticked_s: bool,
     /// The Non-secure one did.
     pub ticked_ns: bool,
+    /// What the mover moved at the beginning of the step, after the timers counted.
+    pub moves: Moves,
     pub ending: Ending,
 }

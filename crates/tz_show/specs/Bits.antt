@@ -2,12 +2,13 @@
 use Rattle.std.specs.Prelude.{ℕ, suc, ◌+◌, ◌^◌, List, [], ◌∷◌, codes, length}
 use Rattle.tz_regs.specs.FaultBits.{iaccviol, daccviol, munstkerr, mstkerr, mmarvalid, ibuserr, preciserr, unstkerr, stkerr, bfarvalid, undefinstr, invstate, invpc, nocp, stkof, unaligned, divbyzero, vecttbl, forced, debugevt, invep, invis, inver, auviol, invtran, sfarvalid}
 use Rattle.tz_regs.specs.RegisterBits.{ccr_unalign_trp, ccr_div_0_trp, control_spsel, apsr_q, apsr_v, apsr_c, apsr_z, apsr_n}
+use Rattle.tz_state.specs.MoverBits.{mover_go, mover_done, mover_error, mover_ie}
 use Rattle.tz_state.specs.SysTickBits.{syst_csr_enable, syst_csr_tickint, syst_csr_clksource, syst_csr_countflag}
 use Rattle.tz_state.specs.UnitBits.{sau_ctrl_allns, mpu_ctrl_hfnmiena, mpu_ctrl_privdefena}
 use Rattle.tz_frames.specs.ReturnBits.{exc_return_es, exc_return_spsel, exc_return_mode, exc_return_ftype, exc_return_dcrs, exc_return_s}
 use Rattle.tz_show.specs.declared.bits.Bit.{Bit}
 use Rattle.tz_show.specs.declared.bits.Named.{Named}
-use Rattle.tz_show.specs.declared.bits.Named.TheVariants.{Apsr, Control, Ccr, Ufsr, Mmfsr, Bfsr, Hfsr, Sfsr, SystCsr, SauCtrl, MpuCtrl, ExcReturn, Plain}
+use Rattle.tz_show.specs.declared.bits.Named.TheVariants.{Apsr, Control, Ccr, Ufsr, Mmfsr, Bfsr, Hfsr, Sfsr, SystCsr, MoverCtrl, SauCtrl, MpuCtrl, ExcReturn, Plain}
 
 -- the word that has a bit alone, and its name
 pub record BitName : Type 0 where
@@ -57,6 +58,11 @@ syst_csr_names =
     bit (2 ^ syst_csr_enable) (codes "ENABLE") ∷ bit (2 ^ syst_csr_tickint) (codes "TICKINT")
     ∷ bit (2 ^ syst_csr_clksource) (codes "CLKSOURCE") ∷ bit (2 ^ syst_csr_countflag) (codes "COUNTFLAG") ∷ []
 
+-- IRQ is a number, which the value shows
+abbrev pub mover_ctrl_names : List BitName
+mover_ctrl_names =
+    bit (2 ^ mover_go) (codes "GO") ∷ bit (2 ^ mover_done) (codes "DONE") ∷ bit (2 ^ mover_error) (codes "ERROR") ∷ bit (2 ^ mover_ie) (codes "IE") ∷ []
+
 abbrev pub sau_ctrl_names : List BitName
 sau_ctrl_names = bit (2 ^ 0) (codes "ENABLE") ∷ bit (2 ^ sau_ctrl_allns) (codes "ALLNS") ∷ []
 
@@ -80,6 +86,7 @@ bits_of Bfsr = bfsr_names
 bits_of Hfsr = hfsr_names
 bits_of Sfsr = sfsr_names
 bits_of SystCsr = syst_csr_names
+bits_of MoverCtrl = mover_ctrl_names
 bits_of SauCtrl = sau_ctrl_names
 bits_of MpuCtrl = mpu_ctrl_names
 bits_of ExcReturn = exc_return_names

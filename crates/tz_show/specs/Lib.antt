@@ -2,6 +2,7 @@ pub mod Bits
 pub mod Rows
 pub mod Registers
 pub mod Masks
+pub mod Mover
 pub mod Faults
 pub mod Exceptions
 pub mod Units

@@ -8,6 +8,7 @@ use Rattle.tz_show.specs.Registers.{head_text, registers_text, stacks_text}
 use Rattle.tz_show.specs.Masks.{masks_text}
 use Rattle.tz_show.specs.Faults.{faults_text}
 use Rattle.tz_show.specs.Exceptions.{exceptions_text}
+use Rattle.tz_show.specs.Mover.{mover_text}
 use Rattle.tz_show.specs.Units.{timers_text, sau_text, mpus_text}
 use Rattle.tz_show.specs.Frames.{stack_text, frame_text}
 use Rattle.tz_show.specs.Dump.{ranges_text}
@@ -16,10 +17,10 @@ use Rattle.tz_show.specs.Dump.{ranges_text}
 unfoldable pub core_text : Core → ExceptionsValue → ℕ → List ℕ
 core_text c e step = head_text e c step ++ registers_text c ++ stacks_text c ++ masks_text e c.masks ++ faults_text c.status
 
--- exceptions, timers, the units that guard memory, and the top of the stack
+-- exceptions, timers, a mover, the units that guard memory, and the top of the stack
 unfoldable pub rest_text : Core → ExceptionsValue → Bus → List ℕ
 rest_text c e b =
-    exceptions_text c.status e ++ timers_text e ++ sau_text b.sau ++ mpus_text b ++ stack_text c b ++ frame_text c b
+    exceptions_text c.status e ++ timers_text e ++ mover_text b.board.mover c.status ++ sau_text b.sau ++ mpus_text b ++ stack_text c b ++ frame_text c b
 
 -- the sections, always in this order
 unfoldable pub state_text : State → ℕ → List ℕ

@@ -18,6 +18,7 @@ use tz_regs::fault_bits::{
 use tz_regs::register_bits::{
     APSR_C, APSR_N, APSR_Q, APSR_V, APSR_Z, CCR_DIV_0_TRP, CCR_UNALIGN_TRP, CONTROL_SPSEL,
 };
+use tz_state::mover_bits::{MOVER_DONE, MOVER_ERROR, MOVER_GO, MOVER_IE};
 use tz_state::systick_bits::{
     SYST_CSR_CLKSOURCE, SYST_CSR_COUNTFLAG, SYST_CSR_ENABLE, SYST_CSR_TICKINT,
 };
@@ -35,6 +36,7 @@ pub enum Named {
     Hfsr,
     Sfsr,
     SystCsr,
+    MoverCtrl,
     SauCtrl,
     MpuCtrl,
     ExcReturn,
@@ -231,6 +233,25 @@ pub static SYST_CSR: [Bit; 4] = [
     },
 ];
 
+pub static MOVER_CTRL: [Bit; 4] = [
+    Bit {
+        mask: MOVER_GO,
+        name: "GO",
+    },
+    Bit {
+        mask: MOVER_DONE,
+        name: "DONE",
+    },
+    Bit {
+        mask: MOVER_ERROR,
+        name: "ERROR",
+    },
+    Bit {
+        mask: MOVER_IE,
+        name: "IE",
+    },
+];
+
 pub static SAU_CTRL: [Bit; 2] = [
     Bit {
         mask: 1 << 0,
@@ -302,6 +323,7 @@ pub fn bits_of(named: Named) -> &'static [Bit]
         Named::Hfsr => &HFSR,
         Named::Sfsr => &SFSR,
         Named::SystCsr => &SYST_CSR,
+        Named::MoverCtrl => &MOVER_CTRL,
         Named::SauCtrl => &SAU_CTRL,
         Named::MpuCtrl => &MPU_CTRL,
         Named::ExcReturn => &EXC_RETURN,

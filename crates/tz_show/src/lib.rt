@@ -1,7 +1,7 @@
 //! The page of a state: what a person reads of a machine that stands still.
 //!
 //! `show` writes exactly what the definition `page` says: how the core runs, registers, stacks, masks, faults,
-//! exceptions, timers, regions, the top of the stack in use, the frame that a handler returns by, and any memory that is
+//! exceptions, timers, the channels of a mover, regions, the top of the stack in use, the frame that a handler returns by, and any memory that is
 //! asked for. It changes nothing, takes no memory, and knows nothing of where bytes go.
 #![tactic(auto)]
 
@@ -16,6 +16,7 @@ mod faults;
 mod frames;
 mod masks;
 mod memory;
+mod mover;
 mod registers;
 mod rows;
 mod units;
@@ -25,6 +26,7 @@ use crate::faults::push_faults;
 use crate::frames::{push_frame, push_stack};
 use crate::masks::push_masks;
 use crate::memory::put_ranges;
+use crate::mover::push_mover;
 use crate::registers::{push_head, push_registers, push_stacks};
 use crate::rows::Text;
 use crate::units::{push_mpus, push_sau, push_timers};
@@ -60,6 +62,7 @@ fn push_rest(text: &mut Text, core: &Core, exceptions: &Exceptions, bus: &Bus)
 {
     push_exceptions(text, &core.status, exceptions);
     push_timers(text, exceptions);
+    push_mover(text, bus.board().mover, &core.status);
     push_sau(text, bus);
     push_mpus(text, bus);
     push_stack(text, core, bus);

@@ -1,5 +1,5 @@
 -- How many words a state has.
-use Rattle.std.proofs.Common.{◌≡◌, ℕ, zero, suc, ◌+◌, ◌*◌, ◌/◌, ◌<◌, ◌≤◌, nat_le, ◌^◌, List, [], ◌∷◌, ◌++◌, length, map, None, get_or, refl, sym, ap, ◌∙◌, arith, length-append}
+use Rattle.std.proofs.Common.{◌≡◌, ℕ, zero, suc, ◌+◌, ◌*◌, ◌/◌, ◌<◌, ◌≤◌, nat_le, ◌^◌, Bool, true, false, if◌then◌else◌, List, [], ◌∷◌, ◌++◌, length, map, None, get_or, refl, sym, ap, ◌∙◌, arith, length-append}
 use Rattle.std.specs.Prelude.{slice_get}
 use Rattle.std.specs.List.{range_with_len}
 use Rattle.std.proofs.lemmas.Bool.{and_parts, leb-true}
@@ -14,8 +14,8 @@ use Rattle.tz_state.specs.Memory.{Memory}
 use Rattle.tz_state.specs.State.{State}
 use Rattle.tz_state.specs.Slots.{first_interrupt_place}
 use Rattle.tz_core.specs.declared.fields.Field.TheVariants.{Running, Banked, Shared}
-use Rattle.tz_core.specs.Fields.{fields, slot_places, system_places, running_fields, banked_fields, banked_last, shared_fields, shared_last, mpu_region_fields, sau_region_fields}
-use Rattle.tz_core.specs.StateWords.{word_of, slot_word, words_from, memory_words, state_words, field_count, memory_count, word_count}
+use Rattle.tz_core.specs.Fields.{fields, slot_places, channel_fields, system_places, running_fields, banked_fields, banked_last, shared_fields, shared_last, mpu_region_fields, sau_region_fields}
+use Rattle.tz_core.specs.StateWords.{word_of, slot_word, channel_word, words_from, memory_words, state_words, field_count, memory_count, word_count}
 use Rattle.tz_snap.specs.StateFile.{file_words, head_words, head_count}
 use Rattle.tz_snap.proofs.HeadWords.{length_head}
 
@@ -70,6 +70,10 @@ slots_count n =
     let external = length-range_with_len first_interrupt_place n in
     omega arith
 
+pub channels_count : (mover : Bool) → length (channel_fields mover) ≡ (if mover then 8 else 0)
+channels_count true = refl
+channels_count false = refl
+
 pub from_count : (m : Memory) (a n : ℕ) → length (words_from m a n) ≡ n
 unfolding words_from
 from_count m a zero = refl
@@ -91,17 +95,25 @@ state_count s =
     let b = s.bus.board in
     let some = map (word_of s) (fields b) in
     let slots = map (slot_word s.exceptions) (slot_places b.interrupts) in
+    let channels = map (channel_word s) (channel_fields b.mover) in
     let memory = memory_words s.bus.memory b.regions in
-    let one = length-append some (slots ++ memory) in
-    let two = length-append slots memory in
+    let one = length-append some (slots ++ (channels ++ memory)) in
+    let two = length-append slots (channels ++ memory) in
+    let three = length-append channels memory in
     let c = length-map (fields b) (word_of s) in
     let d = length-map (slot_places b.interrupts) (slot_word s.exceptions) in
     let e = fields_count b in
     let f = slots_count b.interrupts in
     let g = memory_words_count s.bus.memory b.regions in
+    let h = length-map (channel_fields b.mover) (channel_word s) in
+    let i = channels_count b.mover in
     omega arith
 
 -- ---- and they are few
+
+few_channels : (mover : Bool) → (if mover then 8 else 0) ≤ 8
+few_channels true = omega arith
+few_channels false = omega arith
 
 -- words of memory are no more than its bytes
 memory_small : (rs : List Region) → memory_count rs ≤ bytes_of rs
@@ -125,6 +137,7 @@ few_words b h =
     let count : length b.regions ≤ 32 = leb-true (length b.regions) 32 (and_parts (nat_le 1 (length b.regions)) (nat_le (length b.regions) 32) h.some_regions).1 in
     let bytes : bytes_of b.regions ≤ most_bytes = leb-true (bytes_of b.regions) most_bytes h.small in
     let memory = memory_small b.regions in
+    let channels = few_channels b.mover in
     let head = length_head b in
     omega arith
 

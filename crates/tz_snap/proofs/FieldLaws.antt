@@ -3,15 +3,15 @@ use Rattle.std.proofs.Common.{◌≡◌, ℕ, List, length, refl, sym, ap, ◌�
 use Rattle.tz_table.specs.declared.units.Side.TheVariants.{Secure, NonSecure}
 use Rattle.tz_model.specs.declared.board.Profile.{Profile}
 use Rattle.tz_model.specs.Board.{BoardValue}
+use Rattle.tz_model.specs.declared.channel.Channels.{Channels}
 use Rattle.tz_state.specs.declared.slot.SlotState.{SlotState}
 use Rattle.tz_state.specs.State.{State}
 use Rattle.tz_state.specs.UnitRegisters.{rlar_bits}
 use Rattle.tz_core.specs.Fields.{fields}
 use Rattle.tz_snap.proofs.FieldsRead.{written_by, Fit, Each, Has, Leaves}
-use Rattle.tz_snap.proofs.SlotsRead.{with_slots}
 use Rattle.tz_snap.proofs.UnitBounds.{Kept, told_bounds, bounds_told, settled_kept, kept_settled}
 use Rattle.tz_snap.proofs.UnitFields.{all_bits, sau_rbar_bits, sau_rlar_bits, mpu_told, told_mpu, mpu_settled, settled_mpu, sau_told, told_sau, sau_settled, settled_sau}
-use Rattle.tz_snap.proofs.Groups.{all_done, readied, thirteen, grafted, groups_told, groups_settled, monitor_told, monitor_settled, monitor_fit, all_back, groups_accept}
+use Rattle.tz_snap.proofs.Groups.{all_done, with_rest, readied, thirteen, grafted, groups_told, groups_settled, monitor_told, monitor_settled, monitor_fit, all_back, groups_accept}
 use Rattle.tz_snap.proofs.AllFields.{starts_of, units_from, UnitsKept, HasUnits, AllFit, grouped_all, all_grouped, all_written, all_fit}
 
 module _ (v : ℕ → ℕ) (t : State) (rs : List ℕ) (has : HasUnits t.bus.board t) where
@@ -21,35 +21,35 @@ module _ (v : ℕ → ℕ) (t : State) (rs : List ℕ) (has : HasUnits t.bus.boa
   abbrev ready : State
   ready = readied t (thirteen rs)
 
-  -- the state with these words, and with slots
-  abbrev pub made : List SlotState → State
-  made xs = with_slots (all_done v (starts_of b) (units_from v b) ready) xs
+  -- the state with these words, and with slots and channels
+  abbrev pub made : List SlotState → Channels → State
+  made xs c = with_rest (all_done v (starts_of b) (units_from v b) ready) xs c
 
-  pub made_told : (xs : List SlotState) → AllFit v t rs has → Each (Has v (made xs)) (fields b) 0
-  made_told xs h =
+  pub made_told : (xs : List SlotState) (c : Channels) → AllFit v t rs has → Each (Has v (made xs c)) (fields b) 0
+  made_told xs c h =
       let k = starts_of b in
       let u = units_from v b in
-      grouped_all (Has v (made xs)) b (record {
-        groups = groups_told v k u t rs xs h.groups;
-        monitor = monitor_told v k u t rs xs h.monitor;
-        secure = told_mpu v Secure b.mpu_secure k.secure_mpu 0 (made xs) (told_bounds v b.mpu_secure k.secure_mpu 0 u.secure refl);
-        nonsecure = told_mpu v NonSecure b.mpu_nonsecure k.nonsecure_mpu 0 (made xs) (told_bounds v b.mpu_nonsecure k.nonsecure_mpu 0 u.nonsecure refl);
-        sau = told_sau v b.sau_regions k.sau 0 (made xs) (told_bounds v b.sau_regions k.sau 0 u.sau refl);
+      grouped_all (Has v (made xs c)) b (record {
+        groups = groups_told v k u t rs xs c h.groups;
+        monitor = monitor_told v k u t rs xs c h.monitor;
+        secure = told_mpu v Secure b.mpu_secure k.secure_mpu 0 (made xs c) (told_bounds v b.mpu_secure k.secure_mpu 0 u.secure refl);
+        nonsecure = told_mpu v NonSecure b.mpu_nonsecure k.nonsecure_mpu 0 (made xs c) (told_bounds v b.mpu_nonsecure k.nonsecure_mpu 0 u.nonsecure refl);
+        sau = told_sau v b.sau_regions k.sau 0 (made xs c) (told_bounds v b.sau_regions k.sau 0 u.sau refl);
       })
 
-  pub made_settled : (xs : List SlotState) → AllFit v t rs has → Each (Leaves v (made xs)) (fields b) 0
-  made_settled xs h =
+  pub made_settled : (xs : List SlotState) (c : Channels) → AllFit v t rs has → Each (Leaves v (made xs c)) (fields b) 0
+  made_settled xs c h =
       let k = starts_of b in
       let u = units_from v b in
       let d = rlar_bits b.profile in
-      grouped_all (Leaves v (made xs)) b (record {
-        groups = groups_settled v k u t rs xs;
-        monitor = monitor_settled v k u t rs xs h.monitor;
-        secure = settled_mpu v Secure b.mpu_secure k.secure_mpu 0 (made xs)
+      grouped_all (Leaves v (made xs c)) b (record {
+        groups = groups_settled v k u t rs xs c;
+        monitor = monitor_settled v k u t rs xs c h.monitor;
+        secure = settled_mpu v Secure b.mpu_secure k.secure_mpu 0 (made xs c)
             (settled_kept all_bits d v b.mpu_secure k.secure_mpu 0 u.secure h.kept.secure (told_bounds v b.mpu_secure k.secure_mpu 0 u.secure refl));
-        nonsecure = settled_mpu v NonSecure b.mpu_nonsecure k.nonsecure_mpu 0 (made xs)
+        nonsecure = settled_mpu v NonSecure b.mpu_nonsecure k.nonsecure_mpu 0 (made xs c)
             (settled_kept all_bits d v b.mpu_nonsecure k.nonsecure_mpu 0 u.nonsecure h.kept.nonsecure (told_bounds v b.mpu_nonsecure k.nonsecure_mpu 0 u.nonsecure refl));
-        sau = settled_sau v b.sau_regions k.sau 0 (made xs)
+        sau = settled_sau v b.sau_regions k.sau 0 (made xs c)
             (settled_kept sau_rbar_bits sau_rlar_bits v b.sau_regions k.sau 0 u.sau h.kept.sau (told_bounds v b.sau_regions k.sau 0 u.sau refl));
       })
 

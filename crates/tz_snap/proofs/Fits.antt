@@ -1,5 +1,5 @@
 -- The words before those of the state are words.
-use Rattle.std.proofs.Common.{ℕ, ◌+◌, ◌^◌, ◌<◌, ◌≤◌, nat_le, nat_lt, List, [], ◌∷◌, length, arith, IsTrue}
+use Rattle.std.proofs.Common.{ℕ, ◌+◌, ◌^◌, ◌<◌, ◌≤◌, nat_le, nat_lt, Bool, true, false, if◌then◌else◌, List, [], ◌∷◌, length, arith, IsTrue}
 use Rattle.std.proofs.lemmas.Bool.{and_parts, leb-true, ltb-true}
 use Rattle.tz_model.specs.declared.board.Region.{Region}
 use Rattle.tz_model.specs.declared.board.RegionKind.{RegionKind}
@@ -9,7 +9,7 @@ use Rattle.tz_model.specs.declared.board.RegionSide.TheVariants.{Secure, Nsc, No
 use Rattle.tz_model.specs.declared.board.Profile.{Profile}
 use Rattle.tz_model.specs.declared.board.Profile.TheVariants.{V80, V81}
 use Rattle.tz_model.specs.Board.{BoardValue, IsBoard, are_regions, is_region, is_multiple, is_vtor, within}
-use Rattle.tz_snap.specs.StateFile.{kind_number, side_number, profile_number, region_words, board_words, head_words, magic, most_steps}
+use Rattle.tz_snap.specs.StateFile.{kind_number, side_number, profile_number, profile_word, region_words, board_words, head_words, magic, most_steps}
 use Rattle.tz_core.specs.ReadWords.{AreWords}
 use Rattle.tz_snap.proofs.Words.{no_words, one_more_word}
 
@@ -22,9 +22,11 @@ side_fits Secure = omega arith
 side_fits Nsc = omega arith
 side_fits NonSecure = omega arith
 
-profile_fits : (p : Profile) → profile_number p < 2 ^ 32
-profile_fits V80 = omega arith
-profile_fits V81 = omega arith
+profile_fits : (p : Profile) (mover : Bool) → profile_number p + (if mover then 2 else 0) < 2 ^ 32
+profile_fits V80 true = omega arith
+profile_fits V80 false = omega arith
+profile_fits V81 true = omega arith
+profile_fits V81 false = omega arith
 
 vtor_fits : (n : ℕ) → IsTrue (is_vtor n) → n < 2 ^ 32
 vtor_fits n h = ltb-true n (2 ^ 32) (and_parts (is_multiple 128 n) (nat_lt n (2 ^ 32)) h).1
@@ -63,7 +65,7 @@ board_fits b h =
     let count : length b.regions ≤ 32 = leb-true (length b.regions) 32 (and_parts (nat_le 1 (length b.regions)) (nat_le (length b.regions) 32) h.some_regions).1 in
     let eight = region_words b.regions in
     let seven = length b.regions ∷ eight in
-    let six = profile_number b.profile ∷ seven in
+    let six = profile_word b ∷ seven in
     let five = b.mpu_nonsecure ∷ six in
     let four = b.mpu_secure ∷ five in
     let third = b.sau_regions ∷ four in
@@ -74,7 +76,7 @@ board_fits b h =
     (one_more_word b.sau_regions four (omega arith)
     (one_more_word b.mpu_secure five (omega arith)
     (one_more_word b.mpu_nonsecure six (omega arith)
-    (one_more_word (profile_number b.profile) seven (profile_fits b.profile)
+    (one_more_word (profile_word b) seven (profile_fits b.profile b.mover)
     (one_more_word (length b.regions) eight (omega arith) (regions_fit b.regions h.regions))))))))
 
 -- the words before those of the state

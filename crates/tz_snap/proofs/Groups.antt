@@ -6,6 +6,8 @@ use Rattle.tz_table.specs.declared.units.Side.{Side}
 use Rattle.tz_table.specs.declared.units.Side.TheVariants.{Secure, NonSecure}
 use Rattle.tz_state.specs.declared.request.Exclusive.{Exclusive}
 use Rattle.tz_table.specs.declared.units.Size.TheVariants.{Byte, Half, Word}
+use Rattle.tz_model.specs.declared.channel.Channels.{Channels}
+use Rattle.tz_regs.specs.Banks.{channels_of}
 use Rattle.tz_state.specs.declared.slot.SlotState.{SlotState}
 use Rattle.tz_state.specs.declared.units.Bounds.{Bounds}
 use Rattle.tz_state.specs.State.{State, with_bus, with_registers, with_monitor}
@@ -17,6 +19,7 @@ use Rattle.tz_core.specs.StateWords.{held_size, held_address, size_number}
 use Rattle.tz_core.specs.ReadWords.{held_from, with_held_address}
 use Rattle.tz_snap.proofs.FieldsRead.{written_by, Fit, Each, Has, Leaves, stays}
 use Rattle.tz_snap.proofs.SlotsRead.{with_slots}
+use Rattle.tz_snap.proofs.ChannelsRead.{with_channels_in}
 use Rattle.tz_snap.proofs.UnitFields.{with_mpu_bounds, with_sau_bounds}
 
 -- ---- groups
@@ -131,10 +134,13 @@ pub record InGroups (P : ℕ → Field → Type 0) (k : Starts) : Type 0 where
   pub shared : Each P both_first k.shared
   pub last : Each P both_last k.last
 
--- in the end slots are written, too
-pub groups_told : (v : ℕ → ℕ) (k : Starts) (u : Units) (s : State) (rs : List ℕ) (xs : List SlotState) → GroupsFit v k u (readied s (thirteen rs))
-    → InGroups (Has v (with_slots (all_done v k u (readied s (thirteen rs))) xs)) k
-groups_told v k u s rs xs h = record { core = h.core; secure = h.secure; secure_timer = h.secure_timer; nonsecure = h.nonsecure; nonsecure_timer = h.nonsecure_timer; shared = h.shared; last = h.last }
+-- in the end slots and channels are written, too
+abbrev pub with_rest : State → List SlotState → Channels → State
+with_rest s xs c = with_channels_in (with_slots s xs) c
+
+pub groups_told : (v : ℕ → ℕ) (k : Starts) (u : Units) (s : State) (rs : List ℕ) (xs : List SlotState) (c : Channels) → GroupsFit v k u (readied s (thirteen rs))
+    → InGroups (Has v (with_rest (all_done v k u (readied s (thirteen rs))) xs c)) k
+groups_told v k u s rs xs c h = record { core = h.core; secure = h.secure; secure_timer = h.secure_timer; nonsecure = h.nonsecure; nonsecure_timer = h.nonsecure_timer; shared = h.shared; last = h.last }
 
 pub groups_fit : (v : ℕ → ℕ) (k : Starts) (u : Units) (s : State) (rs : List ℕ) → InGroups (Has v (all_done v k u (readied s (thirteen rs)))) k → GroupsFit v k u (readied s (thirteen rs))
 groups_fit v k u s rs h = record { core = h.core; secure = h.secure; secure_timer = h.secure_timer; nonsecure = h.nonsecure; nonsecure_timer = h.nonsecure_timer; shared = h.shared; last = h.last }
@@ -150,9 +156,9 @@ same : (fs : List Field) (s : State) → Same fs s
 same [] s = tt
 same (f ∷ fs) s = (refl, same fs s)
 
-pub groups_settled : (v : ℕ → ℕ) (k : Starts) (u : Units) (s : State) (rs : List ℕ) (xs : List SlotState) → InGroups (Leaves v (with_slots (all_done v k u (readied s (thirteen rs))) xs)) k
-groups_settled v k u s rs xs =
-    let t = with_slots (all_done v k u (readied s (thirteen rs))) xs in
+pub groups_settled : (v : ℕ → ℕ) (k : Starts) (u : Units) (s : State) (rs : List ℕ) (xs : List SlotState) (c : Channels) → InGroups (Leaves v (with_rest (all_done v k u (readied s (thirteen rs))) xs c)) k
+groups_settled v k u s rs xs c =
+    let t = with_rest (all_done v k u (readied s (thirteen rs))) xs c in
     record {
       core = same core_fields t;
       secure = same (side_first Secure) t;
@@ -199,7 +205,7 @@ thirteen_of xs e = go xs e where
 -- s with what no field tells as t has it, and with this in the monitor
 abbrev pub grafted : State → Option Exclusive → State → State
 grafted t m s =
-    record s {
+    record (with_channels_in s (channels_of t.core)) {
       exceptions = record s.exceptions { slots = t.exceptions.slots; interrupts = t.exceptions.interrupts };
       bus = record s.bus { memory = t.bus.memory; board = t.bus.board; monitor = m };
     }
@@ -208,9 +214,9 @@ abbrev opened : State → List ℕ → State
 opened s rs = with_registers s (record s.core.registers { general = rs })
 
 module _ (v : ℕ → ℕ) (k : Starts) (u : Units) where
-  pub monitor_told : (s : State) (rs : List ℕ) (xs : List SlotState) → Fit v monitor_fields k.monitor (core_done v k u (readied s (thirteen rs)))
-      → Each (Has v (with_slots (all_done v k u (readied s (thirteen rs))) xs)) monitor_fields k.monitor
-  monitor_told s rs xs h = (size_kept (held_from 0 (v k.monitor)) (v (k.monitor + 1)) ∙ h.0, (h.1.0, tt))
+  pub monitor_told : (s : State) (rs : List ℕ) (xs : List SlotState) (c : Channels) → Fit v monitor_fields k.monitor (core_done v k u (readied s (thirteen rs)))
+      → Each (Has v (with_rest (all_done v k u (readied s (thirteen rs))) xs c)) monitor_fields k.monitor
+  monitor_told s rs xs c h = (size_kept (held_from 0 (v k.monitor)) (v (k.monitor + 1)) ∙ h.0, (h.1.0, tt))
 
   monitor_settled_of : (s : State) → Each (Has v s) monitor_fields k.monitor → Each (Leaves v s) monitor_fields k.monitor
   monitor_settled_of s h =
@@ -219,9 +225,9 @@ module _ (v : ℕ → ℕ) (k : Starts) (u : Units) where
         (ap (λ (x : Option Exclusive). with_bus s (with_monitor s.bus x)) (ap (with_held_address m) (sym h.1.0) ∙ address_back m), tt),
       )
 
-  pub monitor_settled : (s : State) (rs : List ℕ) (xs : List SlotState) → Fit v monitor_fields k.monitor (core_done v k u (readied s (thirteen rs)))
-      → Each (Leaves v (with_slots (all_done v k u (readied s (thirteen rs))) xs)) monitor_fields k.monitor
-  monitor_settled s rs xs h = monitor_settled_of (with_slots (all_done v k u (readied s (thirteen rs))) xs) (monitor_told s rs xs h)
+  pub monitor_settled : (s : State) (rs : List ℕ) (xs : List SlotState) (c : Channels) → Fit v monitor_fields k.monitor (core_done v k u (readied s (thirteen rs)))
+      → Each (Leaves v (with_rest (all_done v k u (readied s (thirteen rs))) xs c)) monitor_fields k.monitor
+  monitor_settled s rs xs c h = monitor_settled_of (with_rest (all_done v k u (readied s (thirteen rs))) xs c) (monitor_told s rs xs c h)
 
   pub monitor_fit : (t s : State) (rs : List ℕ) → Each (Has v s) monitor_fields k.monitor → Fit v monitor_fields k.monitor (core_done v k u (readied t (thirteen rs)))
   monitor_fit t s rs h =

@@ -15,6 +15,7 @@ pub mod Groups
 pub mod AllFields
 pub mod FieldLaws
 pub mod SlotsRead
+pub mod ChannelsRead
 pub mod MemoryRead
 pub mod WordLaws
 pub mod Starting

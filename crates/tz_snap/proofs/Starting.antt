@@ -29,6 +29,7 @@ use Rattle.tz_core.specs.Fields.{fields, slot_places, mpu_region_fields, sau_reg
 use Rattle.tz_core.specs.ReadWords.{IsState, IsTold, IsSlotTold, is_set, side_from, slot_from}
 use Rattle.tz_snap.specs.FileWords.{AreBytes, HasBytes}
 use Rattle.tz_snap.proofs.AllFields.{starts_of, grouped_all}
+use Rattle.tz_snap.proofs.ChannelsRead.{start_told}
 use Rattle.tz_snap.proofs.FieldsRead.{Each}
 use Rattle.tz_snap.proofs.Groups.{core_fields, side_first, side_last, both_first, both_last}
 use Rattle.tz_snap.proofs.MemoryRead.{SameAddresses, byte_kept, byte_small, zero_mapped, zero_small}
@@ -395,6 +396,8 @@ module _ (b : BoardValue) (m : Memory) (sp start : ℕ) (locked : Bool) (board :
         sau = units.sau;
         fields = each_at s (fields b) 0 all_tell;
         slot_fields = λ k i e. idle_told s i (idle_slots i (place_below 272 (slot_places b.interrupts) (board_places b.interrupts 272 (few_places b board)) k i e));
+        channels = λ k f e. start_told s refl f;
+        still = λ e. (refl, refl);
         others = λ i l out. idle_slots i l;
         mapped = λ a. of.mapped a ∙ zero_mapped b.regions a;
         bytes = of.small;

@@ -11,10 +11,11 @@ use Rattle.tz_regs.specs.Special.{number_of}
 use Rattle.tz_state.specs.Memory.{Memory, byte_at, word_at}
 use Rattle.tz_state.specs.State.{State}
 use Rattle.tz_state.specs.Slots.{at, idle, exception_number, has_fixed_priority, is_enabled}
+use Rattle.tz_core.specs.declared.fields.ChannelField.{ChannelField}
 use Rattle.tz_core.specs.declared.fields.Field.{Field}
-use Rattle.tz_core.specs.Fields.{fields, slot_places}
-use Rattle.tz_core.specs.StateWords.{side_number, word_of, slot_word, words_from, memory_words, state_words}
-use Rattle.tz_core.specs.ReadWords.{AreWords, IsState, IsTold, IsSlotTold, slot_from}
+use Rattle.tz_core.specs.Fields.{fields, slot_places, channel_fields}
+use Rattle.tz_core.specs.StateWords.{side_number, word_of, slot_word, channel_word, words_from, memory_words, state_words}
+use Rattle.tz_core.specs.ReadWords.{AreWords, IsState, IsTold, IsSlotTold, IsChannelTold, slot_from}
 use Rattle.tz_snap.proofs.Words.{no_words, one_more_word, both_words}
 
 -- ---- fields
@@ -67,6 +68,12 @@ slot_words s [] h = no_words
 slot_words s (i ∷ places) h =
     one_more_word (slot_word s.exceptions i) (map (slot_word s.exceptions) places) (slot_fits s i (h 0 i refl)) (slot_words s places (λ k j e. h (suc k) j e))
 
+-- ---- channels
+
+channel_words : (s : State) (fs : List ChannelField) → ((k : ℕ) (f : ChannelField) → slice_get fs k ≡ Some f → IsChannelTold s f) → AreWords (map (channel_word s) fs)
+channel_words s [] h = no_words
+channel_words s (f ∷ fs) h = one_more_word (channel_word s f) (map (channel_word s) fs) (h 0 f refl).0 (channel_words s fs (λ k g e. h (suc k) g e))
+
 -- ---- memory
 
 pub word_fits : (m : Memory) → ((a : ℕ) → byte_at m a < 256) → (a : ℕ) → word_at m a < 2 ^ 32
@@ -92,9 +99,12 @@ fit_on b s e h =
     subst (λ (x : BoardValue). (k : ℕ) (f : Field) → slice_get (fields x) k ≡ Some f → IsTold s f) (sym e) h.fields in
     let slots : (k i : ℕ) → slice_get (slot_places s.bus.board.interrupts) k ≡ Some i → IsSlotTold s i =
     subst (λ (x : BoardValue). (k i : ℕ) → slice_get (slot_places x.interrupts) k ≡ Some i → IsSlotTold s i) (sym e) h.slot_fields in
+    let channels : (k : ℕ) (f : ChannelField) → slice_get (channel_fields s.bus.board.mover) k ≡ Some f → IsChannelTold s f =
+    subst (λ (x : BoardValue). (k : ℕ) (f : ChannelField) → slice_get (channel_fields x.mover) k ≡ Some f → IsChannelTold s f) (sym e) h.channels in
     both_words (map (word_of s) (fields s.bus.board)) _ (field_words s (fields s.bus.board) told)
     (both_words (map (slot_word s.exceptions) (slot_places s.bus.board.interrupts)) _ (slot_words s (slot_places s.bus.board.interrupts) slots)
-    (region_words s.bus.memory h.bytes s.bus.board.regions))
+    (both_words (map (channel_word s) (channel_fields s.bus.board.mover)) _ (channel_words s (channel_fields s.bus.board.mover) channels)
+    (region_words s.bus.memory h.bytes s.bus.board.regions)))
 
 pub state_fits : (b : BoardValue) (s : State) → IsState b s → AreWords (state_words s)
 state_fits b s h = fit_on b s h.board h

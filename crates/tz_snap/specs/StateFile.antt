@@ -28,6 +28,10 @@ abbrev pub profile_number : Profile → ℕ
 profile_number V80 = 0
 profile_number V81 = 1
 
+-- 2 more where the board has a mover
+abbrev pub profile_word : BoardValue → ℕ
+profile_word b = profile_number b.profile + (if b.mover then 2 else 0)
+
 abbrev pub kind_number : RegionKind → ℕ
 kind_number Rom = 0
 kind_number Ram = 1
@@ -45,7 +49,7 @@ region_words (r ∷ rs) = r.base ∷ r.size ∷ kind_number r.kind ∷ side_numb
 -- the words of all but the SAU's regions at boot, which the state has as they are by now
 abbrev pub board_words : BoardValue → List ℕ
 board_words b =
-    b.secure_vtor ∷ b.nonsecure_vtor ∷ b.interrupts ∷ b.sau_regions ∷ b.mpu_secure ∷ b.mpu_nonsecure ∷ profile_number b.profile ∷ length b.regions ∷ region_words b.regions
+    b.secure_vtor ∷ b.nonsecure_vtor ∷ b.interrupts ∷ b.sau_regions ∷ b.mpu_secure ∷ b.mpu_nonsecure ∷ profile_word b ∷ length b.regions ∷ region_words b.regions
 
 -- ---- the file
 

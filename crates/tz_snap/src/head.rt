@@ -5,7 +5,7 @@
 
 ghost use Rattle.std.specs.Prelude.{◌≡◌, ◌+◌, ◌^◌, ◌<◌, length, slice_get};
 ghost use Rattle.tz_core.specs.StateWords.{word_count};
-ghost use Rattle.tz_snap.specs.StateFile.{profile_number, kind_number, side_number, region_words, board_words, head_words, head_count};
+ghost use Rattle.tz_snap.specs.StateFile.{profile_number, profile_word, kind_number, side_number, region_words, board_words, head_words, head_count};
 
 use tz_core::word_count;
 use tz_model::{Board, Profile, Region, RegionKind, RegionSide};
@@ -23,6 +23,13 @@ fn profile_number(profile: Profile) -> u32
         Profile::V80 => 0,
         Profile::V81 => 1,
     }
+}
+
+/// The profile, and 2 more where the board has a mover.
+fn profile_word(board: &Board) -> u32
+    ensures { result ≡ profile_word board.now }
+{
+    profile_number(board.profile) + if board.mover { 2 } else { 0 }
 }
 
 fn kind_number(kind: RegionKind) -> u32
@@ -73,7 +80,7 @@ pub fn board_word(board: &Board, index: u32) -> Option<u32>
         3 => Some(u32::from(board.sau_regions)),
         4 => Some(u32::from(board.mpu_secure)),
         5 => Some(u32::from(board.mpu_nonsecure)),
-        6 => Some(profile_number(board.profile)),
+        6 => Some(profile_word(board)),
         7 => Some(board.regions.len() as u32),
         _ => region_word(&board.regions, index - 8),
     }

@@ -6,6 +6,7 @@ pub mod Attribution
 pub mod Protection
 pub mod ExceptionNumbers
 pub mod SysTickBits
+pub mod MoverBits
 pub mod Slots
 pub mod SlotChanges
 pub mod Timers
@@ -23,6 +24,7 @@ pub mod NvicRegisters
 pub mod ControlBits
 pub mod ControlRegisters
 pub mod FaultRegisters
+pub mod MoverRegisters
 pub mod SystemRegisters
 pub mod RegisterTable
 pub mod Views
@@ -31,3 +33,4 @@ pub mod Fetch
 pub mod TargetBits
 pub mod Target
 pub mod Difference
+pub mod Moves

@@ -1,11 +1,12 @@
 -- Where the system registers stand: by their offsets from 0xE000E000 (DDI0553, chapter D1.2).
 use Rattle.std.specs.Prelude.{ℕ, ◌+◌, ◌/◌, ◌%◌, ◌==◌, nat_lt, if◌then◌else◌, List, [], ◌∷◌, Option, Some, None}
 use Rattle.tz_state.specs.declared.register.Register.{Register}
-use Rattle.tz_state.specs.declared.register.Register.TheVariants.{Ictr, Stir, Timer, Bits, Priorities, Control, Fault, Mpu, Sau}
+use Rattle.tz_state.specs.declared.register.Register.TheVariants.{Ictr, Stir, Timer, Bits, Priorities, Control, Fault, Mover, Mpu, Sau}
 use Rattle.tz_state.specs.declared.register.TimerRegister.TheVariants as syst
 use Rattle.tz_state.specs.declared.register.Bank.TheVariants as nvic
 use Rattle.tz_state.specs.declared.register.ControlRegister.TheVariants as scb
 use Rattle.tz_state.specs.declared.register.FaultRegister.TheVariants as fault
+use Rattle.tz_state.specs.declared.register.MoverRegister.TheVariants as channel
 use Rattle.tz_state.specs.declared.units.MpuRegister.TheVariants as mpu
 use Rattle.tz_state.specs.declared.units.SauRegister.TheVariants as sau
 
@@ -38,6 +39,15 @@ nvic_rows word =
     ∷ (7, Bits nvic.Target word)
     ∷ (8, Priorities word)
     ∷ (9, Priorities (32 + word))
+    ∷ []
+
+-- (own) the page of the mover
+abbrev pub mover_rows : List RegisterRow
+mover_rows =
+    (0xC00, Mover channel.Src)
+    ∷ (0xC04, Mover channel.Dst)
+    ∷ (0xC08, Mover channel.Count)
+    ∷ (0xC0C, Mover channel.Ctrl)
     ∷ []
 
 abbrev pub control_rows : List RegisterRow
@@ -90,7 +100,8 @@ sau_rows =
 abbrev pub register_at : ℕ → Option Register
 register_at a =
     if nat_lt a 0x100 then register_in timer_rows a
-    else if nat_lt a 0xD00 then register_in (nvic_rows (a % 128 / 4)) (a / 128)
+    else if nat_lt a 0xC00 then register_in (nvic_rows (a % 128 / 4)) (a / 128)
+    else if nat_lt a 0xD00 then register_in mover_rows a
     else if nat_lt a 0xD90 then register_in control_rows a
     else if nat_lt a 0xDD0 then register_in mpu_rows a
     else register_in sau_rows a

@@ -2,9 +2,10 @@
 use Rattle.std.specs.Prelude.{ℕ, ◌-◌, ◌/◌}
 use Rattle.tz_table.specs.declared.units.Side.{Side}
 use Rattle.tz_table.specs.declared.units.Side.TheVariants.{Secure, NonSecure}
+use Rattle.tz_model.specs.declared.channel.Channel.{Channel}
 use Rattle.tz_regs.specs.declared.parts.Status.{Status}
 use Rattle.tz_state.specs.declared.register.Register.{Register}
-use Rattle.tz_state.specs.declared.register.Register.TheVariants.{Ictr, Stir, Timer, Bits, Priorities, Control, Fault, Mpu, Sau}
+use Rattle.tz_state.specs.declared.register.Register.TheVariants.{Ictr, Stir, Timer, Bits, Priorities, Control, Fault, Mover, Mpu, Sau}
 use Rattle.tz_state.specs.declared.register.ControlRegister.{ControlRegister}
 use Rattle.tz_state.specs.declared.register.ControlRegister.TheVariants.{Cpuid, Icsr, Vtor, Aircr, Ccr, Shpr1, Shpr2, Shpr3, Shcsr}
 use Rattle.tz_state.specs.declared.units.SauRegister.{SauRegister}
@@ -17,6 +18,7 @@ use Rattle.tz_state.specs.TimerRegisters.{timer_value, timer_read, timer_written
 use Rattle.tz_state.specs.NvicRegisters.{bank_value, bank_written, priorities_value, priorities_written, stir_written}
 use Rattle.tz_state.specs.ControlRegisters.{icsr_value, icsr_written, aircr_value, aircr_written, vtor_written, ccr_value, ccr_written, shpr_value, shpr_written, shcsr_value, shcsr_written}
 use Rattle.tz_state.specs.FaultRegisters.{own_status, with_own_status, fault_value, fault_written}
+use Rattle.tz_state.specs.MoverRegisters.{channel_seen, channel_after}
 
 -- what the system registers stand in: configuration and fault registers of the core, the exceptions, and the bus
 -- with its units; the number of the exception that is handled is only read
@@ -61,6 +63,13 @@ abbrev pub sau_written_by : Side → SauState → SauRegister → ℕ → SauSta
 sau_written_by Secure u r value = with_sau_value u r value
 sau_written_by NonSecure u r value = u
 
+-- the channel of a side
+abbrev pub own_channel : Side → SystemState → Channel
+own_channel side s = (own_status side s.status).channel
+
+abbrev pub with_own_channel : Side → Status → Channel → Status
+with_own_channel side c channel = with_own_status side c (record (own_status side c) { channel = channel })
+
 -- what a register shows to a side
 abbrev pub value_of : Side → SystemState → Register → ℕ
 value_of side s Ictr = (s.exceptions.interrupts - 1) / 32
@@ -70,6 +79,7 @@ value_of side s (Bits bank word) = bank_value side s.exceptions bank word
 value_of side s (Priorities word) = priorities_value side s.exceptions word
 value_of side s (Control r) = control_value side s r
 value_of side s (Fault r) = fault_value side s.exceptions.bfhfnmins s.status r
+value_of side s (Mover r) = channel_seen s.bus.board.mover (own_channel side s) r
 value_of side s (Mpu r) = mpu_value (mpu_of side s.bus) r
 value_of side s (Sau r) = sau_seen side s.bus.sau r
 
@@ -82,6 +92,7 @@ after_read side s (Bits bank word) = s
 after_read side s (Priorities word) = s
 after_read side s (Control r) = s
 after_read side s (Fault r) = s
+after_read side s (Mover r) = s
 after_read side s (Mpu r) = s
 after_read side s (Sau r) = s
 
@@ -94,5 +105,6 @@ written side s (Bits bank word) value = record s { exceptions = bank_written sid
 written side s (Priorities word) value = record s { exceptions = priorities_written side s.exceptions word value }
 written side s (Control r) value = control_written side s r value
 written side s (Fault r) value = record s { status = fault_written side s.exceptions.bfhfnmins s.status r value }
+written side s (Mover r) value = record s { status = with_own_channel side s.status (channel_after s.bus.board.mover (own_channel side s) r value) }
 written side s (Mpu r) value = record s { bus = with_mpu s.bus side (with_mpu_value s.bus.board.profile (mpu_of side s.bus) r value) }
 written side s (Sau r) value = record s { bus = record s.bus { sau = sau_written_by side s.bus.sau r value } }

@@ -19,6 +19,8 @@ ghost use Rattle.tz_state.specs.State.{Bus, map_in};
 mod asker;
 pub mod exception;
 mod fetcher;
+pub mod mover_bits;
+mod moves;
 mod probe;
 mod register;
 mod request;
@@ -30,9 +32,11 @@ mod units;
 
 pub use asker::Asker;
 pub use fetcher::Fetcher;
+pub use moves::{Move, Moves};
 pub use probe::Probe;
 pub use register::{
-    Bank, ControlRegister, FaultRegister, Narrow, Register, TimerRegister, ViewedRegister,
+    Bank, ControlRegister, FaultRegister, MoverRegister, Narrow, Register, TimerRegister,
+    ViewedRegister,
 };
 pub use request::{Exclusive, Kind, Request};
 pub use slot::{SlotState, Timer};

@@ -38,6 +38,15 @@ pub enum ControlRegister {
     Shcsr,
 }
 
+/// The registers of a channel of the mover (own).
+#[derive(Clone, Copy)]
+pub enum MoverRegister {
+    Src,
+    Dst,
+    Count,
+    Ctrl,
+}
+
 /// The status and address registers of faults.
 #[derive(Clone, Copy)]
 pub enum FaultRegister {
@@ -60,6 +69,7 @@ pub enum Register {
     Priorities(u8),
     Control(ControlRegister),
     Fault(FaultRegister),
+    Mover(MoverRegister),
     Mpu(MpuRegister),
     Sau(SauRegister),
 }

@@ -28,11 +28,13 @@ pub mod Executing
 pub mod Fetching
 pub mod Entering
 pub mod Returning
+pub mod Moves
 pub mod Stepping
 pub mod Secured
 pub mod TwoRuns
 pub mod Unharmed
 pub mod WaysOut
 pub mod Noted
+pub mod Moved
 pub mod Framing
 pub mod Elsewhere

@@ -21,7 +21,7 @@ use Rattle.tz_state.specs.declared.register.ControlRegister.TheVariants.{Cpuid, 
 use Rattle.tz_state.specs.declared.register.Narrow.{Narrow}
 use Rattle.tz_state.specs.declared.register.Narrow.TheVariants.{Keeps, Zeros, Ignored}
 use Rattle.tz_state.specs.declared.register.Register.{Register}
-use Rattle.tz_state.specs.declared.register.Register.TheVariants.{Ictr, Stir, Timer, Bits, Priorities, Control, Fault as FaultRegister, Mpu, Sau}
+use Rattle.tz_state.specs.declared.register.Register.TheVariants.{Ictr, Stir, Timer, Bits, Priorities, Control, Fault as FaultRegister, Mover, Mpu, Sau}
 use Rattle.tz_state.specs.declared.register.ViewedRegister.{ViewedRegister}
 use Rattle.tz_state.specs.Memory.{Memory, every, with_byte, with_half, with_word, with_value}
 use Rattle.tz_state.specs.Slots.{ExceptionsValue}
@@ -135,6 +135,7 @@ after_read_bus side s (Bits bank word) = refl
 after_read_bus side s (Priorities word) = refl
 after_read_bus side s (Control r) = refl
 after_read_bus side s (FaultRegister r) = refl
+after_read_bus side s (Mover r) = refl
 after_read_bus side s (Mpu r) = refl
 after_read_bus side s (Sau r) = refl
 
@@ -147,6 +148,7 @@ after_read_exceptions side s (Bits bank word) = refl
 after_read_exceptions side s (Priorities word) = refl
 after_read_exceptions side s (Control r) = refl
 after_read_exceptions side s (FaultRegister r) = refl
+after_read_exceptions side s (Mover r) = refl
 after_read_exceptions side s (Mpu r) = refl
 after_read_exceptions side s (Sau r) = refl
 
@@ -182,6 +184,7 @@ written_kept side s (Bits bank word) value = record { memory = refl; board = ref
 written_kept side s (Priorities word) value = record { memory = refl; board = refl }
 written_kept side s (Control r) value = control_kept side s r value
 written_kept side s (FaultRegister r) value = record { memory = refl; board = refl }
+written_kept side s (Mover r) value = record { memory = refl; board = refl }
 written_kept Secure s (Mpu r) value = record { memory = refl; board = refl }
 written_kept NonSecure s (Mpu r) value = record { memory = refl; board = refl }
 written_kept side s (Sau r) value = record { memory = refl; board = refl }

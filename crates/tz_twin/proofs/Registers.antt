@@ -7,7 +7,7 @@ use Rattle.tz_model.specs.Board.{within}
 use Rattle.tz_regs.specs.declared.parts.SideStatus.{SideStatus}
 use Rattle.tz_regs.specs.declared.parts.BusStatus.{BusStatus}
 use Rattle.tz_state.specs.declared.register.Register.{Register}
-use Rattle.tz_state.specs.declared.register.Register.TheVariants.{Ictr, Stir, Timer, Bits, Priorities, Control, Fault, Mpu, Sau}
+use Rattle.tz_state.specs.declared.register.Register.TheVariants.{Ictr, Stir, Timer, Bits, Priorities, Control, Fault, Mover, Mpu, Sau}
 use Rattle.tz_state.specs.declared.register.ControlRegister.{ControlRegister}
 use Rattle.tz_state.specs.declared.register.ControlRegister.TheVariants.{Cpuid, Icsr, Vtor, Aircr, Ccr, Shpr1, Shpr2, Shpr3, Shcsr}
 use Rattle.tz_state.specs.declared.register.FaultRegister.{FaultRegister}
@@ -153,6 +153,7 @@ word_written o x x' Stir value same = elsewhere o x x' Stir value same refl refl
 word_written o x x' (Timer r) value same = elsewhere o x x' (Timer r) value same refl refl refl
 word_written o x x' (Bits bank word) value same = elsewhere o x x' (Bits bank word) value same refl refl refl
 word_written o x x' (Priorities word) value same = elsewhere o x x' (Priorities word) value same refl refl refl
+word_written o x x' (Mover r) value same = elsewhere o x x' (Mover r) value same refl refl refl
 word_written o x x' (Mpu r) value same = elsewhere o x x' (Mpu r) value same refl refl refl
 word_written o x x' (Sau r) value same = elsewhere o x x' (Sau r) value same refl refl refl
 word_written o x x' (Control r) value same = control_written_same o x x' r value same

@@ -23,6 +23,7 @@ use Rattle.tz_twin.proofs.Fetching.{own_fetch_same, own_fetch_own}
 use Rattle.tz_twin.proofs.Faults.{is_own, Own}
 use Rattle.tz_twin.proofs.Split.{Open, Rest, open_map, join_bus, join, Same, Twins, twins_join, by_join, seen_of_twins}
 use Rattle.tz_twin.specs.Integrity.{IsGatewayHalf, WayIn}
+use Rattle.tz_twin.proofs.Moves.{twin_moved}
 use Rattle.tz_twin.proofs.Both.{Kept, Touching, Stops, Arrives, Both, Go, Stop, Touch, both_cond, both_second}
 use Rattle.tz_twin.proofs.Passing.{preempted_both}
 use Rattle.tz_twin.proofs.Executing.{decoded_same}
@@ -194,4 +195,4 @@ same_begun o x x' events same = record { bytes = same.bytes; bus = same.bus }
 pub twin_started : (s s' : State) (events : List ScriptEvent) → Twins s s' → Twins (started s events) (started s' events)
 twin_started s s' events t =
     by_join (λ r r'. Twins (started r events) (started r' events))
-    (λ o x x' same. twins_join (record o { exceptions = begun o.exceptions events }) x x' (same_begun o x x' events same)) s s' t
+    (λ o x x' same. twin_moved (record o { exceptions = begun o.exceptions events }) x x' (same_begun o x x' events same)) s s' t

@@ -113,11 +113,11 @@ linked_step k s s' alike same = go (is_nonsecure_side (side_of s)) refl where
 -- ---- runs
 
 -- what a step begins with is seen alike
-hidden_started : (s : State) (events : List ScriptEvent) → is_nonsecure_side (side_of s) ≡ false → seen (started s events) ≡ Hidden s.bus.board
-hidden_started s events is = rw is refl
-
 hidden_seen : (s : State) → is_nonsecure_side (side_of s) ≡ false → seen s ≡ Hidden s.bus.board
 hidden_seen s is = rw is refl
+
+hidden_started : (s : State) (events : List ScriptEvent) → is_nonsecure_side (side_of s) ≡ false → seen (started s events) ≡ Hidden s.bus.board
+hidden_started s events is = hidden_seen (started s events) is
 
 pub seen_started : (s s' : State) (events : List ScriptEvent) → seen s ≡ seen s' → seen (started s events) ≡ seen (started s' events)
 seen_started s s' events e = go (is_nonsecure_side (side_of s)) refl where

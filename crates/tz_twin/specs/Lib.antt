@@ -3,3 +3,4 @@ pub mod Trace
 pub mod Integrity
 pub mod Ways
 pub mod Writing
+pub mod Mover

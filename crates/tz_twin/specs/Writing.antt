@@ -1,8 +1,10 @@
--- What a step may write: the bytes of the stores of its instruction and, where an exception is taken or returns or the
+-- What a step may write: the words that channels of the mover move, the bytes of the stores of its instruction and, where an exception is taken or returns or the
 -- machine locks, bytes of frames, which lie at the stack pointers of the side that ran; with what stands beside memory.
-use Rattle.std.specs.Prelude.{◌≡◌, ℕ, ◌+◌, ◌-◌, ◌^◌, ◌==◌, nat_lt, Bool, true, false, ◌&&◌, ◌||◌, not, List, [], ◌∷◌}
+use Rattle.std.specs.Prelude.{◌≡◌, ℕ, ◌+◌, ◌-◌, ◌^◌, ◌==◌, nat_lt, Bool, true, false, ◌&&◌, ◌||◌, not, if◌then◌else◌, List, [], ◌∷◌, ◌++◌}
 use Rattle.std.specs.FinMap.{get}
 use Rattle.tz_table.specs.declared.units.Side.{Side}
+use Rattle.tz_table.specs.declared.units.Size.TheVariants.{Word}
+use Rattle.tz_model.specs.declared.channel.Channel.{Channel}
 use Rattle.tz_model.specs.declared.report.ScriptEvent.{ScriptEvent}
 use Rattle.tz_model.specs.declared.report.Store.{Store}
 use Rattle.tz_model.specs.Words.{wrap}
@@ -13,6 +15,7 @@ use Rattle.tz_state.specs.Memory.{every}
 use Rattle.tz_state.specs.Slots.{ExceptionsValue}
 use Rattle.tz_state.specs.Access.{is_private}
 use Rattle.tz_state.specs.State.{State}
+use Rattle.tz_state.specs.Moves.{goes, after_moves}
 use Rattle.tz_frames.specs.Stack.{both_frames_size}
 use Rattle.tz_sem.specs.declared.ending.Cause.{Cause}
 use Rattle.tz_sem.specs.declared.ending.Cause.TheVariants.{Taken, Resumed}
@@ -34,6 +37,21 @@ are_beside (store ∷ more) a = is_beside store a && are_beside more a
 unfoldable pub are_in_memory : List Store → Bool
 are_in_memory [] = true
 are_in_memory (store ∷ more) = not (is_private store.addr) && are_in_memory more
+
+-- ---- moves
+
+-- the word that a channel which goes may write; what it writes isn't told
+abbrev pub channel_stores : Channel → List Store
+channel_stores c = if goes c then record { addr = c.dst; size = Word; value = 0 } ∷ [] else []
+
+-- of both channels, where the board has a mover
+abbrev pub move_stores : State → List Store
+move_stores s = if s.bus.board.mover then channel_stores s.core.status.s.channel ++ channel_stores s.core.status.ns.channel else []
+
+-- moves change no other byte, and where no channel goes none of the exceptions
+pub record MovesTold (s : State) : Type 0 where
+  pub bytes : (a : ℕ) → are_beside (move_stores s) a ≡ true → get (after_moves s).bus.memory a ≡ get s.bus.memory a
+  pub exceptions : move_stores s ≡ [] → (after_moves s).exceptions ≡ s.exceptions
 
 -- ---- frames
 

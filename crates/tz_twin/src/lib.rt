@@ -17,7 +17,8 @@ ghost use Rattle.tz_twin.specs.Seen.{Agree};
 ghost use Rattle.tz_twin.specs.Trace.{text_from};
 ghost use Rattle.tz_twin.specs.Integrity.{LeavesSecure, EntersSecure};
 ghost use Rattle.tz_twin.specs.Ways.{TellsWay};
-ghost use Rattle.tz_twin.specs.Writing.{WritesTold};
+ghost use Rattle.tz_twin.specs.Mover.{MovesAreOpen};
+ghost use Rattle.tz_twin.specs.Writing.{MovesTold, WritesTold};
 
 /// Isolation: two runs of a board, a Non-secure image and a script, with any two Secure images, that
 /// agree in what crosses out of Secure state print the same for Non-secure code.
@@ -41,9 +42,16 @@ pub fn ways()
     ensures { (s : State) (events : List ScriptEvent) → TellsWay (step s events) }
 {}
 
-/// After what a step begins with it changes no byte but those of its stores and, where an exception is taken or returns or
+/// The Non-secure channel of the mover reads and writes Non-secure bytes alone.
+pub fn nonsecure_moves()
+    ensures { MovesAreOpen }
+{}
+
+/// What a step begins with changes no byte but those of words that channels move, and moves pend nothing where no channel
+/// goes. After it a step changes no byte but those of its stores and, where an exception is taken or returns or
 /// the machine locks, of frames at the stack pointers of the side that ran; without a store to the system registers it
 /// keeps the SAU, and where no exception is taken or returns, all of the exceptions but their timers.
 pub fn writing()
-    ensures { (s : State) (events : List ScriptEvent) → WritesTold s events }
+    ensures moves { (s : State) → MovesTold s }
+    ensures writes { (s : State) (events : List ScriptEvent) → WritesTold s events }
 {}

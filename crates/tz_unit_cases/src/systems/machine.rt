@@ -24,7 +24,7 @@ pub struct Machine {
     pub bus: Bus,
 }
 
-/// A board with 8 regions of the SAU and of the Secure MPU, and 4 of the Non-secure one.
+/// A board with a mover, with 8 regions of the SAU and of the Secure MPU, and 4 of the Non-secure one.
 fn small_board(alloc: Global, profile: Profile) -> Result<Board, AllocError> {
     let region = Region {
         base: 0x2000_0000,
@@ -41,6 +41,7 @@ fn small_board(alloc: Global, profile: Profile) -> Result<Board, AllocError> {
         mpu_secure: 8,
         mpu_nonsecure: 4,
         profile,
+        mover: true,
         regions,
         sau: Vec::new(alloc),
     })

@@ -40,6 +40,7 @@ fn board(alloc: Global) -> Result<Board, AllocError> {
         mpu_secure: 0,
         mpu_nonsecure: 0,
         profile: Profile::V81,
+        mover: false,
         regions,
         sau: Vec::new(alloc),
     })

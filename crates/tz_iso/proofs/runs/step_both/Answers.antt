@@ -38,7 +38,7 @@ what_by-requires-clause-same c =
 pub what_by-requires-clause-marked : goal.what_by-requires-clause-marked
 what_by-requires-clause-marked c =
     marked_after c.begin_marks.new.marks c.note.new.self c.note-2.new.self c.args.first.now c.args.second.now c.step_way-passage.new.self c.step_way-other.new.self
-    c.args.due.now c.begin_marks.ensures.marked c.begin_marks.ensures.timers
+    c.args.due.now (c.begin_marks.ensures c.args.due.now)
     (noted_step c.begin_marks.new.marks c.note.new.self c.args.first.now c.step_way-passage.new.self c.args.due.now c.step_way-passage.new.stores.items
     c.step_way-passage.result.exceptional (stacks_of c.core.result.now.run.side c.core-3.result.now) c.step_way-passage.ensures.steps c.step_way-passage.ensures.stores c.step_way-passage.ensures.exceptional
     (λ i. stacks_of (c.core.ensures i).run.side (c.core-3.ensures i)) c.note.ensures)
@@ -66,7 +66,7 @@ returns-clause-linked c =
 pub returns-clause-marked : goal.returns-clause-marked
 returns-clause-marked c =
     marked_after c.begin_marks.new.marks c.note.new.self c.note-2.new.self c.args.first.now c.args.second.now c.step_way-passage.new.self c.step_way-other.new.self
-    c.args.due.now c.begin_marks.ensures.marked c.begin_marks.ensures.timers
+    c.args.due.now (c.begin_marks.ensures c.args.due.now)
     (noted_step c.begin_marks.new.marks c.note.new.self c.args.first.now c.step_way-passage.new.self c.args.due.now c.step_way-passage.new.stores.items
     c.step_way-passage.result.exceptional (stacks_of c.core.result.now.run.side c.core-3.result.now) c.step_way-passage.ensures.steps c.step_way-passage.ensures.stores c.step_way-passage.ensures.exceptional
     (λ i. stacks_of (c.core.ensures i).run.side (c.core-3.ensures i)) c.note.ensures)

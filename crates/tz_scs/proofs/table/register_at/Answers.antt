@@ -5,6 +5,9 @@ use Rattle.tz_scs.proofs.table.register_at.Goals as goal
 pub returns-then-offset-lt256 : goal.returns-then-offset-lt256
 returns-then-offset-lt256 c = search (tests, rules)
 
+pub returns-then-offset-lt3072 : goal.returns-then-offset-lt3072
+returns-then-offset-lt3072 c = search (tests, rules)
+
 pub returns-then-offset-lt3328 : goal.returns-then-offset-lt3328
 returns-then-offset-lt3328 c = search (tests, rules)
 

@@ -24,20 +24,20 @@ pub returns-in-Ok-System-clause-answer : goal.returns-in-Ok-System-clause-answer
 unfolding access
 returns-in-Ok-System-clause-answer c = grind (arith, private_aligned)
 
--- What stores overwrote is noted, and no more of it than 16.
+-- What stores overwrote is noted, and no more of it than 18.
 pub returns-in-Err-clause-lent : goal.returns-in-Err-clause-lent
 returns-in-Err-clause-lent c =
-    let few : noted_count c.store.new.written - 16 ≡ noted_count c.args.self.now.written.now - 16 = omega (arith, c.requires, c.store.ensures.few) in
+    let few : noted_count c.store.new.written - 18 ≡ noted_count c.args.self.now.written.now - 18 = omega (arith, c.requires, c.store.ensures.few) in
     grind (arith, common_steps, few)
 
 pub returns-in-Ok-Memory-clause-lent : goal.returns-in-Ok-Memory-clause-lent
 returns-in-Ok-Memory-clause-lent c =
-    let few : noted_count c.store.new.written - 16 ≡ noted_count c.args.self.now.written.now - 16 = omega (arith, c.requires, c.store.ensures.few) in
+    let few : noted_count c.store.new.written - 18 ≡ noted_count c.args.self.now.written.now - 18 = omega (arith, c.requires, c.store.ensures.few) in
     grind (arith, common_steps, few)
 
 pub returns-in-Ok-System-clause-lent : goal.returns-in-Ok-System-clause-lent
 returns-in-Ok-System-clause-lent c =
-    let few : noted_count c.store.new.written - 16 ≡ noted_count c.args.self.now.written.now - 16 = omega (arith, c.requires, c.store.ensures.few) in
+    let few : noted_count c.store.new.written - 18 ≡ noted_count c.args.self.now.written.now - 18 = omega (arith, c.requires, c.store.ensures.few) in
     let registers : SystemState = record { ipsr = c.args.self.now.ipsr; status = c.args.self.now.status; exceptions = c.args.self.now.exceptions.now; bus = c.store.new.self } in
     let memory : c.write.new.self.bus.now.memory ≡ c.store.new.self.memory =
     ap (λ (s : SystemState). s.bus.memory) c.write.ensures.state ∙ write_kept c.args.self.now.asker.side registers c.args.addr c.args.size c.cut_to-cut.result in

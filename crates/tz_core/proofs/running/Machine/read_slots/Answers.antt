@@ -4,20 +4,14 @@ use Rattle.tz_core.specs.Fields.{slot_places}
 use Rattle.tz_core.specs.StateWords.{field_count}
 use Rattle.tz_core.specs.ReadWords.{words_of, slot_fits, read_slots}
 use Rattle.tz_core.proofs.Order.{length_slots}
-use Rattle.tz_core.proofs.Reading.{slot_read, slot_refused, slots_end, first_of_drop, drop_twice}
+use Rattle.tz_core.proofs.Reading.{slot_read, slot_refused, slots_end, past_first}
 use Rattle.tz_core.proofs.running.Machine.read_slots.Goals as goal
-
--- the word of a slot, past those of fields
-past : (ws : List ℕ) (n f i w : ℕ) → n ≡ f → slice_get ws (n + i) ≡ Some w → slice_get (drop f ws) i ≡ Some w
-past ws n f i w e at =
-    let sum : f + i ≡ n + i = omega arith in
-    first_of_drop (drop f ws) i ∙ ap (λ xs. slice_get xs 0) (drop_twice f i (n + i) ws (sym sum)) ∙ sym (first_of_drop ws (n + i)) ∙ at
 
 pub returns-then-not-put_slot : goal.returns-then-not-put_slot
 returns-then-not-put_slot c =
     let not : slot_fits c.loop-index.self c.slot_place.result c.word_at-word.result ≡ false = sym c.put_slot.ensures.fits ∙ c.if-not-put_slot.true in
     let ws : List ℕ = drop (field_count c.args.board.now) (words_of c.args.bytes.now) in
-    let at = past (words_of c.args.bytes.now) c.field_count-first.result (field_count c.args.board.now) c.loop-index.index c.word_at-word.result c.field_count-first.ensures.is c.word_at-word.ensures in
+    let at = past_first (words_of c.args.bytes.now) c.field_count-first.result (field_count c.args.board.now) c.loop-index.index c.word_at-word.result c.field_count-first.ensures.is c.word_at-word.ensures in
     c.loop-index.invariant
     ∙ slot_refused (slot_places c.args.board.now.interrupts) ws c.loop-index.index (field_count c.args.board.now + c.loop-index.index) c.slot_place.result c.word_at-word.result c.loop-index.self c.slot_place.ensures.is at not
     ∙ ap (λ k. Err (k + c.loop-index.index)) (sym c.field_count-first.ensures.is)
@@ -26,7 +20,7 @@ pub loop-index-preserved : goal.loop-index-preserved
 loop-index-preserved c =
     let is : slot_fits c.loop-index.self c.slot_place.result c.word_at-word.result ≡ true = sym c.put_slot.ensures.fits ∙ c.if-not-put_slot.false in
     let ws : List ℕ = drop (field_count c.args.board.now) (words_of c.args.bytes.now) in
-    let at = past (words_of c.args.bytes.now) c.field_count-first.result (field_count c.args.board.now) c.loop-index.index c.word_at-word.result c.field_count-first.ensures.is c.word_at-word.ensures in
+    let at = past_first (words_of c.args.bytes.now) c.field_count-first.result (field_count c.args.board.now) c.loop-index.index c.word_at-word.result c.field_count-first.ensures.is c.word_at-word.ensures in
     c.loop-index.invariant
     ∙ slot_read (slot_places c.args.board.now.interrupts) ws c.loop-index.index (c.loop-index.index + 1) (field_count c.args.board.now + c.loop-index.index) (field_count c.args.board.now + (c.loop-index.index + 1))
     c.slot_place.result c.word_at-word.result c.loop-index.self refl (omega arith) c.slot_place.ensures.is at is
