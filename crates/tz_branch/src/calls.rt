@@ -47,10 +47,7 @@ fn call_ns(core: &mut Core, to: u32) -> Result<Outcome, Fault>
             if to % 2 == 1 {
                 link(core, to)
             } else {
-                Ok(Outcome::Exchange {
-                    target: to,
-                    ns: true,
-                })
+                Ok(Outcome::Call(to))
             }
         }
     }

@@ -19,7 +19,7 @@ use tz_regs::Core;
 
 /// Runs an instruction of this family that makes no access, any but a table branch. `Undef` for BXNS and BLXNS in
 /// Non-secure state, and for instructions of other families. At a fault the core is as it was. BLXNS whose target's
-/// bit 0 is 0 answers `Exchange` and leaves the core as it is: the call of Non-secure code is the caller's.
+/// bit 0 is 0 answers `Call` and leaves the core as it is: the call of Non-secure code is the caller's.
 pub fn execute_alone(insn: &Insn, core: &mut Core) -> Result<Outcome, Fault>
     requires { plan_branch insn.now (local_of core.old) ≡ [] }
     ensures { finished_in core.old (finish_branch insn.now (local_of core.old) []) ≡ (core.new, result) }

@@ -4,7 +4,6 @@ ghost use Rattle.std.specs.Prelude.{◌≡◌, ◌≤◌, ◌+◌, Some, None};
 ghost use Rattle.tz_access.specs.Written.{before_stores, noted_count};
 ghost use Rattle.tz_model.specs.Words.{wrap};
 ghost use Rattle.tz_sem.specs.Exchange.{core_back, touching};
-ghost use Rattle.tz_sem.specs.Step.{is_call};
 
 use crate::changes::Stores;
 use crate::ending::Close;
@@ -48,16 +47,6 @@ fn take_back(core: &mut Core, before: &Core)
     let status = core.status;
     *core = *before;
     core.status = status;
-}
-
-/// BLXNS, whose exchanges are calls.
-pub(crate) fn is_call(insn: &Insn) -> bool
-    ensures { result ≡ is_call insn.now }
-{
-    match *insn {
-        Insn::CallExchange { .. } => true,
-        _ => false,
-    }
 }
 
 impl Machine {

@@ -12,7 +12,7 @@ ghost use Rattle.tz_access.specs.Written.{before_stores, noted_count};
 
 use crate::changes::Stores;
 use crate::ending::{Close, Passage, changes_handler, ending_of};
-use crate::exchange::{is_call, ran_by};
+use crate::exchange::ran_by;
 use crate::it_rules::{ignores_condition, is_misplaced, is_passed_over};
 use crate::noting::pends_next;
 use crate::waiting::no_moves;
@@ -189,11 +189,9 @@ impl Machine {
                 ran_by(Cause::Went, course, code)
             }
             Outcome::Exchange { target, ns } => {
-                if is_call(insn) {
-                    return self.call(insn, course, code, target, stores, noted, written);
-                }
                 self.exchange(insn, before, course, code, target, ns, noted, written)
             }
+            Outcome::Call(target) => self.call(insn, course, code, target, stores, noted, written),
         }
     }
 

@@ -11,7 +11,7 @@ use Rattle.tz_table.specs.declared.decoded.Decoded.TheVariants.{One, NoCoprocess
 use Rattle.tz_decode.proofs.MultipleLaws.{gateway_sg}
 use Rattle.tz_model.specs.declared.report.Fault.{Fault}
 use Rattle.tz_model.specs.declared.report.Outcome.{Outcome}
-use Rattle.tz_model.specs.declared.report.Outcome.TheVariants.{Next, Jump, Exchange, Sleep}
+use Rattle.tz_model.specs.declared.report.Outcome.TheVariants.{Next, Jump, Exchange, Call, Sleep}
 use Rattle.tz_model.specs.declared.report.Sleep.{Sleep as Sleeping}
 use Rattle.tz_model.specs.declared.report.Sleep.TheVariants.{Awake, Wfi, Wfe}
 use Rattle.tz_model.specs.declared.report.Store.{Store}
@@ -40,7 +40,7 @@ use Rattle.tz_sem.specs.Exec.{executed}
 use Rattle.tz_sem.specs.ItRules.{is_misplaced, is_passed_over, ignores_condition}
 use Rattle.tz_sem.specs.Taking.{state_of, locks, framed_in, taken_by, preempted, goes_on_at, passed_by, faults, left_by, returns, with_value, with_handling}
 use Rattle.tz_sem.specs.Exchange.{core_back, back_with, touching, comes_back, moves_to, exchanged, called_with, calls}
-use Rattle.tz_sem.specs.Step.{past, is_call, exchanges, concludes, executes, placed, decoded, fetched, fetches, fetch_in, course_in, instructs, idles, by_sleep, is_woken, awake, without_event, ended, faulting, skips}
+use Rattle.tz_sem.specs.Step.{past, concludes, executes, placed, decoded, fetched, fetches, fetch_in, course_in, instructs, idles, by_sleep, is_woken, awake, without_event, ended, faulting, skips}
 use Rattle.tz_gates.specs.Entries.{is_sg, is_sg_second}
 
 -- no instruction ran, or the one of this code
@@ -140,15 +140,11 @@ unfolding calls
 tells_calls past s course code target next =
     let p = calls_ns access s.core (reached_in s) target next in tells_called past s course code p.core p.held p.outcome
 
-tells_exchanges : (before : Core) (i : Insn) (s : State) (course : Course) (code : Code) (stores : List Store) (target : ℕ) (ns : Bool) → TellsCode code (exchanges before i s course code stores target ns).ending
-tells_exchanges before i s course code stores target ns =
-    tells_ended code (is_call i) _ (with_stores stores (exchanged before s (past i s) course code target ns)) (tells_calls (past i) s course code target _)
-    (tells_exchanged before s (past i s) course code target ns)
-
 tells_concludes : (before : Core) (i : Insn) (s : State) (course : Course) (code : Code) (stores : List Store) (outcome : Result Outcome Fault) → TellsCode code (concludes before i s course code stores outcome).ending
 tells_concludes before i s course code stores (Ok Next) = Tells refl
 tells_concludes before i s course code stores (Ok (Jump to)) = Tells refl
-tells_concludes before i s course code stores (Ok (Exchange target ns)) = tells_exchanges before i s course code stores target ns
+tells_concludes before i s course code stores (Ok (Exchange target ns)) = tells_exchanged before s (past i s) course code target ns
+tells_concludes before i s course code stores (Ok (Call target)) = tells_calls (past i) s course code target _
 tells_concludes before i s course code stores (Ok (Sleep event)) = Tells refl
 tells_concludes before i s course code stores (Err fault) = Silent (silent_faults s course fault)
 

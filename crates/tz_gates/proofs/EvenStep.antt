@@ -6,7 +6,7 @@ use Rattle.tz_table.specs.declared.decoded.Decoded.{Decoded}
 use Rattle.tz_table.specs.declared.decoded.Decoded.TheVariants.{One, NoCoprocessor, Undefined}
 use Rattle.tz_model.specs.declared.report.Fault.{Fault}
 use Rattle.tz_model.specs.declared.report.Outcome.{Outcome}
-use Rattle.tz_model.specs.declared.report.Outcome.TheVariants.{Next, Jump, Exchange, Sleep}
+use Rattle.tz_model.specs.declared.report.Outcome.TheVariants.{Next, Jump, Exchange, Call, Sleep}
 use Rattle.tz_model.specs.declared.report.ScriptEvent.{ScriptEvent}
 use Rattle.tz_model.specs.declared.report.Sleep.{Sleep as Sleeping}
 use Rattle.tz_model.specs.declared.report.Sleep.TheVariants.{Awake, Wfi, Wfe}
@@ -30,7 +30,7 @@ use Rattle.tz_sem.specs.ItRules.{is_misplaced, is_passed_over, ignores_condition
 use Rattle.tz_sem.specs.Taking.{framed_in, locks, preempted, returns}
 use Rattle.tz_sem.specs.Exchange.{core_back, back_with, touching, comes_back, moves_to, exchanged, through_port, called_with, calls}
 use Rattle.tz_sem.specs.Run.{Events, state_after}
-use Rattle.tz_sem.specs.Step.{length_with, length_of, past, is_call, concludes, executes, placed, decoded, runs_gateway, fetched, fetches, fetch_in, course_in, instructs, idles, by_sleep, is_woken, awake, without_event, ended, started, step, faulting, skips}
+use Rattle.tz_sem.specs.Step.{length_with, length_of, past, concludes, executes, placed, decoded, runs_gateway, fetched, fetches, fetch_in, course_in, instructs, idles, by_sleep, is_woken, awake, without_event, ended, started, step, faulting, skips}
 use Rattle.tz_gates.proofs.EvenOffsets.{goes_evenly, decoded_even}
 use Rattle.tz_gates.proofs.EvenTaken.{Even, EvenState, even_down, even_cond, even_preempted, even_faults, even_returns}
 use Rattle.tz_gates.proofs.EvenExecuted.{OutcomeEven, executed_stays}
@@ -112,8 +112,8 @@ even_concludes : (before : Core) (i : Insn) (s : State) (course : Course) (code 
     → EvenEnd (concludes before i s course code stores outcome)
 even_concludes before i s course code stores (Ok Next) b h o = past_code s.core.registers.pc code h
 even_concludes before i s course code stores (Ok (Jump to)) b h o = o
-even_concludes before i s course code stores (Ok (Exchange target ns)) b h o =
-    even_end (is_call i) _ (with_stores stores (exchanged before s (past i s) course code target ns)) (even_calls i s course code target _ h) (even_exchanged before s (past i s) course code target ns b h)
+even_concludes before i s course code stores (Ok (Exchange target ns)) b h o = even_exchanged before s (past i s) course code target ns b h
+even_concludes before i s course code stores (Ok (Call target)) b h o = even_calls i s course code target _ h
 even_concludes before i s course code stores (Ok (Sleep event)) b h o = past_code s.core.registers.pc code h
 even_concludes before i s course code stores (Err fault) b h o = even_faults s course fault h
 

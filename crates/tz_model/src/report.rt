@@ -82,8 +82,10 @@ pub enum Outcome {
     Next,
     /// To this address, with T as it stands.
     Jump(u32),
-    /// To what a target value says (DDI0553, `BXWritePC` and `BLXNS`).
+    /// To what a target value says (DDI0553, `BXWritePC`).
     Exchange { target: u32, ns: bool },
+    /// To Non-secure code that is called at a target (DDI0553, `BLXNS`).
+    Call(u32),
     /// To sleep: for an event, or for an interrupt.
     Sleep { event: bool },
 }

@@ -10,7 +10,7 @@ use Rattle.tz_model.specs.declared.fetch.Fetched.{Fetched}
 use Rattle.tz_model.specs.declared.report.Fault.{Fault}
 use Rattle.tz_model.specs.declared.report.Fault.TheVariants.{Undef, NoCp, InvPc, StackLimit, Call}
 use Rattle.tz_model.specs.declared.report.Outcome.{Outcome}
-use Rattle.tz_model.specs.declared.report.Outcome.TheVariants.{Next, Jump, Exchange, Sleep}
+use Rattle.tz_model.specs.declared.report.Outcome.TheVariants.{Next, Jump, Exchange, Call as Calls, Sleep}
 use Rattle.tz_model.specs.declared.report.Sleep.{Sleep as Sleeping}
 use Rattle.tz_model.specs.declared.report.Sleep.TheVariants.{Awake, Wfi, Wfe}
 use Rattle.tz_model.specs.declared.report.Store.{Store}
@@ -36,10 +36,10 @@ use Rattle.tz_sem.specs.ItRules.{is_misplaced, is_passed_over, ignores_condition
 use Rattle.tz_model.specs.Ports.{answers}
 use Rattle.tz_sem.specs.Exchange.{through_port, exchanged, comes_back, back_with, touching, core_back, moves_to, calls, called_with}
 use Rattle.tz_sem.specs.Taking.{taken_by, after_entry, after_raise, passed_by, goes_on_at, framed_in, state_of, locks, preempted, faults, returns}
-use Rattle.tz_sem.specs.Step.{past, length_of, fetch_in, touches_secure, unready, is_woken, without_event, runs_gateway, ended, takes_exception, by_sleep, instructs, fetches, fetched, decoded, placed, executes, concludes, exchanges, faulting, skips, awake, course_in, idles}
+use Rattle.tz_sem.specs.Step.{past, length_of, fetch_in, touches_secure, unready, is_woken, without_event, runs_gateway, ended, takes_exception, by_sleep, instructs, fetches, fetched, decoded, placed, executes, concludes, faulting, skips, awake, course_in, idles}
 use Rattle.std.proofs.Common.{◌<◌, ◌^◌, arith, subst}
 use Rattle.tz_sem.specs.Ended.{Passed}
-use Rattle.tz_sem.specs.Step.{is_call, executes, concludes}
+use Rattle.tz_sem.specs.Step.{executes, concludes}
 use Rattle.tz_state.specs.Access.{Reached}
 use Rattle.tz_model.specs.declared.report.ScriptEvent.{ScriptEvent}
 use Rattle.tz_frames.specs.Leave.{Leaving, leaves}
@@ -50,7 +50,7 @@ use Rattle.tz_frames.specs.FrameAccess.{SecureLoad}
 use Rattle.tz_sem.specs.Taking.{left_by, after_return}
 use Rattle.tz_sem.specs.Step.{started, step}
 use Rattle.tz_resume.specs.Number.{IsNumbered}
-use Rattle.tz_resume.proofs.Kept.{executed_number}
+use Rattle.tz_sem.proofs.Kept.{executed_number}
 use Rattle.tz_resume.proofs.Numbers.{enters_numbered, leaves_numbered, faulted_numbered}
 
 abbrev Ends : Ended → Type 0
@@ -149,17 +149,11 @@ calls_fit i s course code target next k = by (nat_lt (call_base s.core) (pointer
 
 -- ---- instructions
 
-exchanges_fit : (before : Core) (i : Insn) (s : State) (course : Course) (code : Code) (stores : List Store) (target : ℕ) (ns : Bool) → IsNumbered before → IsNumbered s.core
-    → Ends (exchanges before i s course code stores target ns)
-exchanges_fit before i s course code stores target ns k k' = by (is_call i) where
-  by : (t : Bool) → Ends (cond t (calls (past i) s course code target (wrap (s.core.registers.pc + length_of code))) (with_stores stores (exchanged before s (past i s) course code target ns)))
-  by true = calls_fit i s course code target (wrap (s.core.registers.pc + length_of code)) k'
-  by false = exchanged_fits before s (past i s) course code target ns k (past_fits i s k')
-
 concludes_fit : (before : Core) (i : Insn) (s : State) (course : Course) (code : Code) (stores : List Store) (o : Result Outcome Fault) → IsNumbered before → IsNumbered s.core → Ends (concludes before i s course code stores o)
 concludes_fit before i s course code stores (Ok Next) k k' = k'
 concludes_fit before i s course code stores (Ok (Jump to)) k k' = k'
-concludes_fit before i s course code stores (Ok (Exchange target ns)) k k' = exchanges_fit before i s course code stores target ns k k'
+concludes_fit before i s course code stores (Ok (Exchange target ns)) k k' = exchanged_fits before s (past i s) course code target ns k (past_fits i s k')
+concludes_fit before i s course code stores (Ok (Calls target)) k k' = calls_fit i s course code target (wrap (s.core.registers.pc + length_of code)) k'
 concludes_fit before i s course code stores (Ok (Sleep event)) k k' = k'
 concludes_fit before i s course code stores (Err fault) k k' = faults_fit s course fault k'
 

@@ -1,5 +1,4 @@
 pub mod Words
-pub mod Faulted
 pub mod Uncalled
 pub mod Least
 pub mod Staying
@@ -13,7 +12,6 @@ pub mod Return
 pub mod Exactly
 pub mod Steps
 pub mod Taken
-pub mod Kept
 pub mod Numbers
 pub mod Fitting
 pub mod Held

@@ -1,18 +1,17 @@
 -- How a step comes to take an exception.
-use Rattle.std.proofs.Common.{◌≡◌, ℕ, ◌+◌, ◌%◌, Bool, true, false, ◌&&◌, ◌||◌, not, cond, List, [], Option, Some, None, Result, Ok, Err, refl, sym, ap, ◌∙◌}
+use Rattle.std.proofs.Common.{◌≡◌, ℕ, ◌+◌, ◌%◌, Bool, true, false, ◌&&◌, ◌||◌, not, cond, List, [], Option, Some, None, Result, Ok, Err, refl, sym, ap, ◌∙◌, subst}
 use Rattle.std.specs.Prelude.{◌==◌, nat_lt}
 use Rattle.tz_table.specs.declared.units.Side.{Side}
 use Rattle.tz_table.specs.declared.units.Side.TheVariants.{Secure, NonSecure}
 use Rattle.tz_table.specs.declared.units.Code.{Code}
 use Rattle.tz_table.specs.declared.instruction.Insn.{Insn}
-use Rattle.tz_table.specs.declared.instruction.Insn.TheVariants.{CallExchange}
 use Rattle.tz_table.specs.declared.decoded.Decoded.{Decoded}
 use Rattle.tz_table.specs.declared.decoded.Decoded.TheVariants.{One, NoCoprocessor, Undefined}
 use Rattle.tz_model.specs.declared.fetch.Fetched.{Fetched}
 use Rattle.tz_model.specs.declared.report.Fault.{Fault}
 use Rattle.tz_model.specs.declared.report.Fault.TheVariants.{Undef, NoCp, Unaligned, StackLimit, Call}
 use Rattle.tz_model.specs.declared.report.Outcome.{Outcome}
-use Rattle.tz_model.specs.declared.report.Outcome.TheVariants.{Next, Jump, Exchange, Sleep}
+use Rattle.tz_model.specs.declared.report.Outcome.TheVariants.{Next, Jump, Exchange, Call as Calls, Sleep}
 use Rattle.tz_model.specs.declared.report.Sleep.{Sleep as Sleeping}
 use Rattle.tz_model.specs.declared.report.Sleep.TheVariants.{Awake, Wfi, Wfe}
 use Rattle.tz_model.specs.declared.report.Slot.{Slot}
@@ -39,12 +38,11 @@ use Rattle.tz_sem.specs.declared.ending.Course.{Course}
 use Rattle.tz_sem.specs.declared.family.Family.{Family}
 use Rattle.tz_sem.specs.declared.family.Family.TheVariants.{Alu, LoadStore, Branch, System}
 use Rattle.tz_sem.specs.Ended.{Ended, with_stores}
-use Rattle.tz_sem.specs.Local.{reg, Local, Finished, FinishedNamed, local_of, finished_in, finished_named}
+use Rattle.tz_sem.specs.Local.{Finished, FinishedNamed, local_of, finished_in, finished_named}
 use Rattle.tz_sem.specs.Exec.{load_store_over, branch_over, over, unless_refused, alone, probed, Executed, Ported, after_accesses, through, loads_stores, exclusively, Exclusivity, Free, Marks, Takes, not_stored, released, executed, executed_by, family_of, exclusivity}
 use Rattle.tz_sem.specs.Alu.{finish_alu}
 use Rattle.tz_sem.specs.LoadStore.{refusal, plan_load_store, finish_load_store}
-use Rattle.tz_sem.specs.Branch.{plan_branch, finish_branch, links, call_ns}
-use Rattle.tz_regs.specs.Banks.{of_side, secure_after}
+use Rattle.tz_sem.specs.Branch.{plan_branch, finish_branch}
 use Rattle.tz_model.specs.Words.{wrap}
 use Rattle.tz_frames.specs.Enter.{Done, is_secure, enters as frames_enter}
 use Rattle.tz_frames.specs.declared.entering.Entered.{Entered}
@@ -55,11 +53,12 @@ use Rattle.tz_regs.specs.Special.{named_of}
 use Rattle.tz_model.specs.Ports.{answers}
 use Rattle.tz_sem.specs.Exchange.{through_port, exchanged, comes_back, back_with, touching, core_back, moves_to, branch_ns, calls, called_with}
 use Rattle.tz_sem.specs.Taking.{with_value, with_handling, taken_by, after_entry, after_raise, passed_by, goes_on_at, framed_in, state_of, locks, preempted, faults, returns}
-use Rattle.tz_sem.specs.Step.{past, length_of, fetch_in, fetcher_in, touches_secure, unready, is_woken, without_event, runs_gateway, ended, takes_exception, by_sleep, instructs, fetches, fetched, decoded, placed, executes, concludes, exchanges, faulting, skips, awake, course_in, idles}
+use Rattle.tz_sem.specs.Step.{past, length_of, fetch_in, fetcher_in, touches_secure, unready, is_woken, without_event, runs_gateway, ended, takes_exception, by_sleep, instructs, fetches, fetched, decoded, placed, executes, concludes, faulting, skips, awake, course_in, idles}
 use Rattle.tz_resume.specs.Words.{IsWhole}
 use Rattle.tz_resume.proofs.Held.{executed_whole, calls_whole}
 use Rattle.tz_resume.specs.Steps.{Entry, AtCode, BehindCall, behind_call, IsReturn, HowEnded, ByEntry, ByReturn}
-use Rattle.tz_resume.proofs.Faulted.{is_call, Uncalled, uncalled_fault}
+use Rattle.tz_sem.proofs.Faulted.{is_call, Uncalled, uncalled_fault}
+use Rattle.tz_sem.proofs.Kept.{executed_call}
 use Rattle.tz_resume.proofs.Uncalled.{alu_uncalled, access_family_uncalled, branch_uncalled, calls_uncalled, returned_uncalled, fetch_uncalled}
 
 -- an exception was taken, or one returned
@@ -266,45 +265,21 @@ calls_tell s past x course code target next k w e =
     let p = calls_ns access x.core (reached_in x) target next in
     called_tells s past x course code p.core p.held p.outcome (λ fault e'. calls_keep s x.core (reached_in x) target next fault k e') (λ h. calls_whole x.core (reached_in x) target next (w h)) (calls_uncalled x.core (reached_in x) target next) e
 
--- BLXNS that calls has written no register before
-linked_same : (l : Local) (c : Core) (target to : ℕ) (ns : Bool) → (finished_in c (links l target)).1 ≡ Ok (Exchange to ns) → ⊥
-linked_same l c target to ns e = cc
-
-call_ns_same : (s : State) (c : Core) (side : Side) (target to : ℕ) (ns : Bool) → c.run.side ≡ side → Keeps s c → (finished_in c (call_ns side (local_of c) target)).1 ≡ Ok (Exchange to ns)
-    → Keeps s (finished_in c (call_ns side (local_of c) target)).0
-call_ns_same s c NonSecure target to ns is k e = cc
-call_ns_same s c Secure target to ns is k e = by (target % 2 == 1) e where
-  by : (t : Bool) → (finished_in c (cond t (links (local_of c) target) (Ok (local_of c, Exchange target true)))).1 ≡ Ok (Exchange to ns)
-      → Keeps s (finished_in c (cond t (links (local_of c) target) (Ok (local_of c, Exchange target true)))).0
-  by true e' = cc
-  by false e' = record { side = k.side; registers = k.registers; stacks = ap (λ (side : Side). secure_after side (of_side side c.stacks_s c.stacks_ns) c.stacks_s) is ∙ k.stacks }
-
-call_same : (s : State) (rm : ℕ) (x : Bool) (to : ℕ) (ns : Bool) → (executed s (CallExchange rm x)).outcome ≡ Ok (Exchange to ns) → Keeps s (executed s (CallExchange rm x)).state.core
-unfolding answers
-call_same s rm false to ns e = cc
-call_same s rm true to ns e =
-    let k = call_ns_same s s.core s.core.run.side (reg (local_of s.core) rm) to ns refl (record { side = refl; registers = refl; stacks = refl }) e in
-    record { side = k.side; registers = k.registers; stacks = k.stacks }
-
 -- ---- instructions
 
 carried : (s x : State) (c : Core) → Keeps s x.core → Keeps x c → Keeps s c
 carried s x c k l = record { side = l.side ∙ k.side; registers = l.registers ∙ k.registers; stacks = l.stacks ∙ k.stacks }
-
-exchanges_tell : (i : Insn) (s x : State) (course : Course) (code : Code) (target : ℕ) (ns : Bool) → Keeps s x.core → Holds s x → (executed x i).outcome ≡ Ok (Exchange target ns)
-    → Tells s (exchanges x.core i (executed x i).state course code (executed x i).stores target ns)
-exchanges_tell (CallExchange rm to_ns) s x course code target ns k w is e =
-    let y = (executed x (CallExchange rm to_ns)).state in
-    calls_tell s (past (CallExchange rm to_ns)) y course code target (wrap (y.core.registers.pc + length_of code)) (carried s x y.core k (call_same x rm to_ns target ns is)) (λ h. executed_whole x (CallExchange rm to_ns) (w h)) e
-exchanges_tell i s x course code target ns k w is e =
-    exchanged_tells s x.core (executed x i).state (past i (executed x i).state) course code (executed x i).stores target ns k (λ h. executed_whole x i (w h)) e
 
 executes_tell : (i : Insn) (s x : State) (course : Course) (code : Code) → Keeps s x.core → Holds s x → Quiet s x → Tells s (executes x.core course code i (executed x i))
 executes_tell i s x course code k w q = by (executed x i).outcome refl where
   by : (o : Result Outcome Fault) → (executed x i).outcome ≡ o → Tells s (concludes x.core i (executed x i).state course code (executed x i).stores o)
   by (Ok Next) is e = cc
   by (Ok (Jump to)) is e = cc
-  by (Ok (Exchange target ns)) is e = exchanges_tell i s x course code target ns k w is e
+  by (Ok (Exchange target ns)) is e =
+      exchanged_tells s x.core (executed x i).state (past i (executed x i).state) course code (executed x i).stores target ns k (λ h. executed_whole x i (w h)) e
+  by (Ok (Calls target)) is e =
+      let y = (executed x i).state in
+      calls_tell s (past i) y course code target (wrap (y.core.registers.pc + length_of code)) (subst (λ (z : State). Keeps s z.core) (sym (executed_call x i target is).state) k) (λ h. executed_whole x i (w h)) e
   by (Ok (Sleep event)) is e = cc
   by (Err fault) is e = faults_tell fault s (executed x i).state course (executed x i).stores (carried s x (executed x i).state.core k (family_keeps (family_of i) x i fault is)) (λ h. executed_whole x i (w h)) (family_quiet (family_of i) s x i q fault is) e
 

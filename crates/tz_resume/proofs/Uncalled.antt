@@ -31,8 +31,8 @@ use Rattle.tz_sem.specs.LoadStore.{below_limit, refusal_of, refusal_past, refusa
 use Rattle.tz_sem.specs.Local.{Local, Finished, local_of, finished_in, reg}
 use Rattle.tz_sem.specs.Alu.{finish_alu}
 use Rattle.tz_sem.specs.Branch.{plan_branch, finish_branch}
-use Rattle.tz_resume.proofs.Faulted.{is_call, Uncalled}
-use Rattle.tz_resume.proofs.Kept.{same_uncalled, alu_same, load_store_same, branch_same}
+use Rattle.tz_sem.proofs.Faulted.{is_call, Uncalled}
+use Rattle.tz_sem.proofs.Kept.{is_blxns, same_uncalled, alu_same, load_store_same, branch_same}
 
 uncalled_if : {A : Type 0} (t : Bool) (x y : Result A Fault) → Uncalled x → Uncalled y → Uncalled (cond t x y)
 uncalled_if true x y p q = p
@@ -124,7 +124,7 @@ load_store_uncalled s i = by (refusal i (local_of s.core)) (refusal_uncalled i (
   by (Some fault) k = k
   by None k =
       accesses_uncalled s.core (answers access (reached_in s) (plan_load_store i (local_of s.core))) (finish_load_store i (local_of s.core)) (answers_uncalled (plan_load_store i (local_of s.core)) (reached_in s))
-      (λ words. same_uncalled s.core.registers.ipsr (finish_load_store i (local_of s.core) words) (load_store_same i (local_of s.core) words))
+      (λ words. same_uncalled (is_blxns i) s.core.registers.ipsr (finish_load_store i (local_of s.core) words) (load_store_same i (local_of s.core) words))
 
 exclusive_uncalled : (s : State) (i : Insn) (x : Exclusivity) → Uncalled (exclusively x s i).outcome
 exclusive_uncalled s i Free = load_store_uncalled s i
@@ -136,7 +136,7 @@ exclusive_uncalled s i (Takes m rd) = by (is_aligned m.size m.addr) (is_held s.b
   by true false = tt
 
 pub alu_uncalled : (s : State) (i : Insn) → Uncalled (executed_by Alu s i).outcome
-alu_uncalled s i = finished_uncalled s.core (finish_alu i (local_of s.core)) (same_uncalled s.core.registers.ipsr (finish_alu i (local_of s.core)) (alu_same i (local_of s.core)))
+alu_uncalled s i = finished_uncalled s.core (finish_alu i (local_of s.core)) (same_uncalled (is_blxns i) s.core.registers.ipsr (finish_alu i (local_of s.core)) (alu_same i (local_of s.core)))
 
 pub access_family_uncalled : (s : State) (i : Insn) → Uncalled (executed_by LoadStore s i).outcome
 access_family_uncalled s i = exclusive_uncalled s i (exclusivity i (local_of s.core))
@@ -144,7 +144,7 @@ access_family_uncalled s i = exclusive_uncalled s i (exclusivity i (local_of s.c
 pub branch_uncalled : (s : State) (i : Insn) → Uncalled (executed_by Branch s i).outcome
 branch_uncalled s i =
     accesses_uncalled s.core (answers access (reached_in s) (plan_branch i (local_of s.core))) (finish_branch i (local_of s.core)) (answers_uncalled (plan_branch i (local_of s.core)) (reached_in s))
-    (λ words. same_uncalled s.core.registers.ipsr (finish_branch i (local_of s.core) words) (branch_same i (local_of s.core) words))
+    (λ words. same_uncalled (is_blxns i) s.core.registers.ipsr (finish_branch i (local_of s.core) words) (branch_same i (local_of s.core) words))
 
 -- ---- calls and returns between the sides
 

@@ -6,7 +6,7 @@ use Rattle.tz_table.specs.declared.units.Size.TheVariants.{Byte, Half}
 use Rattle.tz_table.specs.declared.instruction.Insn.{Insn}
 use Rattle.tz_table.specs.declared.instruction.Insn.TheVariants.{Branch, BranchIf, BranchLink, BranchZero, TableBranch, BranchExchange, CallExchange, IfThen}
 use Rattle.tz_model.specs.declared.report.Fault.TheVariants.{Undef}
-use Rattle.tz_model.specs.declared.report.Outcome.TheVariants.{Next, Jump, Exchange}
+use Rattle.tz_model.specs.declared.report.Outcome.TheVariants.{Next, Jump, Exchange, Call}
 use Rattle.tz_model.specs.Ports.{Access, Load, aligned_by_ccr, as_running}
 use Rattle.tz_model.specs.Words.{wrap, word_of, even_of}
 use Rattle.tz_regs.specs.ItState.{condition_holds, it_of}
@@ -53,7 +53,7 @@ links l target = Ok (called l target, Jump (even_of target))
 -- BLXNS is undefined in Non-secure state; where bit 0 of the target is 1 it is BLX, and else Non-secure code is
 -- called
 abbrev pub call_ns : Side → Local → ℕ → Finished
-call_ns Secure l target = if target % 2 == 1 then links l target else Ok (l, Exchange target true)
+call_ns Secure l target = if target % 2 == 1 then links l target else Ok (l, Call target)
 call_ns NonSecure l target = Err Undef
 
 -- BLX and BLXNS

@@ -4,13 +4,13 @@ use Rattle.tz_table.specs.declared.units.Side.{Side}
 use Rattle.tz_table.specs.declared.units.Side.TheVariants.{Secure, NonSecure}
 use Rattle.tz_table.specs.declared.units.Code.{Code}
 use Rattle.tz_table.specs.declared.instruction.Insn.{Insn}
-use Rattle.tz_table.specs.declared.instruction.Insn.TheVariants.{IfThen, CallExchange}
+use Rattle.tz_table.specs.declared.instruction.Insn.TheVariants.{IfThen}
 use Rattle.tz_table.specs.declared.decoded.Decoded.{Decoded}
 use Rattle.tz_table.specs.declared.decoded.Decoded.TheVariants.{One, NoCoprocessor, Undefined}
 use Rattle.tz_model.specs.declared.report.Fault.{Fault}
 use Rattle.tz_model.specs.declared.report.Fault.TheVariants.{Undef, NoCp, InvState, EntryPoint}
 use Rattle.tz_model.specs.declared.report.Outcome.{Outcome}
-use Rattle.tz_model.specs.declared.report.Outcome.TheVariants.{Next, Jump, Exchange, Sleep}
+use Rattle.tz_model.specs.declared.report.Outcome.TheVariants.{Next, Jump, Exchange, Call, Sleep}
 use Rattle.tz_model.specs.declared.report.ScriptEvent.{ScriptEvent}
 use Rattle.tz_model.specs.declared.report.Sleep.{Sleep as Sleeping}
 use Rattle.tz_model.specs.declared.report.Sleep.TheVariants.{Awake, Wfi, Wfe}
@@ -77,22 +77,12 @@ sleep_of false = Wfi
 abbrev pub asleep : Bool → State → State
 asleep event s = with_run s (record s.core.run { sleep = sleep_of event })
 
--- BLXNS, whose exchanges are calls
-abbrev pub is_call : Insn → Bool
-is_call (CallExchange rm ns) = true
-is_call insn = false
-
--- an exchange; a call has made no stores before
-abbrev pub exchanges : Core → Insn → State → Course → Code → List Store → ℕ → Bool → Ended
-exchanges before i s course code stores target ns =
-    if is_call i then calls (past i) s course code target (wrap (s.core.registers.pc + length_of code))
-    else with_stores stores (exchanged before s (past i s) course code target ns)
-
--- how a step goes on after its instruction; `before` is the core before it
+-- how a step goes on after its instruction, which made no stores where it calls; `before` is the core before it
 abbrev pub goes_on : Core → Insn → State → Course → Code → List Store → Outcome → Ended
 goes_on before i s course code stores Next = with_stores stores (goes_next (past i s) course code)
 goes_on before i s course code stores (Jump to) = with_stores stores (ran (with_pc (past i s) to) course code)
-goes_on before i s course code stores (Exchange target ns) = exchanges before i s course code stores target ns
+goes_on before i s course code stores (Exchange target ns) = with_stores stores (exchanged before s (past i s) course code target ns)
+goes_on before i s course code stores (Call target) = calls (past i) s course code target (wrap (s.core.registers.pc + length_of code))
 goes_on before i s course code stores (Sleep event) = with_stores stores (goes_next (asleep event (past i s)) course code)
 
 abbrev pub concludes : Core → Insn → State → Course → Code → List Store → Result Outcome Fault → Ended

@@ -1,6 +1,6 @@
 -- A step changes no byte but those of its stores and of frames, stage by stage; nor, without a store to the system
 -- registers, the SAU, nor what stands for exceptions unless one is taken or returns.
-use Rattle.std.proofs.Common.{◌≡◌, ℕ, ◌+◌, Bool, true, false, ◌&&◌, ◌||◌, not, cond, List, [], Result, Ok, Err, refl, ap, ◌∙◌, subst, Option, None}
+use Rattle.std.proofs.Common.{◌≡◌, ℕ, ◌+◌, Bool, true, false, ◌&&◌, ◌||◌, not, cond, List, [], Result, Ok, Err, refl, sym, ap, ◌∙◌, subst, Option, None}
 use Rattle.std.specs.Prelude.{nat_lt}
 use Rattle.std.specs.FinMap.{get}
 use Rattle.tz_table.specs.declared.units.Side.{Side}
@@ -8,12 +8,11 @@ use Rattle.tz_table.specs.declared.units.Code.{Code}
 use Rattle.tz_table.specs.declared.decoded.Decoded.{Decoded}
 use Rattle.tz_table.specs.declared.decoded.Decoded.TheVariants.{One, NoCoprocessor, Undefined}
 use Rattle.tz_table.specs.declared.instruction.Insn.{Insn}
-use Rattle.tz_table.specs.declared.instruction.Insn.TheVariants.{CallExchange}
 use Rattle.tz_model.specs.declared.fetch.Fetched.{Fetched}
 use Rattle.tz_model.specs.declared.report.Fault.{Fault}
 use Rattle.tz_model.specs.declared.report.Fault.TheVariants as faults_of
 use Rattle.tz_model.specs.declared.report.Outcome.{Outcome}
-use Rattle.tz_model.specs.declared.report.Outcome.TheVariants.{Next, Jump, Exchange, Sleep}
+use Rattle.tz_model.specs.declared.report.Outcome.TheVariants.{Next, Jump, Exchange, Call, Sleep}
 use Rattle.tz_model.specs.declared.report.ScriptEvent.{ScriptEvent}
 use Rattle.tz_model.specs.declared.report.Sleep.{Sleep as Sleeping}
 use Rattle.tz_model.specs.declared.report.Sleep.TheVariants.{Awake, Wfi, Wfe}
@@ -42,13 +41,12 @@ use Rattle.tz_sem.specs.declared.ending.Cause.{Cause}
 use Rattle.tz_sem.specs.declared.ending.Course.{Course}
 use Rattle.tz_sem.specs.Ended.{Passed, Ended, with_stores}
 use Rattle.tz_sem.specs.Exchange.{ran_by, branch_ns, moves_to, core_back, back_with, touching, comes_back, exchanged, called_with, calls}
-use Rattle.tz_sem.specs.Exec.{ported, Executed, executed}
+use Rattle.tz_sem.specs.Exec.{Executed, executed}
 use Rattle.tz_sem.specs.ItRules.{is_misplaced, is_passed_over, ignores_condition}
-use Rattle.tz_sem.specs.Local.{local_of, finished_in}
-use Rattle.tz_sem.specs.Branch.{finish_branch}
-use Rattle.tz_sem.specs.Step.{length_of, past, skips, is_call, goes_on, concludes, executes, faulting, placed, decoded, runs_gateway, fetched, fetches, fetch_in, course_in, touches_secure, unready, instructs, awake, takes_exception, idles, without_event, is_woken, by_sleep, ended, started}
+use Rattle.tz_sem.specs.Step.{length_of, past, skips, goes_on, concludes, executes, faulting, placed, decoded, runs_gateway, fetched, fetches, fetch_in, course_in, touches_secure, unready, instructs, awake, takes_exception, idles, without_event, is_woken, by_sleep, ended, started}
 use Rattle.tz_sem.specs.Taking.{state_of, locks, framed_in, taken_by, preempted, passed_by, faults, left_by, returns, with_fault, with_value, with_handling, after_raise}
-use Rattle.tz_twin.specs.Writing.{are_beside, are_in_memory, is_framed, is_exceptional, with_timers_of, KeepsElsewhere, WritesTold}
+use Rattle.tz_sem.proofs.Kept.{WhereCalls, CallsFirst, executed_call}
+use Rattle.tz_twin.specs.Writing.{is_framed, is_exceptional, with_timers_of, KeepsElsewhere, WritesTold}
 use Rattle.tz_twin.proofs.Held.{enters_held, leaves_held}
 use Rattle.tz_twin.proofs.Spared.{faulted_side}
 use Rattle.tz_twin.proofs.Noted.{Told, told_nothing, timers_then, Reaches, answers_told, reached_told, Executes, executed_told}
@@ -237,53 +235,24 @@ keeps_cond : (side : Side) (s : State) (t : Bool) (e f : Ended) → KeepsElsewhe
 keeps_cond side s true e f h k = h
 keeps_cond side s false e f h k = k
 
--- BLXNS makes no store before its call
-ported_held : (r : Reached) (x : Core × Result Outcome Fault) → (ported r x).held ≡ r
-ported_held r (c, outcome) = refl
-
-false_true : {P : Type 0} → false ≡ true → P
-false_true e = cc
-
-stores_of_call : (s : State) (i : Insn) → is_call i ≡ true → (executed s i).stores ≡ []
-unfolding answers
-stores_of_call s (CallExchange rm ns) is =
-    ap (λ (r : Reached). r.stores) (ported_held (reached_in s) (finished_in s.core (finish_branch (CallExchange rm ns) (local_of s.core) [])))
-stores_of_call s i is = false_true is
-
--- so what it left is told by none
-keeps_from : (side : Side) (s s' : State) (e : Ended) → Told [] s.bus s'.bus s.exceptions s'.exceptions → KeepsElsewhere side s' e → KeepsElsewhere side s e
-unfolding are_beside are_in_memory
-keeps_from side s s' e h k = record {
-  bytes = λ a beside out. k.bytes a beside out ∙ h.bytes a refl;
-  board = k.board ∙ h.board;
-  sau = λ inside. k.sau inside ∙ h.sau refl;
-  exceptions = λ inside plain. timers_then s.exceptions s'.exceptions e.state.exceptions (h.exceptions refl) (k.exceptions inside plain);
-}
-
-keeps_exchange : (s : State) (i : Insn) (x : Executed) (course : Course) (code : Code) (target : ℕ) (ns called : Bool) → is_call i ≡ called → (is_call i ≡ true → x.stores ≡ []) → Executes s x
-    → KeepsElsewhere s.core.run.side s (cond called (calls (past i) x.state course code target (wrap (x.state.core.registers.pc + length_of code))) (with_stores x.stores (exchanged s.core x.state (past i x.state) course code target ns)))
-keeps_exchange s i x course code target ns true is none h =
-    let told = subst (λ (stores : List Store). Told stores s.bus x.state.bus s.exceptions x.state.exceptions) (none is) h.told in
-    keeps_from s.core.run.side s x.state _ told
-    (subst (λ (side : Side). KeepsElsewhere side x.state (calls (past i) x.state course code target (wrap (x.state.core.registers.pc + length_of code)))) h.side
-    (keeps_calls x.state i course code target (wrap (x.state.core.registers.pc + length_of code))))
-keeps_exchange s i x course code target ns false is none h =
-    with_told s.core.run.side s x.stores x.state.bus x.state.exceptions _ h.told (passes_exchanged s.core.run.side s.core i x.state course code target ns refl h.side)
-
-keeps_goes_on : (s : State) (i : Insn) (x : Executed) (course : Course) (code : Code) (outcome : Outcome) → (is_call i ≡ true → x.stores ≡ []) → Executes s x
+keeps_goes_on : (s : State) (i : Insn) (x : Executed) (course : Course) (code : Code) (outcome : Outcome) → WhereCalls (Ok outcome) (CallsFirst s x) → Executes s x
     → KeepsElsewhere s.core.run.side s (goes_on s.core i x.state course code x.stores outcome)
-keeps_goes_on s i x course code Next none h =
+keeps_goes_on s i x course code Next first h =
     with_told s.core.run.side s x.stores x.state.bus x.state.exceptions _ h.told (record { bytes = λ a out. refl; board = refl; sau = refl; exceptions = λ plain. refl })
-keeps_goes_on s i x course code (Jump to) none h =
+keeps_goes_on s i x course code (Jump to) first h =
     with_told s.core.run.side s x.stores x.state.bus x.state.exceptions _ h.told (record { bytes = λ a out. refl; board = refl; sau = refl; exceptions = λ plain. refl })
-keeps_goes_on s i x course code (Exchange target ns) none h = keeps_exchange s i x course code target ns (is_call i) refl none h
-keeps_goes_on s i x course code (Sleep event) none h =
+keeps_goes_on s i x course code (Exchange target ns) first h =
+    with_told s.core.run.side s x.stores x.state.bus x.state.exceptions _ h.told (passes_exchanged s.core.run.side s.core i x.state course code target ns refl h.side)
+keeps_goes_on s i x course code (Call target) first h =
+    subst (λ (y : State). KeepsElsewhere s.core.run.side s (calls (past i) y course code target (wrap (y.core.registers.pc + length_of code)))) (sym (first target refl).state)
+    (keeps_calls s i course code target (wrap (s.core.registers.pc + length_of code)))
+keeps_goes_on s i x course code (Sleep event) first h =
     with_told s.core.run.side s x.stores x.state.bus x.state.exceptions _ h.told (record { bytes = λ a out. refl; board = refl; sau = refl; exceptions = λ plain. refl })
 
-keeps_concludes : (s : State) (i : Insn) (x : Executed) (course : Course) (code : Code) (outcome : Result Outcome Fault) → (is_call i ≡ true → x.stores ≡ []) → Executes s x
+keeps_concludes : (s : State) (i : Insn) (x : Executed) (course : Course) (code : Code) (outcome : Result Outcome Fault) → WhereCalls outcome (CallsFirst s x) → Executes s x
     → KeepsElsewhere s.core.run.side s (concludes s.core i x.state course code x.stores outcome)
-keeps_concludes s i x course code (Ok outcome) none h = keeps_goes_on s i x course code outcome none h
-keeps_concludes s i x course code (Err fault) none h =
+keeps_concludes s i x course code (Ok outcome) first h = keeps_goes_on s i x course code outcome first h
+keeps_concludes s i x course code (Err fault) first h =
     with_told s.core.run.side s x.stores x.state.bus x.state.exceptions _ h.told
     (of_side_that_ran x.state.core.run.side s.core.run.side x.state.bus x.state.exceptions _ h.side (passes_faults x.state x.state.exceptions course fault))
 
@@ -298,7 +267,7 @@ keeps_placed s course code i =
     let side = s.core.run.side in
     keeps_cond side s (is_misplaced i s.core.registers) _ _ (keeps_faulting s course faults_of.Undef)
     (keeps_cond side s (is_passed_over s.core.registers && not (ignores_condition side i)) (skips s course code) (executes s.core course code i (executed s i)) (keeps_skips s course code)
-    (keeps_concludes s i (executed s i) course code (executed s i).outcome (stores_of_call s i) (executed_told s i)))
+    (keeps_concludes s i (executed s i) course code (executed s i).outcome (executed_call s i) (executed_told s i)))
 
 keeps_decoded : (s : State) (course : Course) (code : Code) (d : Decoded) → KeepsElsewhere s.core.run.side s (decoded s course code d)
 keeps_decoded s course code (One i width) = keeps_placed s course code i

@@ -7,13 +7,12 @@ use Rattle.tz_table.specs.declared.units.Code.{Code}
 use Rattle.tz_table.specs.declared.decoded.Decoded.{Decoded}
 use Rattle.tz_table.specs.declared.decoded.Decoded.TheVariants.{One, NoCoprocessor, Undefined}
 use Rattle.tz_table.specs.declared.instruction.Insn.{Insn}
-use Rattle.tz_table.specs.declared.instruction.Insn.TheVariants.{TestTarget, CallExchange}
+use Rattle.tz_table.specs.declared.instruction.Insn.TheVariants.{TestTarget}
 use Rattle.tz_model.specs.declared.report.Fault.{Fault}
 use Rattle.tz_model.specs.declared.report.Fault.TheVariants.{Undef, NoCp, Unaligned}
 use Rattle.tz_model.specs.declared.report.Outcome.{Outcome}
 use Rattle.tz_model.specs.declared.report.Outcome.TheVariants.{Next}
 use Rattle.tz_model.specs.declared.report.Store.{Store}
-use Rattle.tz_model.specs.Ports.{answers}
 use Rattle.tz_regs.specs.declared.parts.BusStatus.{BusStatus}
 use Rattle.tz_regs.specs.declared.parts.Core.{Core}
 use Rattle.tz_regs.specs.Special.{Named, named_of}
@@ -35,14 +34,14 @@ use Rattle.tz_sem.specs.System.{finish_system, clears_monitor, probe_of}
 use Rattle.tz_sem.specs.ItRules.{is_misplaced, is_passed_over, ignores_condition}
 use Rattle.tz_sem.specs.Exec.{Ported, ported, unless_refused, after_accesses, probed, cleared_by, Executed, alone, beside, through, Exclusivity, Free, Marks, Takes, exclusivity, marked_by, marked, loads_stores, stores_exclusive, exclusively, family_of, executed_by, executed}
 use Rattle.tz_sem.specs.declared.ending.Course.{Course}
-use Rattle.tz_sem.specs.Step.{is_call, executes, placed, decoded}
+use Rattle.tz_sem.specs.Step.{executes, placed, decoded}
+use Rattle.tz_sem.proofs.Kept.{executed_number, executed_call}
 use Rattle.tz_twin.proofs.Split.{Open, Rest, join_bus, join, Same}
 use Rattle.tz_twin.proofs.Both.{Both, both_cond}
 use Rattle.tz_twin.proofs.Registers.{Written, moved}
 use Rattle.tz_twin.proofs.Accesses.{SameAnswers, reached, rested, answers_same}
 use Rattle.tz_twin.proofs.Faults.{is_own, Own, OwnSome, own_answers, own_alu, own_refusal, own_load_store, own_branch, own_system}
-use Rattle.tz_twin.proofs.Numbers.{Numbered, executed_numbered}
-use Rattle.tz_twin.proofs.Leaving.{Leaves, Left, left_all, left_again, both_faults, both_fault, CallsNothing, Follows, goes_on_same, skips_same}
+use Rattle.tz_twin.proofs.Leaving.{Leaves, Left, left_all, left_again, both_faults, both_fault, CallsNone, Follows, goes_on_same, skips_same}
 
 -- what instructions left of twins: one open part, the same stores and outcome, and rests that are the same to
 -- Non-secure code; a fault of no Secure side
@@ -57,21 +56,16 @@ pub record Alike (o : Open) (x x' : Rest) (e e' : Executed) : Type 0 where
   pub own : Own e.outcome
   pub left : Left o x x' part rest rest'
 
--- an instruction that calls nothing
-CallsNone : Insn → Result Outcome Fault → Type 0
-CallsNone i (Ok outcome) = CallsNothing i outcome
-CallsNone i (Err fault) = Unit {0}
-
 -- the step goes on alike
-concluded : (o p : Open) (x x' y y' : Rest) (r : Registers) (before before' : Core) (course : Course) (code : Code) (i : Insn) (stores : List Store) (out : Result Outcome Fault) → Own out → CallsNone i out → Follows course r before before'
-    → Numbered out p.registers.ipsr o.registers.ipsr → Left o x x' p y y'
+concluded : (o p : Open) (x x' y y' : Rest) (r : Registers) (before before' : Core) (course : Course) (code : Code) (i : Insn) (stores : List Store) (out : Result Outcome Fault) → Own out → CallsNone out → Follows course r before before'
+    → p.registers.ipsr ≡ o.registers.ipsr → Left o x x' p y y'
     → Both (join o x) (join o x') (executes before course code i (record { state = join p y; stores = stores; outcome = out })) (executes before' course code i (record { state = join p y'; stores = stores; outcome = out }))
-unfolding Own CallsNone
+unfolding Own
 concluded o p x x' y y' r before before' course code i stores (Ok outcome) own calls f n h = goes_on_same o p x x' y y' r before before' course code i stores outcome calls f n h
 concluded o p x x' y y' r before before' course code i stores (Err fault) own calls f n h = both_faults o p x x' y y' course fault stores own h
 
-executes_same : (o : Open) (x x' : Rest) (r : Registers) (before before' : Core) (course : Course) (code : Code) (i : Insn) (e e' : Executed) → CallsNone i e.outcome → Follows course r before before'
-    → Numbered e.outcome e.state.core.registers.ipsr o.registers.ipsr → Alike o x x' e e'
+executes_same : (o : Open) (x x' : Rest) (r : Registers) (before before' : Core) (course : Course) (code : Code) (i : Insn) (e e' : Executed) → CallsNone e.outcome → Follows course r before before'
+    → e.state.core.registers.ipsr ≡ o.registers.ipsr → Alike o x x' e e'
     → Both (join o x) (join o x') (executes before course code i e) (executes before' course code i e')
 executes_same o x x' r before before' course code i e e' calls f n a =
     let here : e ≡ record { state = join a.part a.rest; stores = e.stores; outcome = e.outcome } =
@@ -81,7 +75,7 @@ executes_same o x x' r before before' course code i e e' calls f n a =
     subst (λ (y : Executed). Both (join o x) (join o x') (executes before course code i y) (executes before' course code i e')) (sym here)
     (subst (λ (y : Executed). Both (join o x) (join o x') (executes before course code i (record { state = join a.part a.rest; stores = e.stores; outcome = e.outcome })) (executes before' course code i y)) (sym there)
     (concluded o a.part x x' a.rest a.rest' r before before' course code i e.stores e.outcome a.own calls f
-    (subst (λ (s : State). Numbered e.outcome s.core.registers.ipsr o.registers.ipsr) a.state n) a.left))
+    (subst (λ (s : State). s.core.registers.ipsr ≡ o.registers.ipsr) a.state n) a.left))
 
 alike_cond : (o : Open) (x x' : Rest) (t : Bool) (e f e' f' : Executed) → Alike o x x' e e' → Alike o x x' f f' → Alike o x x' (cond t e f) (cond t e' f')
 alike_cond o x x' true e f e' f' p q = p
@@ -342,24 +336,19 @@ alike_family o x x' i System same = alike_system o x x' i same
 
 -- ---- what it calls
 
--- of Non-secure code BLXNS is undefined
-calls_none : (o : Open) (x : Rest) (i : Insn) → CallsNone i (executed (join o x) i).outcome
-unfolding CallsNone answers
-calls_none o x (CallExchange rm false) = λ e. absurd (cc)
-calls_none o x (CallExchange rm true) = tt
-calls_none o x i = nothing i refl where
-  nothing : (i : Insn) → is_call i ≡ false → CallsNone i (executed (join o x) i).outcome
-  nothing i e = of_outcome (executed (join o x) i).outcome where
-    of_outcome : (out : Result Outcome Fault) → CallsNone i out
-    of_outcome (Ok outcome) = λ h. e
-    of_outcome (Err fault) = tt
+apart : NonSecure ≡ Secure → ⊥
+apart e = cc
+
+-- only Secure code calls Non-secure code
+calls_none : (o : Open) (x : Rest) (i : Insn) → CallsNone (executed (join o x) i).outcome
+calls_none o x i to is = apart (executed_call (join o x) i to is).side
 
 placed_same : (o : Open) (x x' : Rest) (course : Course) (code : Code) (i : Insn) → course.touched ≡ false → Same o x x' → Both (join o x) (join o x') (placed (join o x) course code i) (placed (join o x') course code i)
 unfolding is_own
 placed_same o x x' course code i quiet same =
     both_cond _ _ (is_misplaced i o.registers) _ _ _ _ (both_fault o x x' course Undef refl same)
     (both_cond _ _ (is_passed_over o.registers && not (ignores_condition NonSecure i)) _ _ _ _ (skips_same o x x' course code same)
-    (executes_same o x x' o.registers (join o x).core (join o x').core course code i _ _ (calls_none o x i) (record { quiet = quiet; first = refl; second = refl }) (executed_numbered (join o x) i)
+    (executes_same o x x' o.registers (join o x).core (join o x').core course code i _ _ (calls_none o x i) (record { quiet = quiet; first = refl; second = refl }) (executed_number (join o x) i)
     (alike_family o x x' i (family_of i) same)))
 
 -- one that looked at nothing Secure where it was fetched

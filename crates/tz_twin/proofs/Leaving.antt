@@ -1,12 +1,12 @@
 -- How a step of Non-secure code goes on from what its instruction left: twins stay twins, both lock, or both looked at
 -- Secure state.
-use Rattle.std.proofs.Common.{◌≡◌, ℕ, ◌+◌, ◌%◌, ◌==◌, Bool, true, false, ◌&&◌, cond, List, [], Some, refl, sym, ap, ◌∙◌, subst, None}
+use Rattle.std.proofs.Common.{◌≡◌, ℕ, ◌+◌, ◌%◌, ◌==◌, Bool, true, false, ◌&&◌, cond, List, [], Some, None, Result, Ok, refl, sym, ap, ◌∙◌, subst}
 use Rattle.tz_table.specs.declared.units.Side.TheVariants.{NonSecure}
 use Rattle.tz_table.specs.declared.units.Code.{Code}
 use Rattle.tz_table.specs.declared.instruction.Insn.{Insn}
 use Rattle.tz_model.specs.declared.report.Fault.{Fault}
 use Rattle.tz_model.specs.declared.report.Outcome.{Outcome}
-use Rattle.tz_model.specs.declared.report.Outcome.TheVariants.{Next, Jump, Exchange, Sleep}
+use Rattle.tz_model.specs.declared.report.Outcome.TheVariants.{Next, Jump, Exchange, Call, Sleep}
 use Rattle.tz_model.specs.declared.report.Store.{Store}
 use Rattle.tz_model.specs.Words.{wrap, even_of}
 use Rattle.tz_regs.specs.declared.parts.Core.{Core}
@@ -22,13 +22,14 @@ use Rattle.tz_sem.specs.declared.ending.Course.{Course}
 use Rattle.tz_sem.specs.Ended.{Passed, Ended, with_stores}
 use Rattle.tz_sem.specs.Taking.{faults}
 use Rattle.tz_sem.specs.Exchange.{branch_ns, exchanged}
-use Rattle.tz_sem.specs.Step.{length_of, it_after, sleep_of, skips, is_call, exchanges, goes_on, faulting}
+use Rattle.tz_sem.specs.Step.{length_of, it_after, sleep_of, skips, goes_on, faulting}
+use Rattle.tz_sem.proofs.Kept.{WhereCalls}
 use Rattle.tz_twin.specs.Integrity.{KeepsBytes}
 use Rattle.tz_twin.proofs.Bytes.{SameOpen, keeps_nothing_changed}
 use Rattle.tz_twin.proofs.Split.{Open, Rest, open_map, join, Same, twins_join}
 use Rattle.tz_twin.proofs.Slots.{Quiet, quiet}
 use Rattle.tz_twin.proofs.Faults.{is_own}
-use Rattle.tz_twin.proofs.Both.{Kept, Both, Go, both_second}
+use Rattle.tz_twin.proofs.Both.{Kept, Both, Go}
 use Rattle.tz_twin.proofs.Passing.{faults_both, returns_both, comes_back_both}
 
 -- what a step of Non-secure code may leave of an open part and a rest: on the same board, with the Secure side kept
@@ -193,33 +194,19 @@ at_pc o p x x' y y' stores ending pc h =
 asleep_of : Bool → Open → Open
 asleep_of event p = record p { sleep = sleep_of event }
 
--- an exchange that is no call
-exchanges_same : (o p : Open) (x x' y y' : Rest) (r : Registers) (before before' : Core) (course : Course) (code : Code) (i : Insn) (stores : List Store) (target : ℕ) (ns : Bool) → is_call i ≡ false → Follows course r before before' → p.registers.ipsr ≡ o.registers.ipsr → Left o x x' p y y'
-    → Both (join o x) (join o x') (exchanges before i (join p y) course code stores target ns) (exchanges before' i (join p y') course code stores target ns)
-exchanges_same o p x x' y y' r before before' course code i stores target ns plain f n h =
-    both_second _ _ (is_call i) _ _ _ _ plain
-    (exchanged_same o p (past_of i p) x x' y y' r before before' course code stores target ns f n h (left_registers o p x x' y y' _ h))
-
-abbrev pub is_exchange : Outcome → Bool
-is_exchange (Exchange target ns) = true
-is_exchange outcome = false
-
--- where it exchanges, IPSR is as it was
-abbrev pub KeepsNumber : Outcome → ℕ → ℕ → Type 0
-KeepsNumber out new old = is_exchange out ≡ true → new ≡ old
-
 -- an instruction that calls nothing
-abbrev pub CallsNothing : Insn → Outcome → Type 0
-CallsNothing i out = is_exchange out ≡ true → is_call i ≡ false
+abbrev pub CallsNone : Result Outcome Fault → Type 0
+CallsNone out = WhereCalls out ⊥
 
-pub goes_on_same : (o p : Open) (x x' y y' : Rest) (r : Registers) (before before' : Core) (course : Course) (code : Code) (i : Insn) (stores : List Store) (out : Outcome) → CallsNothing i out → Follows course r before before' → KeepsNumber out p.registers.ipsr o.registers.ipsr → Left o x x' p y y'
+pub goes_on_same : (o p : Open) (x x' y y' : Rest) (r : Registers) (before before' : Core) (course : Course) (code : Code) (i : Insn) (stores : List Store) (out : Outcome) → CallsNone (Ok out) → Follows course r before before' → p.registers.ipsr ≡ o.registers.ipsr → Left o x x' p y y'
     → Both (join o x) (join o x') (goes_on before i (join p y) course code stores out) (goes_on before' i (join p y') course code stores out)
 unfolding asleep_of
 goes_on_same o p x x' y y' r before before' course code i stores Next calls f n h =
     at_pc o (past_of i p) x x' y y' stores _ (wrap (p.registers.pc + length_of code)) (left_registers o p x x' y y' _ h)
 goes_on_same o p x x' y y' r before before' course code i stores (Jump to) calls f n h = at_pc o (past_of i p) x x' y y' stores _ to (left_registers o p x x' y y' _ h)
 goes_on_same o p x x' y y' r before before' course code i stores (Exchange target ns) calls f n h =
-    exchanges_same o p x x' y y' r before before' course code i stores target ns (calls refl) f (n refl) h
+    exchanged_same o p (past_of i p) x x' y y' r before before' course code stores target ns f n h (left_registers o p x x' y y' _ h)
+goes_on_same o p x x' y y' r before before' course code i stores (Call target) calls f n h = absurd (calls target refl)
 goes_on_same o p x x' y y' r before before' course code i stores (Sleep event) calls f n h =
     at_pc o (asleep_of event (past_of i p)) x x' y y' stores _ (wrap (p.registers.pc + length_of code))
     (left_again o x x' p (asleep_of event (past_of i p)) y y' refl refl refl refl h)

@@ -23,7 +23,6 @@ pub mod Halting
 pub mod Keeping
 pub mod Passing
 pub mod Leaving
-pub mod Numbers
 pub mod Executing
 pub mod Fetching
 pub mod Entering

@@ -13,7 +13,7 @@ use Rattle.tz_table.specs.declared.instruction.Insn.{Insn}
 use Rattle.tz_model.specs.declared.report.Fault.{Fault}
 use Rattle.tz_model.specs.declared.report.Fault.TheVariants.{Undef, NoCp, InvState, StackLimit}
 use Rattle.tz_model.specs.declared.report.Outcome.{Outcome}
-use Rattle.tz_model.specs.declared.report.Outcome.TheVariants.{Next, Jump, Exchange, Sleep}
+use Rattle.tz_model.specs.declared.report.Outcome.TheVariants.{Next, Jump, Exchange, Call, Sleep}
 use Rattle.tz_model.specs.declared.report.Store.{Store}
 use Rattle.tz_model.specs.declared.fetch.Fetched.{Fetched}
 use Rattle.tz_model.specs.Words.{wrap, is_nonsecure_side}
@@ -57,7 +57,7 @@ use Rattle.tz_sem.specs.declared.ending.Cause.TheVariants.{Went, Returned}
 use Rattle.tz_sem.specs.declared.ending.Course.{Course}
 use Rattle.tz_sem.specs.Taking.{faults}
 use Rattle.tz_sem.specs.Exchange.{ran, branched, branch_ns, exchanged, through_port, called_with, calls}
-use Rattle.tz_sem.specs.Step.{length_of, with_it, past, skips, is_call, goes_on, concludes, executes, placed, decoded, fetched, fetcher_in, course_in, asleep, instructs, awake, without_event, takes_exception, idles, is_woken, by_sleep, stepped, ended}
+use Rattle.tz_sem.specs.Step.{length_of, with_it, past, skips, goes_on, concludes, executes, placed, decoded, fetched, fetcher_in, course_in, asleep, instructs, awake, without_event, takes_exception, idles, is_woken, by_sleep, stepped, ended}
 use Rattle.tz_twin.specs.Seen.{crossing, Seen}
 use Rattle.tz_twin.proofs.Split.{board_seen}
 use Rattle.tz_twin.proofs.After.{general_seen, after}
@@ -218,8 +218,9 @@ touching_goes_on : (s0 s : State) (before : Seen) (core : Core) (negative : Bool
 touching_goes_on s0 s before core negative code i stores Next starts e = stays s0 (with_pc (past i s) (wrap (s.core.registers.pc + length_of code))) before negative code stores e
 touching_goes_on s0 s before core negative code i stores (Jump to) starts e = stays s0 (with_pc (past i s) to) before negative code stores e
 touching_goes_on s0 s before core negative code i stores (Exchange target ns) starts e =
-    touching_cond s0 before (is_call i) _ _ (touching_calls s0 (secured s) before i negative code target (wrap (s.core.registers.pc + length_of code)) starts e)
-    (touching_exchanged s0 s (past i s) before core negative code stores target ns starts e e)
+    touching_exchanged s0 s (past i s) before core negative code stores target ns starts e e
+touching_goes_on s0 s before core negative code i stores (Call target) starts e =
+    touching_calls s0 (secured s) before i negative code target (wrap (s.core.registers.pc + length_of code)) starts e
 touching_goes_on s0 s before core negative code i stores (Sleep event) starts e =
     stays s0 (with_pc (asleep event (past i s)) (wrap (s.core.registers.pc + length_of code))) before negative code stores e
 

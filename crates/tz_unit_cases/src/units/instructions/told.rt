@@ -13,6 +13,7 @@ fn tell_going(case: &mut Case<'_>, outcome: &Result<Outcome, Fault>) {
         Ok(Outcome::Jump(target)) => ("jump ", *target),
         Ok(Outcome::Exchange { target, ns: false }) => ("exchange ", *target),
         Ok(Outcome::Exchange { target, ns: true }) => ("exchange ns ", *target),
+        Ok(Outcome::Call(target)) => ("call ns ", *target),
         Err(fault) => return tell_fault(case, fault),
     };
     case.tell(way);
