@@ -1,5 +1,5 @@
 -- Board files (own): the board that a file describes, or the first reason to refuse it.
-use Rattle.std.specs.Prelude.{ℕ, ℤ, pos, negsuc, ◌+◌, ◌-◌, ◌%◌, ◌==◌, nat_le, Bool, ◌&&◌, if◌then◌else◌, List, [], ◌∷◌, ◌++◌, length, codes, Option, Some, None, Result, Ok, Err}
+use Rattle.std.specs.Prelude.{ℕ, ℤ, pos, negsuc, ◌+◌, ◌-◌, ◌%◌, ◌==◌, nat_le, Bool, false, ◌&&◌, if◌then◌else◌, List, [], ◌∷◌, ◌++◌, length, codes, Option, Some, None, Result, Ok, Err}
 use Rattle.std.specs.Str.{bytes_eq, is_utf8}
 use Rattle.toml.specs.Data.{Data, Items, no_items, item, Members, as_array, as_bool, as_integer, as_str, as_table, get_member}
 use Rattle.toml.specs.Parse.{parse_document}

@@ -7,7 +7,7 @@ use Rattle.tz_board.proofs.board.board_within.Goals as goal
 pub invariant_of-result : goal.invariant_of-result
 invariant_of-result c =
     let n = c.requires.numbers in
-    let small : is_small (board_with (numbers_of c.args.numbers) c.args.profile c.args.regions.items c.args.sau.items) ≡ true =
+    let small : is_small (board_with (numbers_of c.args.numbers) c.args.profile c.args.mover c.args.regions.items c.args.sau.items) ≡ true =
     sym (rw (c.deref.ensures.value, c.deref-2.ensures.value) at c.if-not-is_small.ensures) in
     let apart : first_overlap [] c.args.regions.items ≡ None =
     ap (first_overlap []) (sym c.deref-3.ensures.value) ∙ sym c.in_default.ensures in
