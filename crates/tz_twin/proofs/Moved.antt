@@ -9,8 +9,8 @@ use Rattle.tz_model.specs.declared.report.Store.{Store}
 use Rattle.tz_state.specs.Memory.{every, word_at, with_word}
 use Rattle.tz_state.specs.Slots.{ExceptionsValue}
 use Rattle.tz_state.specs.State.{Bus, State}
-use Rattle.tz_state.specs.Moves.{goes, moves_word, Moving, channel_of, moved_by, moved, all_moved, moving_in, moves_of, after_moves}
-use Rattle.tz_twin.specs.Writing.{are_beside, channel_stores, move_stores, MovesTold}
+use Rattle.tz_state.specs.Moves.{goes, moves_word, Moving, channel_of, moved_by, moved, all_moved, moving_in, moves_of}
+use Rattle.tz_twin.specs.Writing.{are_beside, channel_stores, MovesTold}
 use Rattle.tz_twin.proofs.Bytes.{and_first, and_second}
 use Rattle.tz_twin.proofs.Noted.{word_beside}
 

@@ -1,11 +1,10 @@
 -- Moves at the beginning of a step of Non-secure code: of twins they leave twins, and they keep the Secure side.
-use Rattle.std.proofs.Common.{◌≡◌, ℕ, ◌+◌, Bool, true, false, ◌&&◌, not, cond, List, refl, sym, ap, ◌∙◌, subst}
+use Rattle.std.proofs.Common.{◌≡◌, ℕ, ◌+◌, Bool, true, false, ◌&&◌, not, cond, refl, subst}
 use Rattle.std.specs.Prelude.{slice_set}
 use Rattle.tz_table.specs.declared.units.Side.TheVariants.{NonSecure}
 use Rattle.tz_table.specs.declared.units.Size.TheVariants.{Word}
 use Rattle.tz_model.specs.declared.channel.Channel.{Channel}
-use Rattle.tz_state.specs.declared.slot.SlotState.{SlotState}
-use Rattle.tz_state.specs.Memory.{Memory, every, word_at, with_word}
+use Rattle.tz_state.specs.Memory.{every, word_at, with_word}
 use Rattle.tz_state.specs.Attribution.{is_open}
 use Rattle.tz_state.specs.Slots.{ExceptionsValue, at, first_interrupt_place}
 use Rattle.tz_state.specs.State.{Bus, State, map_in}

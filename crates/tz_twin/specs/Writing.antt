@@ -1,5 +1,6 @@
--- What a step may write: the words that channels of the mover move, the bytes of the stores of its instruction and, where an exception is taken or returns or the
--- machine locks, bytes of frames, which lie at the stack pointers of the side that ran; with what stands beside memory.
+-- What a step may write: the words that channels of the mover move, the bytes of the stores of its instruction and, where
+-- an exception is taken or returns or the machine locks, bytes of frames, which lie at the stack pointers of the side that
+-- ran; with what stands beside memory.
 use Rattle.std.specs.Prelude.{◌≡◌, ℕ, ◌+◌, ◌-◌, ◌^◌, ◌==◌, nat_lt, Bool, true, false, ◌&&◌, ◌||◌, not, if◌then◌else◌, List, [], ◌∷◌, ◌++◌}
 use Rattle.std.specs.FinMap.{get}
 use Rattle.tz_table.specs.declared.units.Side.{Side}
