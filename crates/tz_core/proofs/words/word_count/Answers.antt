@@ -11,7 +11,7 @@ overflow_add-memory c =
     let small : bytes_of c.deref-region-items.result.now ≤ 4194304 = grind (arith, nat_tests, c.deref-region-items.ensures.value, c.board.invariant.small) in
     omega (arith, c.loop-region.invariant, memory_next c.deref-region-items.result.now c.loop-region.region-index (record { base = 0; size = 0; kind = Rom; side = Secure }) c.loop-region-test.true small)
 
-pub overflow_add-result-2 : goal.overflow_add-result-2
-overflow_add-result-2 c =
+pub overflow_add-result-3 : goal.overflow_add-result-3
+overflow_add-result-3 c =
     let small : bytes_of c.deref-region-items.result.now ≤ 4194304 = grind (arith, nat_tests, c.deref-region-items.ensures.value, c.board.invariant.small) in
-    omega (arith, c.loop-region.invariant, memory_whole c.deref-region-items.result.now c.loop-region.region-index small, c.field_count.ensures.few, c.slot_count.ensures.few)
+    omega (arith, c.loop-region.invariant, memory_whole c.deref-region-items.result.now c.loop-region.region-index small, c.field_count.ensures.few, c.slot_count.ensures.few, c.channel_count.ensures.few)
