@@ -1,6 +1,6 @@
 //! What a step begins with, and sleep.
 
-ghost use Rattle.std.specs.Prelude.{◌≡◌, ◌<◌, ◌≤◌};
+ghost use Rattle.std.specs.Prelude.{◌≡◌, ◌<◌, ◌≤◌, true, false};
 ghost use Rattle.tz_access.specs.Written.{before_stores, noted_count};
 ghost use Rattle.tz_state.specs.Execution as told;
 ghost use Rattle.tz_state.specs.Moves.{no_moves};
