@@ -1,5 +1,5 @@
 -- The names of the system registers (DDI0553, chapter D1.2), and what an address in the private space is called.
-use Rattle.std.specs.Prelude.{ℕ, ◌==◌, Bool, if◌then◌else◌, List, [], ◌++◌, codes, decimal, Option, Some, None}
+use Rattle.std.specs.Prelude.{ℕ, ◌==◌, Bool, true, if◌then◌else◌, List, [], ◌++◌, codes, decimal, Option, Some, None}
 use Rattle.tz_model.specs.AddressMap.{scs_first, scs_last, scs_ns_first, scs_ns_last}
 use Rattle.tz_model.specs.Board.{within}
 use Rattle.tz_state.specs.declared.register.Register.{Register}
@@ -93,11 +93,15 @@ register_name (Mover r) = mover_name r
 register_name (Mpu r) = mpu_name r
 register_name (Sau r) = sau_name r
 
--- a register by its name, and what stands behind it; those of the mover are there where the board has one
+-- a register is there: those of the mover where the board has one
+abbrev pub is_there : Bool → Register → Bool
+is_there mover (Mover r) = mover
+is_there mover register = true
+
+-- a register by its name, and what stands behind it
 abbrev pub named : Bool → Option Register → List ℕ → List ℕ
 named mover None suffix = codes "reserved"
-named mover (Some (Mover r)) suffix = if mover then mover_name r ++ suffix else codes "reserved"
-named mover (Some register) suffix = register_name register ++ suffix
+named mover (Some register) suffix = if is_there mover register then register_name register ++ suffix else codes "reserved"
 
 -- the register whose word holds an address, with _NS where the alias of the Non-secure view has it
 unfoldable pub name_at : Bool → ℕ → List ℕ

@@ -1,7 +1,7 @@
 //! What the mover moved at the beginning of a step (own): a word from one address to another, or that it couldn't; that a
 //! channel is done; and the interrupt that it pends.
 
-ghost use Rattle.std.specs.Prelude.{◌≡◌, ◌≤◌, ◌+◌, ◌++◌, length};
+ghost use Rattle.std.specs.Prelude.{◌≡◌, ◌≤◌, ◌+◌, ◌*◌, ◌++◌, length};
 ghost use Rattle.arrayvec.specs.ArrayString.{array_string_len};
 ghost use Rattle.tz_full.specs.MoveLines.{is_moved, is_failed, places_text, move_line, end_line, irq_line, move_lines, side_lines, moves_text};
 

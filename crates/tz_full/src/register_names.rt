@@ -1,9 +1,9 @@
 //! The names of the system registers (DDI0553, chapter D1.2), and what an address in the private space is called.
 
-ghost use Rattle.std.specs.Prelude.{◌≡◌, ◌≤◌, ◌+◌, ◌++◌, decimal, length};
+ghost use Rattle.std.specs.Prelude.{◌≡◌, ◌≤◌, ◌+◌, ◌++◌, Some, decimal, length};
 ghost use Rattle.arrayvec.specs.ArrayString.{array_string_len};
 ghost use Rattle.tz_state.specs.RegisterTable.{register_at};
-ghost use Rattle.tz_full.specs.RegisterNames.{timer_name, bank_name, control_name, fault_name, mover_name, mpu_name, sau_name, register_name, named, name_at};
+ghost use Rattle.tz_full.specs.RegisterNames.{timer_name, bank_name, control_name, fault_name, mover_name, mpu_name, sau_name, register_name, is_there, named, name_at};
 
 use crate::text::Text;
 use tz_model::address_map::{SCS_FIRST, SCS_LAST, SCS_NS_FIRST, SCS_NS_LAST};
@@ -148,8 +148,31 @@ fn push_register_name(text: &mut Text, register: Register)
     }
 }
 
-/// The name of the register whose word has an offset, and what stands behind it. Those of the mover are there where the board
-/// has one.
+/// Whether a register is there: those of the mover where the board has one.
+fn is_there(mover: bool, register: Register) -> bool
+    ensures { result ≡ is_there mover register }
+{
+    match register {
+        Register::Mover(_) => mover,
+        _ => true,
+    }
+}
+
+/// The name of a register that is there, and what stands behind it.
+fn push_named(text: &mut Text, mover: bool, register: Register, suffix: &str)
+    requires { array_string_len text.old + 19 + length suffix.now ≤ 4096 }
+    ensures bytes { text.new.bytes ≡ text.old.bytes ++ named mover (Some register) suffix.now }
+    ensures len { array_string_len text.new ≤ array_string_len text.old + 19 + length suffix.now }
+{
+    if is_there(mover, register) {
+        push_register_name(text, register);
+        text.push_str(suffix);
+    } else {
+        text.push_str("reserved");
+    }
+}
+
+/// The name of the register whose word has an offset, and what stands behind it.
 fn push_at_offset(text: &mut Text, mover: bool, offset: u32, suffix: &str)
     requires { array_string_len text.old + 19 + length suffix.now ≤ 4096 }
     ensures bytes { text.new.bytes ≡ text.old.bytes ++ named mover (register_at offset) suffix.now }
@@ -157,11 +180,7 @@ fn push_at_offset(text: &mut Text, mover: bool, offset: u32, suffix: &str)
 {
     match register_at(offset) {
         None => text.push_str("reserved"),
-        Some(Register::Mover(_)) if !mover => text.push_str("reserved"),
-        Some(register) => {
-            push_register_name(text, register);
-            text.push_str(suffix);
-        }
+        Some(register) => push_named(text, mover, register, suffix),
     }
 }
 
