@@ -1,5 +1,6 @@
 mod Alone
 mod Blank
+mod Exchanging
 mod Indexed
 mod Named
 mod Order

@@ -3,3 +3,4 @@ pub mod Fields
 pub mod StateWords
 pub mod ReadWords
 pub mod Undo
+pub mod Loading

@@ -7,6 +7,7 @@
 
 mod asking;
 mod changes;
+mod concluding;
 mod ending;
 mod exchange;
 mod exclusive;

@@ -4,7 +4,7 @@ ghost use Rattle.std.specs.Prelude.{◌≡◌, ◌≤◌, ◌+◌};
 ghost use Rattle.arrayvec.specs.ArrayVec.{array_vec_len};
 ghost use Rattle.tz_model.specs.Words.{wrap};
 ghost use Rattle.tz_model.specs.Codes.{second_of};
-ghost use Rattle.tz_sem.specs.Step.{length_of, sleep_of};
+ghost use Rattle.tz_sem.specs.Step.{length_of};
 ghost use Rattle.tz_state.specs.Due.{begun};
 ghost use Rattle.tz_state.specs.Moves.{moves_of, no_moves};
 ghost use Rattle.tz_state.specs.State.{with_exceptions};
@@ -12,6 +12,7 @@ ghost use Rattle.tz_access.specs.Written.{before_stores, noted_count};
 
 use crate::changes::Stores;
 use crate::ending::{Close, Passage, changes_handler, ending_of};
+use crate::concluding::loads_pc;
 use crate::exchange::ran_by;
 use crate::it_rules::{ignores_condition, is_misplaced, is_passed_over};
 use crate::noting::pends_next;
@@ -69,20 +70,13 @@ fn second_of(code: &Code) -> u16
     code.second.unwrap_or(0)
 }
 
-/// What a core waits for: an event, or an interrupt.
-fn sleep_of(event: bool) -> Sleep
-    ensures { result ≡ sleep_of event }
-{
-    if event { Sleep::Wfe } else { Sleep::Wfi }
-}
-
 impl Machine {
     ghost use Rattle.std.specs.Prelude.{[], None, true, if◌then◌else◌};
     ghost use Rattle.tz_regs.specs.Banks.{channels_of};
     ghost use Rattle.tz_state.specs.State.{side_of, priority_in, is_negative_at};
     ghost use Rattle.tz_sem.specs.Exec.{executed};
     ghost use Rattle.tz_model.specs.Codes.{meaning_of};
-    ghost use Rattle.tz_sem.specs.Step.{past, goes_next, skips, goes_on, concludes, executes, faulting, placed, decoded, runs_gateway, touches_secure, unready, course_in, instructs, idles, by_sleep, takes_exception, started, ended, step};
+    ghost use Rattle.tz_sem.specs.Step.{past, goes_next, skips, executes, faulting, placed, decoded, runs_gateway, touches_secure, unready, course_in, instructs, idles, by_sleep, takes_exception, started, ended, step};
     ghost use Rattle.tz_sem.specs.Account.{account};
     ghost use Rattle.tz_core.specs.Closing.{ending_of};
     ghost use Rattle.tz_twin.specs.Integrity.{LeavesSecure, EntersSecure};
@@ -148,74 +142,12 @@ impl Machine {
     }
 
     /// Goes on to the next instruction.
-    fn go_next(&mut self, course: Course, code: &Code) -> Close
+    pub(crate) fn go_next(&mut self, course: Course, code: &Code) -> Close
         ensures does { goes_next self.old course code.now ≡ record { state = self.new; ending = ending_of result None } }
         ensures kept { self.new.bus.memory ≡ self.old.bus.memory }
     {
         self.core.registers.pc = next_of(self.core.registers.pc, code);
         ran_by(Cause::Went, course, code)
-    }
-
-    /// Goes on after an instruction.
-    fn go_on(
-        &mut self,
-        insn: &Insn,
-        before: &Core,
-        course: Course,
-        code: &Code,
-        outcome: Outcome,
-        stores: &mut Stores,
-        noted: &mut Option<Handling>,
-        written: &mut Option<Written>,
-    ) -> Close
-        requires unnoted { noted.old ≡ None }
-        requires few { noted_count written.old ≤ 16 }
-        ensures does { goes_on before.now insn.now self.old course code.now stores.old.items outcome ≡ record { state = self.new; stores = stores.new.items; ending = ending_of result noted.new } }
-        ensures back { before_stores written.new self.new.bus.memory ≡ before_stores written.old self.old.bus.memory }
-    {
-        match outcome {
-            Outcome::Next => {
-                self.pass(insn);
-                self.go_next(course, code)
-            }
-            Outcome::Sleep { event } => {
-                self.pass(insn);
-                self.core.run.sleep = sleep_of(event);
-                self.go_next(course, code)
-            }
-            Outcome::Jump(to) => {
-                self.pass(insn);
-                self.core.registers.pc = to;
-                ran_by(Cause::Went, course, code)
-            }
-            Outcome::Exchange { target, ns } => {
-                self.exchange(insn, before, course, code, target, ns, noted, written)
-            }
-            Outcome::Call(target) => self.call(insn, course, code, target, stores, noted, written),
-        }
-    }
-
-    /// Goes on after an instruction, or faults.
-    fn conclude(
-        &mut self,
-        insn: &Insn,
-        before: &Core,
-        course: Course,
-        code: &Code,
-        outcome: Result<Outcome, Fault>,
-        stores: &mut Stores,
-        noted: &mut Option<Handling>,
-        written: &mut Option<Written>,
-    ) -> Close
-        requires unnoted { noted.old ≡ None }
-        requires few { noted_count written.old ≤ 16 }
-        ensures does { concludes before.now insn.now self.old course code.now stores.old.items outcome ≡ record { state = self.new; stores = stores.new.items; ending = ending_of result noted.new } }
-        ensures back { before_stores written.new self.new.bus.memory ≡ before_stores written.old self.old.bus.memory }
-    {
-        match outcome {
-            Ok(outcome) => self.go_on(insn, before, course, code, outcome, stores, noted, written),
-            Err(fault) => self.fault(course, fault, noted, written),
-        }
     }
 
     /// SG, reached from Non-secure state.
@@ -254,9 +186,11 @@ impl Machine {
         ensures does { executes self.old.core course code.now insn.now (executed self.old insn.now) ≡ record { state = self.new; stores = stores.new.items; ending = ending_of result noted.new } }
         ensures back { before_stores written.new self.new.bus.memory ≡ before_stores written.old self.old.bus.memory }
     {
-        let before = self.core;
+        if loads_pc(insn) {
+            return self.load_pc(insn, code, course, stores, noted, written);
+        }
         let outcome = self.execute(insn, course.negative, stores, written);
-        self.conclude(insn, &before, course, code, outcome, stores, noted, written)
+        self.conclude(insn, course, code, outcome, stores, noted, written)
     }
 
     /// Runs an instruction, unless it may not stand where it does, or its condition fails.
