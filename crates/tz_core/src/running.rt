@@ -11,8 +11,8 @@ ghost use Rattle.tz_state.specs.State.{with_exceptions};
 ghost use Rattle.tz_access.specs.Written.{before_stores, noted_count};
 
 use crate::changes::Stores;
-use crate::ending::{Close, Passage, changes_handler, ending_of};
 use crate::concluding::loads_pc;
+use crate::ending::{Close, Passage, changes_handler, ending_of};
 use crate::exchange::ran_by;
 use crate::it_rules::{ignores_condition, is_misplaced, is_passed_over};
 use crate::noting::pends_next;
