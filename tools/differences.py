@@ -177,6 +177,14 @@ INTERRUPTED = Told(
     "work in Secure memory, on the stack, and store to the caller's memory once it is decided what the caller is to "
     "have",
 )
+# Of a byte that no store of the runs tells, on a board with a mover.
+MOVED = Told(
+    WHATS["bytes"].meaning,
+    "a word that depends on the secret stands in Non-secure memory for some steps, and the Non-secure channel of the "
+    "mover has moved it on meanwhile, masks or not. Or the Secure channel moves such a word there",
+    "work in Secure memory, and store to the caller's memory once it is decided what the caller is to have; have the "
+    "Secure channel move that alone",
+)
 MASKS = r" cpsi[de] | msr (primask|basepri|basepri_max|faultmask)(_ns)?,"
 # What writes a part of the public state: instructions of Secure code, and addresses of its stores.
 WRITERS = {
