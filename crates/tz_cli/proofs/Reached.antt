@@ -5,20 +5,20 @@ use Rattle.std.proofs.lemmas.Bool.{and_parts}
 use Rattle.tz_table.specs.declared.units.Side.{Side}
 use Rattle.tz_model.specs.Board.{BoardValue}
 use Rattle.tz_model.specs.Outside.{Held, Absent}
-use Rattle.tz_cli.specs.StartWords.{StartWords, start_names}
-use Rattle.tz_cli.specs.Run.{start_of}
-use Rattle.tz_cli.specs.ShowWords.{SavedWords, saved_names}
-use Rattle.tz_cli.specs.Resume.{ResumeWords, resume_names}
-use Rattle.tz_cli.specs.Pair.{PairWords, pair_names}
-use Rattle.tz_cli.specs.Asm.{AsmWords, asm_names}
-use Rattle.tz_cli.specs.Dis.{DisWords, dis_names}
-use Rattle.tz_cli.specs.Commands.{Command, Run, RunFull, Pair, Asm, Dis, Gates, Snap, Show, ShowSaved, Resume, Back, Gen, longest, names_of}
-use Rattle.tz_cli.specs.Told.{Stop, TooManySteps, TooManyBack, Unread, Told, Unknown, Stops, Gives, told_then, is_demo, is_none_script, board_told, board_file, image_told, state_told, script_told, script_file, source_told, step_limit, back_limit}
-use Rattle.tz_cli.specs.Reads.{Reading, Settled, goes_on, read_where, no_files, one_file, and_file, settling, within_limit, within_back, IsOneOf}
-use Rattle.tz_cli.specs.declared.words.asm.Form.{Form as AsmForm}
-use Rattle.tz_cli.specs.Starts.{board_files, source_files, start_files, saved_files, shown_files, pair_start_files, listed_files}
+use Rattle.tz_words.specs.StartWords.{StartWords, start_names}
+use Rattle.tz_words.specs.Run.{start_of}
+use Rattle.tz_words.specs.ShowWords.{SavedWords, saved_names}
+use Rattle.tz_words.specs.Resume.{ResumeWords, resume_names}
+use Rattle.tz_words.specs.Pair.{PairWords, pair_names}
+use Rattle.tz_words.specs.Asm.{AsmWords, asm_names}
+use Rattle.tz_words.specs.Dis.{DisWords, dis_names}
+use Rattle.tz_words.specs.Commands.{Command, Run, RunFull, Pair, Asm, Dis, Gates, Snap, Show, ShowSaved, Resume, Back, Gen, longest, names_of}
+use Rattle.tz_files.specs.Told.{Stop, TooManySteps, TooManyBack, Unread, Told, Unknown, Stops, Gives, told_then, is_demo, is_none_script, board_told, board_file, image_told, state_told, script_told, script_file, source_told, step_limit, back_limit}
+use Rattle.tz_files.specs.Reads.{Reading, Settled, goes_on, read_where, no_files, one_file, and_file, settling, within_limit, within_back, IsOneOf}
+use Rattle.tz_words.specs.declared.asm.Form.{Form as AsmForm}
+use Rattle.tz_files.specs.Starts.{board_files, source_files, start_files, saved_files, shown_files, pair_start_files, listed_files}
 use Rattle.tz_cli.specs.Tasks.{told, reads_of, files_of}
-use Rattle.tz_cli.proofs.Settling.{by_part, read_where_is}
+use Rattle.tz_files.proofs.Settling.{by_part, read_where_is}
 
 -- ---- no value is settled
 

@@ -14,10 +14,10 @@ use Rattle.tz_model.specs.Outside.{Held}
 use Rattle.tz_board.specs.Boards.{Read, Place, Top, InRegion, ◌>>=◌, required, found_at, of_kind, in_range, bounded_number_at, kind_at, side_at, region_in, tables_in, some_table, each, regions_listed, regions_at, sau_at, numbers_at, Numbers, profile_at, first_overlap, is_small, without_overlap, within_limits, board_with, board_in, document_of, documented, board_of}
 use Rattle.tz_board.specs.Boards as keys
 use Rattle.tz_board.specs.Demo.{demo}
-use Rattle.tz_cli.specs.StartWords.{StartWords}
-use Rattle.tz_cli.specs.Told.{Told, Unknown, Stops, Gives, TooManySteps, BadBoard, told_then, graded, is_demo, board_file, board_told, board_limit, file_with, step_limit}
-use Rattle.tz_cli.specs.Reads.{Settled}
-use Rattle.tz_cli.specs.Starts.{Start, board_files, secure_files, nonsecure_files, start_files}
+use Rattle.tz_words.specs.StartWords.{StartWords}
+use Rattle.tz_files.specs.Told.{Told, Unknown, Stops, Gives, TooManySteps, BadBoard, told_then, graded, is_demo, board_file, board_told, board_limit, file_with, step_limit}
+use Rattle.tz_files.specs.Reads.{Settled}
+use Rattle.tz_files.specs.Starts.{Start, board_files, secure_files, nonsecure_files, start_files}
 use Rattle.tz_cli.specs.Tasks.{begin_told}
 
 -- ---- what is read of a file, where something is read
