@@ -19,7 +19,8 @@ use Rattle.tz_files.specs.Lines.{stop_line, status_of}
 use Rattle.tz_files.specs.Allowed.{Allows, AllowsStop, Shelved}
 use Rattle.tz_files.specs.LineTold.{GainsFront, Exceeds}
 use Rattle.tz_cli.specs.Answer.{IsUnread, IsCaused, IsLine, Call, told_of, Answer, Done, Broken, Stopped, Wanting, Silent, Excused, IsText, IsRefusedBy, NamesUnread, CutsLine, IsStatus}
-use Rattle.tz_cli.proofs.Reached.{absent_task, never_gives}
+use Rattle.tz_files.proofs.Sure.{never_gives}
+use Rattle.tz_cli.proofs.Reached.{absent_task}
 
 -- ---- statuses
 

@@ -1,7 +1,6 @@
 pub mod Differences
 pub mod Clauses
 pub mod PairClauses
-pub mod Regions
 pub mod RunClauses
 pub mod Histories
 pub mod Exits

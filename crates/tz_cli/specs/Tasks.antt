@@ -27,18 +27,11 @@ use Rattle.tz_words.specs.declared.generated.GenWords.{GenWords}
 use Rattle.tz_words.specs.Commands.{Command, Run, RunFull, Pair, Asm, Dis, Gates, Snap, Show, ShowSaved, Resume, Back, Gen}
 use Rattle.tz_files.specs.Told.{BadWords, TooFar, Told, Stops, Gives, step_limit}
 use Rattle.tz_files.specs.Reads.{Reading, Settled, no_files, settling, within_limit, within_back}
-use Rattle.tz_files.specs.Starts.{Start, PairStart, SavedStart, start_files, state_of, pair_start_files, first_state, second_state, saved_files, shown_files, source_files, listed_files}
+use Rattle.tz_files.specs.Starts.{Start, PairStart, SavedStart, start_files, state_of, pair_start_files, first_state, second_state, saved_files, shown_files, source_files, listed_files, begin_files}
 use Rattle.tz_words.specs.declared.start.Work.{Work}
 use Rattle.tz_words.specs.declared.start.Work.TheVariants as works
 
 -- ---- runs
-
--- what begins a run: the limit of steps is tested before any file is read
-abbrev pub begin_files : (List ℕ → Held) → StartWords → Settled Start
-begin_files held s = within_limit s.steps (start_files held s)
-
-abbrev pub begin_told : (List ℕ → Held) → StartWords → Told Start
-begin_told held s = (begin_files held s).told
 
 -- a run with what it begins with
 pub record Job : Type 0 where

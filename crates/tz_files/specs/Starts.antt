@@ -15,8 +15,8 @@ use Rattle.tz_words.specs.Pair.{PairWords}
 use Rattle.tz_words.specs.Dis.{DisWords}
 use Rattle.tz_words.specs.Resume.{ResumeWords}
 use Rattle.tz_words.specs.declared.asm.Form.{Form}
-use Rattle.tz_files.specs.Told.{is_demo, is_none_script, board_told, image_told, state_told, script_told, source_told}
-use Rattle.tz_files.specs.Reads.{AsBoard, AsImage, AsState, AsScript, AsSource, Settled, one_file, and_file}
+use Rattle.tz_files.specs.Told.{Told, is_demo, is_none_script, board_told, image_told, state_told, script_told, source_told}
+use Rattle.tz_files.specs.Reads.{AsBoard, AsImage, AsState, AsScript, AsSource, Settled, one_file, and_file, within_limit}
 
 -- ---- one file
 
@@ -63,6 +63,13 @@ abbrev pub start_files : (List ℕ → Held) → StartWords → Settled Start
 start_files held w =
     and_file (nonsecure_files held w) (not (is_none_script w.script)) (record { name = w.script; form = AsScript }) (λ s. script_told held s.board.interrupts w.script)
     (λ s events. record s { script = events })
+
+-- what begins a run: the limit of steps is tested before any file is read
+abbrev pub begin_files : (List ℕ → Held) → StartWords → Settled Start
+begin_files held s = within_limit s.steps (start_files held s)
+
+abbrev pub begin_told : (List ℕ → Held) → StartWords → Told Start
+begin_told held s = (begin_files held s).told
 
 -- the machine, as it starts
 abbrev pub state_of : Start → State

@@ -17,8 +17,7 @@ use Rattle.tz_board.specs.Demo.{demo}
 use Rattle.tz_words.specs.StartWords.{StartWords}
 use Rattle.tz_files.specs.Told.{Told, Unknown, Stops, Gives, TooManySteps, BadBoard, told_then, graded, is_demo, board_file, board_told, board_limit, file_with, step_limit}
 use Rattle.tz_files.specs.Reads.{Settled}
-use Rattle.tz_files.specs.Starts.{Start, board_files, secure_files, nonsecure_files, start_files}
-use Rattle.tz_cli.specs.Tasks.{begin_told}
+use Rattle.tz_files.specs.Starts.{Start, board_files, secure_files, nonsecure_files, start_files, begin_told}
 
 -- ---- what is read of a file, where something is read
 
