@@ -1,10 +1,12 @@
 -- The answers of a call with what the outside had before and after it.
-use Rattle.std.specs.Prelude.{◌≡◌, ◌⊎◌, ℕ, ◌+◌, ◌≤◌, Bool, List, [], ◌++◌, length, codes, Option, Some, None, IsTrue, IfSome}
+use Rattle.std.specs.Prelude.{◌≡◌, ◌⊎◌, ℕ, ◌+◌, Bool, List, [], length, codes, Option, Some, None, IsTrue}
 use Rattle.tz_model.specs.Outside.{Held, Absent, Rose, Gains}
 use Rattle.tz_words.specs.Commands.{Command, command_of, longest, names_of}
 use Rattle.tz_files.specs.Told.{Stop, BadWords, TooManySteps, TooManyBack, Unread, TooLong, BadBoard, BadImage, BadState, BadScript, BadSource, TooFar, Told, Unknown, Stops, Gives}
 use Rattle.tz_files.specs.Reads.{Reading, Form, IsOneOf, TellsOf}
 use Rattle.tz_cli.specs.Tasks.{Task, told, reads_of, IsDone}
+use Rattle.tz_files.specs.Allowed.{Allows, AllowsStop, Shelved}
+use Rattle.tz_files.specs.LineTold.{GainsFront, Exceeds}
 use Rattle.tz_files.specs.Lines.{stop_line, status_of, unread_line}
 
 -- ---- the causes of stops
