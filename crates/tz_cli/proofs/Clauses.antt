@@ -9,15 +9,18 @@ use Rattle.tz_twin.specs.Seen.{Agree}
 use Rattle.tz_twin.specs.Trace.{text_from}
 use Rattle.tz_run.specs.Events.{events_of}
 use Rattle.tz_twin.proofs.TwoRuns.{isolated}
-use Rattle.tz_cli.specs.Run.{RunWords}
-use Rattle.tz_cli.specs.Commands.{Command, Run, RunFull, Pair, Asm, Dis, Gates, Snap, Show, ShowSaved, Resume, Back, Gen, command_of}
-use Rattle.tz_cli.specs.Told.{Stop, BadWords, TooManySteps, TooManyBack, Unread, TooLong, BadBoard, BadImage, BadState, BadScript, BadSource, TooFar, Told, Unknown, Stops, Gives, told_then}
-use Rattle.tz_cli.specs.Reads.{TellsOf}
-use Rattle.tz_cli.specs.Starts.{state_of}
+use Rattle.tz_words.specs.Run.{RunWords}
+use Rattle.tz_words.specs.Commands.{Command, Run, RunFull, Pair, Asm, Dis, Gates, Snap, Show, ShowSaved, Resume, Back, Gen, command_of}
+use Rattle.tz_files.specs.Told.{Stop, BadWords, TooManySteps, TooManyBack, Unread, TooLong, BadBoard, BadImage, BadState, BadScript, BadSource, TooFar, Told, Unknown, Stops, Gives, told_then}
+use Rattle.tz_files.specs.Reads.{TellsOf}
+use Rattle.tz_files.specs.Starts.{state_of}
 use Rattle.tz_cli.specs.Tasks.{Job, Task, run_task, told, reads_of, IsDone, job_told, trace_of}
-use Rattle.tz_cli.specs.Lines.{stop_line, status_of}
-use Rattle.tz_cli.specs.Answer.{Allows, AllowsStop, Shelved, IsUnread, IsCaused, IsLine, Call, told_of, GainsFront, Exceeds, Answer, Done, Broken, Stopped, Wanting, Silent, Excused, IsText, IsRefusedBy, NamesUnread, CutsLine, IsStatus}
-use Rattle.tz_cli.proofs.Reached.{absent_task, never_gives}
+use Rattle.tz_files.specs.Lines.{stop_line, status_of}
+use Rattle.tz_files.specs.Allowed.{Allows, AllowsStop, Shelved}
+use Rattle.tz_files.specs.LineTold.{GainsFront, Exceeds}
+use Rattle.tz_cli.specs.Answer.{IsUnread, IsCaused, IsLine, Call, told_of, Answer, Done, Broken, Stopped, Wanting, Silent, Excused, IsText, IsRefusedBy, NamesUnread, CutsLine, IsStatus}
+use Rattle.tz_files.proofs.Sure.{never_gives}
+use Rattle.tz_cli.proofs.Reached.{absent_task}
 
 -- ---- statuses
 

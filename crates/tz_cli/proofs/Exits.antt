@@ -9,28 +9,30 @@ use Rattle.tz_board.specs.ScriptErrors.{script_refusal_of}
 use Rattle.tz_sem.specs.Run.{Events}
 use Rattle.tz_iso.specs.declared.answer.What.{What}
 use Rattle.tz_iso.specs.Runs.{PairValue, difference}
-use Rattle.tz_cli.specs.StartWords.{StartWords}
-use Rattle.tz_cli.specs.Resume.{ResumeWords}
-use Rattle.tz_cli.specs.Back.{BackWords}
-use Rattle.tz_cli.specs.Pair.{PairWords}
+use Rattle.tz_words.specs.StartWords.{StartWords}
+use Rattle.tz_words.specs.Resume.{ResumeWords}
+use Rattle.tz_words.specs.Back.{BackWords}
+use Rattle.tz_words.specs.Pair.{PairWords}
 use Rattle.tz_cli.specs.PairLine.{is_agreed, pair_line, pair_status}
-use Rattle.tz_cli.specs.declared.words.start.Work.{Work}
-use Rattle.tz_cli.specs.declared.words.start.Work.TheVariants as works
-use Rattle.tz_cli.specs.declared.words.generated.GenWords.{GenWords}
-use Rattle.tz_cli.specs.Commands.{Command, Pair, Resume, Back, Gen, command_of, command_with, longest, names_of}
-use Rattle.tz_cli.specs.declared.stops.LoadError.{LoadError}
-use Rattle.tz_cli.specs.declared.stops.LoadError.TheVariants.{Unread, Long, Board, Image, State, Script, Source, Memory}
-use Rattle.tz_cli.specs.Told.{Stop, BadWords, TooManySteps, TooManyBack, TooLong, BadBoard, BadImage, BadState, BadScript, BadSource, TooFar, Told, Stops, Gives, told_then, step_limit, back_limit}
-use Rattle.tz_cli.specs.Told as stops
-use Rattle.tz_cli.specs.Reads.{AsBoard, AsImage, AsState, AsScript, AsSource, Reading, Settled, goes_on, read_where, no_files, settling, within_limit, within_back, IsOneOf}
-use Rattle.tz_cli.specs.Starts.{Start, PairStart, SavedStart, board_files, start_files, kept_files, saved_files, pair_start_files}
+use Rattle.tz_words.specs.declared.start.Work.{Work}
+use Rattle.tz_words.specs.declared.start.Work.TheVariants as works
+use Rattle.tz_words.specs.declared.generated.GenWords.{GenWords}
+use Rattle.tz_words.specs.Commands.{Command, Pair, Resume, Back, Gen, command_of, command_with, longest, names_of}
+use Rattle.tz_files.specs.declared.stops.LoadError.{LoadError}
+use Rattle.tz_files.specs.declared.stops.LoadError.TheVariants.{Unread, Long, Board, Image, State, Script, Source, Memory}
+use Rattle.tz_files.specs.Told.{Stop, BadWords, TooManySteps, TooManyBack, TooLong, BadBoard, BadImage, BadState, BadScript, BadSource, TooFar, Told, Stops, Gives, told_then, step_limit, back_limit}
+use Rattle.tz_files.specs.Told as stops
+use Rattle.tz_files.specs.Reads.{AsBoard, AsImage, AsState, AsScript, AsSource, Reading, Settled, goes_on, read_where, no_files, settling, within_limit, within_back, IsOneOf}
+use Rattle.tz_files.specs.Starts.{Start, PairStart, SavedStart, board_files, start_files, kept_files, saved_files, pair_start_files}
 use Rattle.tz_cli.specs.Tasks.{Task, pair_task, back_task, gen_task, resumed_text, resume_next, work_task, told, reads_of, files_of, IsDone}
-use Rattle.tz_cli.specs.Lines.{stop_line, status_of, put_status}
-use Rattle.tz_cli.specs.Answer.{Allows, AllowsStop, IsCaused, IsLine, Call, told_of, GainsFront, Exceeds, IsTold, Answer, Done, Broken, Stopped, Wanting, Silent}
-use Rattle.tz_cli.specs.Faults.{AllowsRefusal, IsFault, image_refusal, state_refusal, source_refusal, name_told, stop_of, stop_with, line_with, status_with}
-use Rattle.tz_cli.proofs.FileNames.{names_of-longest}
+use Rattle.tz_files.specs.Lines.{stop_line, status_of, put_status}
+use Rattle.tz_files.specs.Allowed.{Allows, AllowsStop}
+use Rattle.tz_files.specs.LineTold.{GainsFront, Exceeds, IsTold}
+use Rattle.tz_cli.specs.Answer.{IsCaused, IsLine, Call, told_of, Answer, Done, Broken, Stopped, Wanting, Silent}
+use Rattle.tz_files.specs.Faults.{AllowsRefusal, IsFault, image_refusal, state_refusal, source_refusal, name_told, stop_of, stop_with, line_with, status_with}
+use Rattle.tz_words.proofs.FileNames.{names_of-longest}
 use Rattle.tz_cli.proofs.Reached.{sure_command}
-use Rattle.tz_cli.proofs.Settling.{then_stop, after_stop, then_allows, allows_given, allowed_goes, goes_first, read_here, settling_twice, limit_kept, limit_passed, back_kept, back_passed, one_of_first, one_of_second, past, fits}
+use Rattle.tz_files.proofs.Settling.{then_stop, after_stop, then_allows, allows_given, allowed_goes, goes_first, read_here, settling_twice, limit_kept, limit_passed, back_kept, back_passed, one_of_first, one_of_second, past, fits}
 
 pub gains_nothing : (w : Option (List ℕ)) → Gains w w []
 gains_nothing None = refl

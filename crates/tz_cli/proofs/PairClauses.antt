@@ -10,11 +10,11 @@ use Rattle.tz_iso.specs.declared.answer.What.{What}
 use Rattle.tz_iso.specs.Runs.{IsLinked, what_at}
 use Rattle.tz_iso.proofs.Agreement.{linked_boots, agree_of, first_of}
 use Rattle.tz_iso.proofs.Told.{none_crossing}
-use Rattle.tz_cli.specs.Pair.{PairWords}
+use Rattle.tz_words.specs.Pair.{PairWords}
 use Rattle.tz_cli.specs.PairLine.{FirstApart, agree_line, differ_line, pair_line, pair_status}
-use Rattle.tz_cli.specs.Commands.{Command, Pair}
-use Rattle.tz_cli.specs.Told.{Told, Gives, told_then}
-use Rattle.tz_cli.specs.Starts.{PairStart, first_state, second_state}
+use Rattle.tz_words.specs.Commands.{Command, Pair}
+use Rattle.tz_files.specs.Told.{Told, Gives, told_then}
+use Rattle.tz_files.specs.Starts.{PairStart, first_state, second_state}
 use Rattle.tz_cli.specs.Tasks.{PairJob, pair_task, pair_told, told, difference_of}
 use Rattle.tz_cli.specs.Answer.{Call, Answer}
 use Rattle.tz_cli.proofs.Clauses.{task_written}

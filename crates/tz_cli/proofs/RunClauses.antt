@@ -20,20 +20,20 @@ use Rattle.tz_gates.proofs.Exact.{no_others}
 use Rattle.tz_gates.proofs.Starting.{boot_board, boot_even}
 use Rattle.tz_snap.specs.StateFile.{SavedState, file_of}
 use Rattle.tz_show.specs.Page.{page}
-use Rattle.tz_cli.specs.StartWords.{StartWords}
-use Rattle.tz_cli.specs.ShowWords.{ShowWords, SavedWords}
-use Rattle.tz_cli.specs.Resume.{ResumeWords}
-use Rattle.tz_cli.specs.Back.{BackWords}
-use Rattle.tz_cli.specs.Commands.{Command, RunFull, Gates, Snap, Show, ShowSaved, Resume, Back, Gen}
+use Rattle.tz_words.specs.StartWords.{StartWords}
+use Rattle.tz_words.specs.ShowWords.{ShowWords, SavedWords}
+use Rattle.tz_words.specs.Resume.{ResumeWords}
+use Rattle.tz_words.specs.Back.{BackWords}
+use Rattle.tz_words.specs.Commands.{Command, RunFull, Gates, Snap, Show, ShowSaved, Resume, Back, Gen}
 use Rattle.tz_cli.specs.Summary.{summary}
-use Rattle.tz_cli.specs.declared.words.generated.GenWords.{GenWords}
-use Rattle.tz_cli.specs.Reads.{no_files}
-use Rattle.tz_cli.specs.Told.{TooManySteps, TooFar, Told, Stops, Gives, told_then, step_limit}
-use Rattle.tz_cli.specs.Starts.{Start, SavedStart, state_of}
-use Rattle.tz_cli.specs.Tasks.{Task, told, gen_task, begin_told, counted_gates, full_task, gates_task, snap_task, page_task, saved_task, end_of, shown_told, resume_told, resume_next, resumed_text, back_told, back_text, back_task}
+use Rattle.tz_words.specs.declared.generated.GenWords.{GenWords}
+use Rattle.tz_files.specs.Reads.{no_files}
+use Rattle.tz_files.specs.Told.{TooManySteps, TooFar, Told, Stops, Gives, told_then, step_limit}
+use Rattle.tz_files.specs.Starts.{Start, SavedStart, state_of, begin_told}
+use Rattle.tz_cli.specs.Tasks.{Task, told, gen_task, counted_gates, full_task, gates_task, snap_task, page_task, saved_task, end_of, shown_told, resume_told, resume_next, resumed_text, back_told, back_text, back_task}
 use Rattle.tz_cli.specs.Answer.{Call, Answer, told_of}
 use Rattle.tz_cli.proofs.Clauses.{no_stop, task_written}
-use Rattle.tz_cli.proofs.Regions.{begun_regions}
+use Rattle.tz_files.proofs.Regions.{begun_regions}
 
 -- what is settled of a command by what it begins with
 told_by : {A : Type 0} (held : List ℕ → Held) (o : Option Command) (command : Command) (t : Told A) (next : A → Told Task) (x : A)

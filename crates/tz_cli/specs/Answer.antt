@@ -1,45 +1,15 @@
 -- The answers of a call with what the outside had before and after it.
-use Rattle.std.specs.Prelude.{◌≡◌, ◌⊎◌, ℕ, ◌+◌, ◌≤◌, Bool, List, [], ◌++◌, length, codes, Option, Some, None, IsTrue, IfSome}
+use Rattle.std.specs.Prelude.{◌≡◌, ◌⊎◌, ℕ, ◌+◌, Bool, List, [], length, codes, Option, Some, None, IsTrue}
 use Rattle.tz_model.specs.Outside.{Held, Absent, Rose, Gains}
-use Rattle.tz_cli.specs.Commands.{Command, command_of, longest, names_of}
-use Rattle.tz_cli.specs.Told.{Stop, BadWords, TooManySteps, TooManyBack, Unread, TooLong, BadBoard, BadImage, BadState, BadScript, BadSource, TooFar, Told, Unknown, Stops, Gives}
-use Rattle.tz_cli.specs.Reads.{Reading, Form, IsOneOf, TellsOf}
+use Rattle.tz_words.specs.Commands.{Command, command_of, longest, names_of}
+use Rattle.tz_files.specs.Told.{Stop, BadWords, TooManySteps, TooManyBack, Unread, TooLong, BadBoard, BadImage, BadState, BadScript, BadSource, TooFar, Told, Unknown, Stops, Gives}
+use Rattle.tz_files.specs.Reads.{Reading, Form, IsOneOf, TellsOf}
 use Rattle.tz_cli.specs.Tasks.{Task, told, reads_of, IsDone}
-use Rattle.tz_cli.specs.Lines.{stop_line, status_of, unread_line}
-
--- what is settled allows a value, or a stop
-abbrev pub Allows : {A : Type 0} → Told A → A → Type 0
-Allows Unknown x = Unit {0}
-Allows (Stops stop) x = ⊥
-Allows (Gives y) x = y ≡ x
-
--- only a file can stop a command where a shelf doesn't tell
-abbrev pub IsOfFile : Stop → Type 0
-IsOfFile BadWords = ⊥
-IsOfFile TooManySteps = ⊥
-IsOfFile TooManyBack = ⊥
-IsOfFile (Unread name) = Unit {0}
-IsOfFile (TooLong name) = Unit {0}
-IsOfFile (BadBoard name refusal) = Unit {0}
-IsOfFile (BadImage name refusal) = Unit {0}
-IsOfFile (BadState name refusal) = Unit {0}
-IsOfFile (BadScript name refusal) = Unit {0}
-IsOfFile (BadSource name refusal) = Unit {0}
-IsOfFile (TooFar name) = Unit {0}
-
-abbrev pub AllowsStop : {A : Type 0} → Told A → Stop → Type 0
-AllowsStop Unknown stop = IsOfFile stop
-AllowsStop (Stops s) stop = s ≡ stop
-AllowsStop (Gives y) stop = ⊥
+use Rattle.tz_files.specs.Allowed.{Allows, AllowsStop, Shelved}
+use Rattle.tz_files.specs.LineTold.{GainsFront, Exceeds}
+use Rattle.tz_files.specs.Lines.{stop_line, status_of, unread_line}
 
 -- ---- the causes of stops
-
--- the shelf's word and counts in a call
-pub record Shelved : Type 0 where
-  pub held : List ℕ → Held
-  pub sound : Bool
-  pub before : ℕ
-  pub now : ℕ
 
 -- a file can't be read: it is one that is read, the shelf's count rose, and a sound shelf doesn't hold it
 pub record IsUnread (files : List Reading) (s : Shelved) (name : List ℕ) : Type 0 where
@@ -101,22 +71,6 @@ pub record Call : Type 0 where
 
 abbrev pub told_of : Call → Told Task
 told_of c = told c.shelf.held c.command
-
--- bytes that a text begins with were gained
-pub record GainsFront (old new : Option (List ℕ)) (text : List ℕ) : Type 0 where
-  pub gained : List ℕ
-  pub rest : List ℕ
-  pub front : gained ++ rest ≡ text
-  pub gains : Gains old new gained
-
--- so many bytes don't fit the told room
-abbrev pub Exceeds : Option ℕ → ℕ → Type 0
-Exceeds space n = IfSome space (λ room. n ≤ room → ⊥)
-
--- a line is written, and the answer is its status; or it can't be written
-abbrev pub IsTold : (result : ℕ) (line : List ℕ) (status : ℕ) (old new : Option (List ℕ)) (space : Option ℕ) (before now : ℕ) → Type 0
-IsTold result line status old new space before now =
-    ((result ≡ status) × Gains old new line) ⊎ ((result ≡ 4) × Rose before now × Exceeds space (length line) × GainsFront old new line)
 
 -- an answer, with what it says of the outside
 pub data Answer (c : Call) (result : ℕ) : Type 0 where

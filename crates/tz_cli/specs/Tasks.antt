@@ -9,36 +9,29 @@ use Rattle.tz_iso.specs.declared.answer.What.{What}
 use Rattle.tz_iso.specs.Runs.{difference}
 use Rattle.tz_run.specs.Events.{events_of}
 use Rattle.tz_text.specs.Text.{dis_text}
-use Rattle.tz_cli.specs.StartWords.{StartWords}
+use Rattle.tz_words.specs.StartWords.{StartWords}
 use Rattle.tz_full.specs.Full.{full_from}
 use Rattle.tz_gates.specs.Gates.{gates_of}
 use Rattle.tz_gates.specs.Entries.{entries_at, other_entries}
 use Rattle.tz_gates.specs.GatesText.{gates_text}
 use Rattle.tz_snap.specs.StateFile.{SavedState, file_of}
 use Rattle.tz_show.specs.Page.{page}
-use Rattle.tz_cli.specs.ShowWords.{ShowWords, SavedWords}
-use Rattle.tz_cli.specs.Resume.{ResumeWords}
-use Rattle.tz_cli.specs.Back.{BackWords}
-use Rattle.tz_cli.specs.Run.{RunWords, run_of, start_of}
-use Rattle.tz_cli.specs.Pair.{PairWords}
+use Rattle.tz_words.specs.ShowWords.{ShowWords, SavedWords}
+use Rattle.tz_words.specs.Resume.{ResumeWords}
+use Rattle.tz_words.specs.Back.{BackWords}
+use Rattle.tz_words.specs.Run.{RunWords, run_of, start_of}
+use Rattle.tz_words.specs.Pair.{PairWords}
 use Rattle.tz_cli.specs.PairLine.{pair_line, pair_status}
 use Rattle.tz_cli.specs.Summary.{summary}
-use Rattle.tz_cli.specs.declared.words.generated.GenWords.{GenWords}
-use Rattle.tz_cli.specs.Commands.{Command, Run, RunFull, Pair, Asm, Dis, Gates, Snap, Show, ShowSaved, Resume, Back, Gen}
-use Rattle.tz_cli.specs.Told.{BadWords, TooFar, Told, Stops, Gives, step_limit}
-use Rattle.tz_cli.specs.Reads.{Reading, Settled, no_files, settling, within_limit, within_back}
-use Rattle.tz_cli.specs.Starts.{Start, PairStart, SavedStart, start_files, state_of, pair_start_files, first_state, second_state, saved_files, shown_files, source_files, listed_files}
-use Rattle.tz_cli.specs.declared.words.start.Work.{Work}
-use Rattle.tz_cli.specs.declared.words.start.Work.TheVariants as works
+use Rattle.tz_words.specs.declared.generated.GenWords.{GenWords}
+use Rattle.tz_words.specs.Commands.{Command, Run, RunFull, Pair, Asm, Dis, Gates, Snap, Show, ShowSaved, Resume, Back, Gen}
+use Rattle.tz_files.specs.Told.{BadWords, TooFar, Told, Stops, Gives, step_limit}
+use Rattle.tz_files.specs.Reads.{Reading, Settled, no_files, settling, within_limit, within_back}
+use Rattle.tz_files.specs.Starts.{Start, PairStart, SavedStart, start_files, state_of, pair_start_files, first_state, second_state, saved_files, shown_files, source_files, listed_files, begin_files}
+use Rattle.tz_words.specs.declared.start.Work.{Work}
+use Rattle.tz_words.specs.declared.start.Work.TheVariants as works
 
 -- ---- runs
-
--- what begins a run: the limit of steps is tested before any file is read
-abbrev pub begin_files : (List ℕ → Held) → StartWords → Settled Start
-begin_files held s = within_limit s.steps (start_files held s)
-
-abbrev pub begin_told : (List ℕ → Held) → StartWords → Told Start
-begin_told held s = (begin_files held s).told
 
 -- a run with what it begins with
 pub record Job : Type 0 where

@@ -2,15 +2,14 @@
 
 ghost use Rattle.std.specs.Prelude.{◌≡◌, Err};
 ghost use Rattle.tz_model.specs.Outside.{HasCause, Put};
-ghost use Rattle.tz_cli.specs.Asm.{asm_in};
-ghost use Rattle.tz_cli.specs.Commands.{Asm};
+ghost use Rattle.tz_words.specs.Asm.{asm_in};
+ghost use Rattle.tz_words.specs.Commands.{Asm};
 ghost use Rattle.tz_cli.specs.Answer.{CommandAnswer, shelved, sunk};
 
-use crate::files::load_assembled;
-use crate::lines::{put_lines, put_status, refuse_fault};
-use crate::words::{AsmWords, Form};
 use std::alloc::Global;
+use tz_files::{load_assembled, put_lines, put_status, refuse_fault};
 use tz_model::{Shelf, Sink, SinkError};
+use tz_words::{AsmWords, Form};
 
 /// Writes a file: a plain image and a listing line by line, and an ELF file as one put.
 fn put_file<O: Sink>(form: Form, file: &[u8], out: &mut O) -> Result<(), SinkError>

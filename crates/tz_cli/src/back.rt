@@ -7,25 +7,25 @@ ghost use Rattle.std.specs.Prelude.{◌≡◌, ◌+◌, ◌^◌, ◌<◌, ◌≤
 ghost use Rattle.tz_model.specs.Outside.{Gains};
 ghost use Rattle.tz_sem.specs.Run.{state_after};
 ghost use Rattle.tz_run.specs.Events.{events_of};
-ghost use Rattle.tz_cli.specs.Back.{back_in};
-ghost use Rattle.tz_cli.specs.Commands.{Back};
+ghost use Rattle.tz_words.specs.Back.{back_in};
+ghost use Rattle.tz_words.specs.Commands.{Back};
 ghost use Rattle.tz_cli.specs.Tasks.{back_text, states_before};
-ghost use Rattle.tz_cli.specs.Answer.{CommandAnswer, shelved, sunk, IsTold};
-ghost use Rattle.tz_cli.specs.Faults.{start_value};
+ghost use Rattle.tz_files.specs.LineTold.{IsTold};
+ghost use Rattle.tz_cli.specs.Answer.{CommandAnswer, shelved, sunk};
+ghost use Rattle.tz_files.specs.Faults.{start_value};
 
-use crate::files::{Files, load};
-use crate::lines::{put_status, refuse, refuse_fault};
 use crate::run::STEP_LIMIT;
-use crate::words::BackWords;
 use std::alloc::{AllocError, Global};
 use std::marker::Brand;
 use std::sync::ledger::{Blank, Ledger};
 use tz_board::Script;
 use tz_core::Machine;
+use tz_files::{Files, load, put_status, refuse, refuse_fault};
 use tz_model::{Board, Report, Shelf, Sink};
 use tz_ready::Steps;
 use tz_run::{make_steps, run_from};
 use tz_undo::History;
+use tz_words::BackWords;
 
 /// The most steps that are undone.
 const BACK_LIMIT: u32 = 1000;

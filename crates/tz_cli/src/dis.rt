@@ -1,15 +1,14 @@
 //! The command `dis`: its files, the lines of the image, and the status.
 
-ghost use Rattle.tz_cli.specs.Dis.{dis_in};
-ghost use Rattle.tz_cli.specs.Commands.{Dis};
+ghost use Rattle.tz_words.specs.Dis.{dis_in};
+ghost use Rattle.tz_words.specs.Commands.{Dis};
 ghost use Rattle.tz_cli.specs.Answer.{CommandAnswer, shelved, sunk};
 
-use crate::files::load_listed;
-use crate::lines::{put_status, refuse_fault};
-use crate::words::DisWords;
 use std::alloc::Global;
+use tz_files::{load_listed, put_status, refuse_fault};
 use tz_model::{Shelf, Sink};
 use tz_text::disassemble;
+use tz_words::DisWords;
 
 /// Does what the words of `dis` say, and tells the answer with what it says of the outside.
 pub fn dis_files<H: Shelf, O: Sink, E: Sink>(

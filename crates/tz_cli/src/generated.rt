@@ -8,24 +8,25 @@ ghost use Rattle.arrayvec.specs.ArrayString.{array_string_len};
 ghost use Rattle.tz_model.specs.Outside.{Gains};
 ghost use Rattle.tz_cli.specs.PairLine.{pair_line};
 ghost use Rattle.tz_cli.specs.Summary.{count_line, counts_text, due_before, summary};
-ghost use Rattle.tz_cli.specs.Commands.{Gen};
-ghost use Rattle.tz_cli.specs.Answer.{CommandAnswer, shelved, sunk, IsTold};
+ghost use Rattle.tz_words.specs.Commands.{Gen};
+ghost use Rattle.tz_files.specs.LineTold.{IsTold};
+ghost use Rattle.tz_cli.specs.Answer.{CommandAnswer, shelved, sunk};
 
 use crate::comparison::{find_difference, push_pair_line};
-use crate::lines::{put_lines, put_status, refuse};
 use crate::run::STEP_LIMIT;
-use crate::words::GenWords;
 use arrayvec::ArrayString;
 use std::alloc::{AllocError, Global};
 use std::marker::Brand;
 use std::sync::ledger::{Blank, Ledger};
 use tz_board::{Script, demo_board};
 use tz_core::Machine;
+use tz_files::{put_lines, put_status, refuse};
 use tz_iso::{Pair, What};
 use tz_model::{Shelf, Sink};
 use tz_ready::Steps;
 use tz_run::{Tally, make_job, make_tally};
 use tz_syntax::push_decimal;
+use tz_words::GenWords;
 
 /// A summary. The longest has 135 bytes.
 type Summary = ArrayString<192>;

@@ -4,19 +4,16 @@
 //!
 //! `top` does all that the program does, over any shelf of files and any two sinks.
 //!
-//! The edge of the program is `words`, `shelf` and `output`. `words` reads the words of the command line by
-//! `clap`, and says all that they mean. `shelf` and `output` stand over the system and tell no contents, since
-//! no proof knows what a file holds or a stream takes. They are thin, and count a fault where the system
-//! answers an error.
+//! What the words mean is said in `tz_words`, and what is read of files in `tz_files`. The edge of the program is the shelf
+//! there and `output`, which stands over the system and tells no contents, since no proof knows what a stream takes. It is
+//! thin, and counts a fault where the system answers an error.
 #![tactic(auto)]
 
 mod asm;
 mod back;
 mod comparison;
 mod dis;
-mod files;
 mod generated;
-mod lines;
 mod output;
 mod page;
 mod pair;
@@ -24,16 +21,13 @@ mod process;
 mod program;
 mod resume;
 mod run;
-mod shelf;
-mod stops;
-mod words;
 
 pub use comparison::pair_run;
 pub use output::OutSink;
 pub use process::run_process;
 pub use program::top;
-pub use shelf::{FileShelf, read_to_limit};
-pub use words::{
+pub use tz_files::{FileShelf, read_to_limit};
+pub use tz_words::{
     AsmWords, BackWords, Command, DisWords, Form, GenWords, PairWords, ResumeWords, SavedWords,
     StartWords, Work, command_words,
 };

@@ -1,15 +1,14 @@
 //! The command `show` of a state's file: its files, the page of the state, and the status.
 
-ghost use Rattle.tz_cli.specs.ShowWords.{saved_in};
-ghost use Rattle.tz_cli.specs.Commands.{ShowSaved};
+ghost use Rattle.tz_words.specs.ShowWords.{saved_in};
+ghost use Rattle.tz_words.specs.Commands.{ShowSaved};
 ghost use Rattle.tz_cli.specs.Answer.{CommandAnswer, shelved, sunk};
 
-use crate::files::load_shown;
-use crate::lines::{put_status, refuse_fault};
-use crate::words::SavedWords;
 use std::alloc::Global;
+use tz_files::{load_shown, put_status, refuse_fault};
 use tz_model::{Shelf, Sink};
 use tz_show::show;
+use tz_words::SavedWords;
 
 /// Does what the words of `show --state` say, and tells the answer with what it says of the outside.
 pub fn page_files<H: Shelf, O: Sink, E: Sink>(

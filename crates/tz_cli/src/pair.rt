@@ -2,20 +2,20 @@
 
 ghost use Rattle.std.specs.Prelude.{[], IfOk, IfErr};
 ghost use Rattle.tz_model.specs.Outside.{Gains};
-ghost use Rattle.tz_cli.specs.Pair.{pair_in};
-ghost use Rattle.tz_cli.specs.Commands.{Pair as PairCommand};
+ghost use Rattle.tz_words.specs.Pair.{pair_in};
+ghost use Rattle.tz_words.specs.Commands.{Pair as PairCommand};
 ghost use Rattle.tz_cli.specs.Tasks.{pair_task};
-ghost use Rattle.tz_cli.specs.Answer.{CommandAnswer, shelved, sunk, IsTold};
-ghost use Rattle.tz_cli.specs.Faults.{pair_value};
+ghost use Rattle.tz_files.specs.LineTold.{IsTold};
+ghost use Rattle.tz_cli.specs.Answer.{CommandAnswer, shelved, sunk};
+ghost use Rattle.tz_files.specs.Faults.{pair_value};
 
 use crate::comparison::pair_run;
-use crate::files::{PairFiles, load_pair};
-use crate::lines::{refuse, refuse_fault};
 use crate::run::STEP_LIMIT;
-use crate::words::PairWords;
 use std::alloc::{AllocError, Global};
+use tz_files::{PairFiles, load_pair, refuse, refuse_fault};
 use tz_iso::Pair;
 use tz_model::{Shelf, Sink};
+use tz_words::PairWords;
 
 /// Runs both machines of the files and writes the line of their runs: 0 where they agree, 1 where they don't,
 /// or 4 where it can't be written. Its error is want of memory, before anything is written.

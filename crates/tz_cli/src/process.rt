@@ -5,12 +5,12 @@
 
 use crate::output::OutSink;
 use crate::program::top;
-use crate::shelf::FileShelf;
 use std::alloc::AllocError;
 use std::env::{self, Env};
 use std::io::{ErrorKind, Write};
 use std::process::ExitCode;
 use std::rt::Files;
+use tz_files::FileShelf;
 use tz_model::Sink;
 
 /// How many bytes of standard output are kept before they go out.

@@ -1,19 +1,19 @@
 //! The command `resume`: its files, the machine of the state, and the lines of the steps that follow.
 
 ghost use Rattle.std.specs.Prelude.{◌+◌, ◌≤◌};
-ghost use Rattle.tz_cli.specs.Resume.{resume_in};
-ghost use Rattle.tz_cli.specs.Commands.{Resume};
+ghost use Rattle.tz_words.specs.Resume.{resume_in};
+ghost use Rattle.tz_words.specs.Commands.{Resume};
 ghost use Rattle.tz_cli.specs.Tasks.{resumed_text};
-ghost use Rattle.tz_cli.specs.Answer.{CommandAnswer, shelved, sunk, IsTold};
-ghost use Rattle.tz_cli.specs.Faults.{saved_value};
+ghost use Rattle.tz_files.specs.LineTold.{IsTold};
+ghost use Rattle.tz_cli.specs.Answer.{CommandAnswer, shelved, sunk};
+ghost use Rattle.tz_files.specs.Faults.{saved_value};
 
-use crate::files::{SavedFiles, load_saved};
-use crate::lines::{put_status, refuse, refuse_fault};
 use crate::run::STEP_LIMIT;
-use crate::words::ResumeWords;
 use std::alloc::Global;
+use tz_files::{SavedFiles, load_saved, put_status, refuse, refuse_fault};
 use tz_model::{Shelf, Sink};
 use tz_run::run_from;
+use tz_words::ResumeWords;
 
 /// Runs the machine of the files on and writes its lines: 0, or 4 where they can't be written.
 fn resume_started<O: Sink>(files: &mut SavedFiles, words: &ResumeWords<'_>, out: &mut O) -> u8

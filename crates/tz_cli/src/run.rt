@@ -2,24 +2,24 @@
 
 ghost use Rattle.std.specs.Prelude.{◌≤◌, [], IfOk, IfErr};
 ghost use Rattle.tz_model.specs.Outside.{Gains};
-ghost use Rattle.tz_cli.specs.StartWords.{start_in};
-ghost use Rattle.tz_cli.specs.Run.{run_of};
-ghost use Rattle.tz_cli.specs.Commands.{command_with};
+ghost use Rattle.tz_words.specs.StartWords.{start_in};
+ghost use Rattle.tz_words.specs.Run.{run_of};
+ghost use Rattle.tz_words.specs.Commands.{command_with};
 ghost use Rattle.tz_cli.specs.Tasks.{trace_of, full_task, gates_task, snap_task, page_task, work_task};
-ghost use Rattle.tz_cli.specs.Answer.{CommandAnswer, shelved, sunk, IsTold};
-ghost use Rattle.tz_cli.specs.Faults.{start_value};
+ghost use Rattle.tz_files.specs.LineTold.{IsTold};
+ghost use Rattle.tz_cli.specs.Answer.{CommandAnswer, shelved, sunk};
+ghost use Rattle.tz_files.specs.Faults.{start_value};
 
-use crate::files::{Files, load};
-use crate::lines::{put_status, refuse, refuse_fault};
-use crate::words::{StartWords, Work};
 use std::alloc::{AllocError, Global};
 use tz_core::Machine;
+use tz_files::{Files, load, put_status, refuse, refuse_fault};
 use tz_full::run_full;
 use tz_gates::{count, list, put_gates};
 use tz_model::{Shelf, Sink, View};
 use tz_run::{make_steps, run};
 use tz_show::{Range, show};
 use tz_snap::save;
+use tz_words::{StartWords, Work};
 
 /// The most steps of a run.
 pub const STEP_LIMIT: u32 = 10_000_000;

@@ -9,7 +9,7 @@ use Rattle.tz_state.specs.Attribution.{data_attribution}
 use Rattle.tz_state.specs.Memory.{byte_at}
 use Rattle.tz_state.specs.State.{Bus, map_in}
 use Rattle.tz_syntax.specs.Digits.{hex_byte, hex_word}
-use Rattle.tz_show.specs.declared.memory.Range.{Range}
+use Rattle.tz_words.specs.declared.ranges.Range.{Range}
 use Rattle.tz_show.specs.Rows.{where_so, texts_below}
 
 -- Secure, Secure and callable from Non-secure code, Non-secure

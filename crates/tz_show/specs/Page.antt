@@ -3,7 +3,7 @@ use Rattle.std.specs.Prelude.{ℕ, List, ◌++◌}
 use Rattle.tz_regs.specs.declared.parts.Core.{Core}
 use Rattle.tz_state.specs.Slots.{ExceptionsValue}
 use Rattle.tz_state.specs.State.{Bus, State}
-use Rattle.tz_show.specs.declared.memory.Range.{Range}
+use Rattle.tz_words.specs.declared.ranges.Range.{Range}
 use Rattle.tz_show.specs.Registers.{head_text, registers_text, stacks_text}
 use Rattle.tz_show.specs.Masks.{masks_text}
 use Rattle.tz_show.specs.Faults.{faults_text}

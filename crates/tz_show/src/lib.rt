@@ -32,12 +32,12 @@ use crate::rows::Text;
 use crate::units::{push_mpus, push_sau, push_timers};
 pub use exceptions::system_name;
 pub use frames::{frame_pointer, frame_uses_process};
-pub use memory::Range;
 use tz_access::Bus;
 use tz_core::Machine;
 use tz_model::{Sink, SinkError};
 use tz_nvic::Exceptions;
 use tz_regs::Core;
+pub use tz_words::Range;
 
 /// The sections about the core.
 #[tactic(auto, unfolding(crate::specs::Page::core_text))]

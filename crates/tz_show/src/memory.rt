@@ -10,13 +10,7 @@ use crate::rows::{Text, push_where};
 use tz_access::Bus;
 use tz_model::{RegionSide, Side, Sink, SinkError, Size};
 use tz_syntax::{push_hex_byte, push_hex_word};
-
-/// So many bytes from an address on.
-#[derive(Clone, Copy)]
-pub struct Range {
-    pub first: u32,
-    pub count: u32,
-}
+use tz_words::Range;
 
 #[tactic(auto, unfolding(crate::specs::Dump::attribution_mark))]
 fn attribution_mark(side: RegionSide) -> &'static str

@@ -1,10 +1,10 @@
 -- Each exit is its answer.
 use Rattle.std.proofs.Common.{refl, subst, List, ℕ}
 use Rattle.tz_model.specs.Outside.{Put}
-use Rattle.tz_cli.specs.Asm.{asm_in}
-use Rattle.tz_cli.specs.Commands.{Asm}
-use Rattle.tz_cli.specs.Told.{Gives}
-use Rattle.tz_cli.specs.Starts.{source_files}
+use Rattle.tz_words.specs.Asm.{asm_in}
+use Rattle.tz_words.specs.Commands.{Asm}
+use Rattle.tz_files.specs.Told.{Gives}
+use Rattle.tz_files.specs.Starts.{source_files}
 use Rattle.tz_cli.specs.Tasks.{asm_task}
 use Rattle.tz_cli.proofs.Exits.{gains_nothing, answer_told, answer_task, told_put}
 use Rattle.tz_cli.proofs.asm.asm_files.Goals as goal

@@ -1,9 +1,9 @@
 -- Each exit is its answer.
 use Rattle.std.proofs.Common.{refl}
-use Rattle.tz_cli.specs.Back.{back_in}
-use Rattle.tz_cli.specs.Commands.{Back}
+use Rattle.tz_words.specs.Back.{back_in}
+use Rattle.tz_words.specs.Commands.{Back}
 use Rattle.tz_cli.specs.Tasks.{back_task}
-use Rattle.tz_cli.specs.Faults.{start_value}
+use Rattle.tz_files.specs.Faults.{start_value}
 use Rattle.tz_cli.proofs.Exits.{gains_nothing, answer_told, answer_task, answer_wanting, back_far, back_next, back_steps, back_within}
 use Rattle.tz_cli.proofs.back.back_answer.Goals as goal
 

@@ -1,10 +1,10 @@
 -- Each exit is its answer.
 use Rattle.std.proofs.Common.{refl}
 use Rattle.tz_text.specs.Text.{dis_text}
-use Rattle.tz_cli.specs.Dis.{dis_in}
-use Rattle.tz_cli.specs.Commands.{Dis}
-use Rattle.tz_cli.specs.Told.{Gives}
-use Rattle.tz_cli.specs.Starts.{listed_files}
+use Rattle.tz_words.specs.Dis.{dis_in}
+use Rattle.tz_words.specs.Commands.{Dis}
+use Rattle.tz_files.specs.Told.{Gives}
+use Rattle.tz_files.specs.Starts.{listed_files}
 use Rattle.tz_cli.specs.Tasks.{dis_task}
 use Rattle.tz_cli.proofs.Exits.{gains_nothing, answer_told, answer_task, told_put}
 use Rattle.tz_cli.proofs.dis.dis_files.Goals as goal

@@ -1,7 +1,7 @@
 -- Each exit is its answer.
 use Rattle.std.proofs.Common.{refl}
-use Rattle.tz_cli.specs.Commands.{Gen}
-use Rattle.tz_cli.specs.Reads.{no_files}
+use Rattle.tz_words.specs.Commands.{Gen}
+use Rattle.tz_files.specs.Reads.{no_files}
 use Rattle.tz_cli.specs.Tasks.{gen_task}
 use Rattle.tz_cli.proofs.Exits.{gains_nothing, answer_steps, answer_task, answer_wanting, within, gen_comes, gen_next}
 use Rattle.tz_cli.proofs.generated.gen_answer.Goals as goal

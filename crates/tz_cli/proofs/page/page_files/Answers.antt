@@ -2,12 +2,12 @@
 use Rattle.std.proofs.Common.{refl, subst, List}
 use Rattle.tz_model.specs.Outside.{Put}
 use Rattle.tz_snap.specs.StateFile.{SavedState}
-use Rattle.tz_show.specs.declared.memory.Range.{Range}
+use Rattle.tz_words.specs.declared.ranges.Range.{Range}
 use Rattle.tz_show.specs.Page.{page}
-use Rattle.tz_cli.specs.ShowWords.{saved_in}
-use Rattle.tz_cli.specs.Commands.{ShowSaved}
-use Rattle.tz_cli.specs.Told.{Gives}
-use Rattle.tz_cli.specs.Starts.{shown_files}
+use Rattle.tz_words.specs.ShowWords.{saved_in}
+use Rattle.tz_words.specs.Commands.{ShowSaved}
+use Rattle.tz_files.specs.Told.{Gives}
+use Rattle.tz_files.specs.Starts.{shown_files}
 use Rattle.tz_cli.specs.Tasks.{saved_task}
 use Rattle.tz_cli.proofs.Exits.{gains_nothing, answer_told, answer_task, told_put}
 use Rattle.tz_cli.proofs.page.page_files.Goals as goal

@@ -1,10 +1,10 @@
 -- Each exit is its answer.
 use Rattle.std.proofs.Common.{refl}
-use Rattle.tz_cli.specs.Pair.{pair_in}
-use Rattle.tz_cli.specs.Commands.{Pair}
-use Rattle.tz_cli.specs.Starts.{pair_start_files}
+use Rattle.tz_words.specs.Pair.{pair_in}
+use Rattle.tz_words.specs.Commands.{Pair}
+use Rattle.tz_files.specs.Starts.{pair_start_files}
 use Rattle.tz_cli.specs.Tasks.{PairJob, pair_task, difference_of}
-use Rattle.tz_cli.specs.Faults.{pair_value}
+use Rattle.tz_files.specs.Faults.{pair_value}
 use Rattle.tz_cli.proofs.Exits.{gains_nothing, answer_steps, answer_told, answer_task, answer_wanting, within, pair_comes, pair_next, pair_done}
 use Rattle.tz_cli.proofs.pair.pair_files.Goals as goal
 

@@ -1,16 +1,16 @@
 -- Each exit is its answer.
 use Rattle.std.proofs.Common.{refl, sym, arith, map, Global}
 use Rattle.std.specs.String.{string_bytes}
-use Rattle.tz_cli.specs.Commands.{Pair, Asm, Dis, ShowSaved, Resume, Back, Gen, command_with}
-use Rattle.tz_cli.specs.StartWords.{start_in}
-use Rattle.tz_cli.specs.ShowWords.{saved_in}
-use Rattle.tz_cli.specs.Resume.{resume_in}
-use Rattle.tz_cli.specs.Back.{back_in}
-use Rattle.tz_cli.specs.Pair.{pair_in}
-use Rattle.tz_cli.specs.Asm.{asm_in}
-use Rattle.tz_cli.specs.Dis.{dis_in}
+use Rattle.tz_words.specs.Commands.{Pair, Asm, Dis, ShowSaved, Resume, Back, Gen, command_with}
+use Rattle.tz_words.specs.StartWords.{start_in}
+use Rattle.tz_words.specs.ShowWords.{saved_in}
+use Rattle.tz_words.specs.Resume.{resume_in}
+use Rattle.tz_words.specs.Back.{back_in}
+use Rattle.tz_words.specs.Pair.{pair_in}
+use Rattle.tz_words.specs.Asm.{asm_in}
+use Rattle.tz_words.specs.Dis.{dis_in}
 use Rattle.tz_cli.proofs.Exits.{gains_nothing, answer_words, answer_memory, answer_command}
-use Rattle.tz_cli.proofs.Backs.{goes_near}
+use Rattle.tz_words.proofs.Backs.{goes_near}
 use Rattle.tz_cli.proofs.program.answer.Goals as goal
 
 pub returns-in-Ok-None : goal.returns-in-Ok-None

@@ -4,7 +4,7 @@ use Rattle.std.specs.String.{string_bytes}
 use Rattle.tz_cli.proofs.Clauses.{usage_only, settled_stop, settled_task, unread_only, unwritten_only, cut_only, refused_only, memory_told, one_status, task_written, nothing_told, no_stop, quiet_else, front_written, room_suffices, sound_reads, trace_written, isolated_trace}
 use Rattle.tz_cli.proofs.PairClauses.{agreement_told, disagreement_told}
 use Rattle.tz_cli.proofs.RunClauses.{full_written, gates_written, none_unlisted, page_written, saved_written, state_written, lines_written, rest_written, last_written, last_of_trace, summary_written}
-use Rattle.tz_cli.proofs.Backs.{goes_near}
+use Rattle.tz_words.proofs.Backs.{goes_near}
 use Rattle.tz_cli.proofs.program.top.Goals as goal
 
 pub returns-clause-usage : goal.returns-clause-usage

@@ -1,9 +1,9 @@
 -- Each exit is its answer.
 use Rattle.std.proofs.Common.{refl, arith}
-use Rattle.tz_cli.specs.Resume.{resume_in}
-use Rattle.tz_cli.specs.Commands.{Resume}
+use Rattle.tz_words.specs.Resume.{resume_in}
+use Rattle.tz_words.specs.Commands.{Resume}
 use Rattle.tz_cli.specs.Tasks.{resume_next, resumed_text}
-use Rattle.tz_cli.specs.Faults.{saved_value}
+use Rattle.tz_files.specs.Faults.{saved_value}
 use Rattle.tz_cli.proofs.Exits.{gains_nothing, answer_steps, answer_told, answer_task, answer_late, within, resume_comes, resume_stops, resume_gives, state_read}
 use Rattle.tz_cli.proofs.resume.resume_answer.Goals as goal
 

@@ -1,10 +1,10 @@
 -- Each exit is its answer.
 use Rattle.std.proofs.Common.{refl}
-use Rattle.tz_cli.specs.StartWords.{start_in}
-use Rattle.tz_cli.specs.Commands.{command_with}
-use Rattle.tz_cli.specs.Starts.{start_files}
+use Rattle.tz_words.specs.StartWords.{start_in}
+use Rattle.tz_words.specs.Commands.{command_with}
+use Rattle.tz_files.specs.Starts.{start_files}
 use Rattle.tz_cli.specs.Tasks.{work_task}
-use Rattle.tz_cli.specs.Faults.{start_value}
+use Rattle.tz_files.specs.Faults.{start_value}
 use Rattle.tz_cli.proofs.Exits.{gains_nothing, answer_steps, answer_told, answer_task, answer_wanting, within, work_comes, work_next, work_done}
 use Rattle.tz_cli.proofs.run.work_files.Goals as goal
 

@@ -1,0 +1,11 @@
+pub mod Looks
+pub mod WordTurns
+pub mod WordWalks
+pub mod WordValues
+pub mod WordAnswers
+pub mod Numbers
+pub mod Cuts
+pub mod Choices
+pub mod NoOption
+pub mod FileNames
+pub mod Backs

@@ -1,0 +1,16 @@
+pub mod Parts
+pub mod Leaf
+pub mod Found
+pub mod Counts
+pub mod Choices
+pub mod StartWords
+pub mod Ranges
+pub mod ShowWords
+pub mod Run
+pub mod Resume
+pub mod Back
+pub mod Pair
+pub mod Asm
+pub mod Dis
+pub mod GenWords
+pub mod Commands
