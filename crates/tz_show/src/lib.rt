@@ -1,8 +1,8 @@
 //! The page of a state: what a person reads of a machine that stands still.
 //!
 //! `show` writes exactly what the definition `page` says: how the core runs, registers, stacks, masks, faults,
-//! exceptions, timers, the channels of a mover, regions, the top of the stack in use, the frame that a handler returns by, and any memory that is
-//! asked for. It changes nothing, takes no memory, and knows nothing of where bytes go.
+//! exceptions, timers, the channels of a mover, regions, the top of the stack in use, the frame that a handler returns
+//! by, and any memory that is asked for. It changes nothing, takes no memory, and knows nothing of where bytes go.
 #![tactic(auto)]
 
 ghost use Rattle.std.specs.Prelude.{◌≡◌, ◌≤◌, ◌+◌, ◌++◌};
