@@ -8,3 +8,4 @@ pub mod Marking
 pub mod Beginning
 pub mod Stepped
 pub mod Blockwise
+pub mod Moving

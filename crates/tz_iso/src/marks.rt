@@ -200,15 +200,13 @@ impl Marks {
         }
     }
 
-    /// Marks what the moves at the beginning of a step may write.
+    /// Marks what the moves at the beginning of a step may write, if the machine has a mover.
     pub fn note_moves(&mut self, machine: &Machine)
         ensures { NotesMoves machine.now self.old self.new }
     {
-        if machine.board().mover {
-            let channels = machine.channels();
-            self.note_move(&channels.secure);
-            self.note_move(&channels.nonsecure);
-        }
+        let channels = machine.channels();
+        self.note_move(&channels.secure);
+        self.note_move(&channels.nonsecure);
     }
 
     /// Marks what a step may have written that made these stores, and left this core, of code that ran on a side. Most

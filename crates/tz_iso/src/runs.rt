@@ -8,7 +8,7 @@ ghost use Rattle.tz_table.specs.declared.units.Side.TheVariants.{NonSecure};
 ghost use Rattle.tz_text.specs.Line.{line};
 ghost use Rattle.tz_twin.specs.Seen.{crossing};
 ghost use Rattle.tz_model.specs.declared.report.ScriptEvent.{ScriptEvent};
-ghost use Rattle.tz_iso.specs.Marks.{Marked};
+ghost use Rattle.tz_iso.specs.Marks.{Marked, NotesMoves};
 ghost use Rattle.tz_iso.specs.What.{what_of};
 ghost use Rattle.tz_iso.specs.Runs.{IsLinked};
 
@@ -56,6 +56,21 @@ impl Model for Pair {
     ghost invariant = { λ p. p.found ≡ None → IsLinked p.first p.second × Marked p.marks p.first p.second };
 }
 
+/// Marks what the moves at the beginning of a step of both may write. Both are of one board, so that one test tells where
+/// there is no mover.
+#[inline(always)]
+fn note_moves_of_both(marks: &mut Marks, first: &Machine, second: &Machine)
+    requires { IsLinked first.now second.now }
+    ensures first { NotesMoves first.now marks.old marks.new }
+    ensures second { NotesMoves second.now marks.old marks.new }
+{
+    let mover = first.board().mover;
+    if mover {
+        marks.note_moves(first);
+        marks.note_moves(second);
+    }
+}
+
 /// What may differ of two machines after what their next step begins with: nothing where Non-secure code runs, else what is
 /// marked, what moves may write, and the exceptions where the timers may pend them apart.
 fn begin_marks(marks: &mut Marks, first: &Machine, second: &Machine)
@@ -66,8 +81,7 @@ fn begin_marks(marks: &mut Marks, first: &Machine, second: &Machine)
     match first.side() {
         Side::Secure => {
             note_timers(marks, first.exceptions(), second.exceptions());
-            marks.note_moves(first);
-            marks.note_moves(second);
+            note_moves_of_both(marks, first, second);
         }
         Side::NonSecure => marks.clear(),
     }

@@ -5,8 +5,8 @@ use Rattle.tz_iso.proofs.runs.begin_marks.Goals as goal
 
 pub returns-in-Secure : goal.returns-in-Secure
 returns-in-Secure c =
-    λ due. begun_marked c.args.marks.now c.note_timers.new.marks c.note_moves.new.self c.note_moves-2.new.self c.args.first.now c.args.second.now due c.requires.marked
-    c.note_timers.ensures.grows c.note_timers.ensures.timers c.note_moves.ensures c.note_moves-2.ensures
+    λ due. begun_marked c.args.marks.now c.note_timers.new.marks c.note_moves_of_both.new.marks c.args.first.now c.args.second.now due c.requires.marked
+    c.note_timers.ensures.grows c.note_timers.ensures.timers c.note_moves_of_both.ensures.first c.note_moves_of_both.ensures.second
 
 pub returns-in-NonSecure : goal.returns-in-NonSecure
 returns-in-NonSecure c =
