@@ -1,6 +1,6 @@
 -- An instruction that exchanges left the core as it was, unless it loads PC. So of the core before an instruction only a
 -- load of PC has to keep a copy.
-use Rattle.std.proofs.Common.{◌≡◌, ℕ, ℤ, ◌/◌, ◌%◌, ◌^◌, Bool, true, false, ◌&&◌, not, cond, List, Option, Some, None, Result, Ok, Err, refl, sym, ap, arith}
+use Rattle.std.proofs.Common.{◌≡◌, ℕ, ℤ, ◌%◌, Bool, true, false, ◌&&◌, not, cond, List, Option, Some, None, Result, Ok, Err, refl, sym, ap, arith}
 use Rattle.std.specs.Prelude.{◌==◌, nat_le, nat_lt, slice_index, length}
 use Rattle.std.proofs.lemmas.Bool.Decides.{nat_tests}
 use Rattle.tz_table.specs.declared.units.Code.{Code}

@@ -11,8 +11,8 @@ ghost use Rattle.tz_state.specs.State.{with_exceptions};
 ghost use Rattle.tz_access.specs.Written.{before_stores, noted_count};
 
 use crate::changes::Stores;
-use crate::ending::{Close, Passage, changes_handler, ending_of};
 use crate::concluding::loads_pc;
+use crate::ending::{Close, Passage, changes_handler, ending_of};
 use crate::exchange::ran_by;
 use crate::it_rules::{ignores_condition, is_misplaced, is_passed_over};
 use crate::noting::pends_next;
@@ -23,7 +23,7 @@ use tz_decode::Decoded;
 use tz_excret::takes_first_uncounted;
 use tz_gate::secure_gateway;
 use tz_kept::Codes;
-use tz_model::{Board, Channels, Code, Fault, Insn, Outcome, Report, ScriptEvent, Side, Sleep};
+use tz_model::{Board, Channels, Code, Fault, Insn, Report, ScriptEvent, Side, Sleep};
 use tz_nvic::Exceptions;
 use tz_prio::is_negative;
 use tz_regs::Core;
