@@ -23,7 +23,7 @@ use tz_decode::Decoded;
 use tz_excret::takes_first_uncounted;
 use tz_gate::secure_gateway;
 use tz_kept::Codes;
-use tz_model::{Board, Channels, Code, Fault, Insn, Outcome, Report, ScriptEvent, Side, Sleep};
+use tz_model::{Board, Channels, Code, Fault, Insn, Report, ScriptEvent, Side, Sleep};
 use tz_nvic::Exceptions;
 use tz_prio::is_negative;
 use tz_regs::Core;
