@@ -61,9 +61,10 @@ marked_started m s t due linked is = marked_linked m (started s due) (started t 
 -- ---- what a step begins with
 
 -- where what moves may write is marked, and the timers pend alike, what may differ is
-pub begun_marked : (m m0 m' : Marks) (s t : State) (due : List ScriptEvent) → Marked m s t → Grows m m0 → (m0.exceptions ≡ false → begin_alike s.exceptions t.exceptions ≡ true)
+pub begun_marked : (m m0 m' : Marks) (s t : State) (due : List ScriptEvent) → Marked m s t → Grows m m0
+    → (e f : ExceptionsValue) → e ≡ s.exceptions → f ≡ t.exceptions → (m0.exceptions ≡ false → begin_alike e f ≡ true)
     → NotesMoves s m0 m' → NotesMoves t m0 m' → Marked m' (started s due) (started t due)
-begun_marked m m0 m' s t due h first alike n n' =
+begun_marked m m0 m' s t due h first e f of_s of_t alike n n' =
     let a = moves_told (with_exceptions s (begun s.exceptions due)) in
     let b = moves_told (with_exceptions t (begun t.exceptions due)) in
     let all = grows_then m m0 m' first n.grows in
@@ -71,10 +72,11 @@ begun_marked m m0 m' s t due h first alike n n' =
       sau = λ none. h.sau (all.all none);
       bytes = λ q shown unmarked. a.bytes q (n.beside q unmarked) ∙ h.bytes q shown (all.blocks (q / 32) unmarked) ∙ sym (b.bytes q (n'.beside q unmarked));
       exceptions = λ none.
-          let e = begun_alike s.exceptions t.exceptions due (h.exceptions (all.exceptions none)) (alike (n.grows.exceptions none)) in
+          let pend : begin_alike s.exceptions t.exceptions ≡ true = (λ i. begin_alike (sym of_s i) (sym of_t i)) ∙ alike (n.grows.exceptions none) in
+          let begin = begun_alike s.exceptions t.exceptions due (h.exceptions (all.exceptions none)) pend in
           let p = a.exceptions (n.exceptions none) in
           let q = b.exceptions (n'.exceptions none) in
-          p ∙ e ∙ ap (with_timers_of (begun s.exceptions due)) (sym q) ∙ ap (λ (z : ExceptionsValue). with_timers_of z (started t due).exceptions) (sym p);
+          p ∙ begin ∙ ap (with_timers_of (begun s.exceptions due)) (sym q) ∙ ap (λ (z : ExceptionsValue). with_timers_of z (started t due).exceptions) (sym p);
     }
 
 -- ---- a step

@@ -56,6 +56,14 @@ impl Model for Pair {
     ghost invariant = { λ p. p.found ≡ None → IsLinked p.first p.second × Marked p.marks p.first p.second };
 }
 
+/// Whether a machine has a mover.
+#[inline(always)]
+fn has_mover(machine: &Machine) -> bool
+    ensures { result ≡ machine.now.bus.board.mover }
+{
+    machine.board().mover
+}
+
 /// Marks what the moves at the beginning of a step of both may write. Both are of one board, so that one test tells where
 /// there is no mover.
 #[inline(always)]
@@ -64,8 +72,7 @@ fn note_moves_of_both(marks: &mut Marks, first: &Machine, second: &Machine)
     ensures first { NotesMoves first.now marks.old marks.new }
     ensures second { NotesMoves second.now marks.old marks.new }
 {
-    let mover = first.board().mover;
-    if mover {
+    if has_mover(first) {
         marks.note_moves(first);
         marks.note_moves(second);
     }

@@ -6,7 +6,8 @@ use Rattle.tz_iso.proofs.runs.begin_marks.Goals as goal
 pub returns-in-Secure : goal.returns-in-Secure
 returns-in-Secure c =
     λ due. begun_marked c.args.marks.now c.note_timers.new.marks c.note_moves_of_both.new.marks c.args.first.now c.args.second.now due c.requires.marked
-    c.note_timers.ensures.grows c.note_timers.ensures.timers c.note_moves_of_both.ensures.first c.note_moves_of_both.ensures.second
+    c.note_timers.ensures.grows c.exceptions.result.now c.exceptions-in-Secure.result.now c.exceptions.ensures c.exceptions-in-Secure.ensures
+    c.note_timers.ensures.timers c.note_moves_of_both.ensures.first c.note_moves_of_both.ensures.second
 
 pub returns-in-NonSecure : goal.returns-in-NonSecure
 returns-in-NonSecure c =
