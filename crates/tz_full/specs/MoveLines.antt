@@ -1,5 +1,5 @@
 -- What the mover moved at the beginning of a step (own).
-use Rattle.std.specs.Prelude.{ℕ, ◌/◌, ◌%◌, ◌^◌, ◌==◌, Bool, not, ◌&&◌, if◌then◌else◌, List, [], ◌++◌, codes, decimal, Option, Some, None}
+use Rattle.std.specs.Prelude.{ℕ, ◌==◌, Bool, not, ◌&&◌, if◌then◌else◌, List, [], ◌++◌, codes, decimal, Option, Some, None}
 use Rattle.tz_model.specs.declared.channel.Channel.{Channel}
 use Rattle.tz_state.specs.declared.moves.Move.{Move}
 use Rattle.tz_state.specs.declared.moves.Moves.{Moves}
