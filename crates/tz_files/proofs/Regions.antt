@@ -11,7 +11,7 @@ use Rattle.tz_model.specs.declared.board.RegionSide.{RegionSide}
 use Rattle.tz_model.specs.declared.board.SauRegion.{SauRegion}
 use Rattle.tz_model.specs.declared.board.Profile.{Profile}
 use Rattle.tz_model.specs.Outside.{Held}
-use Rattle.tz_board.specs.Boards.{Read, Place, Top, InRegion, ◌>>=◌, required, found_at, of_kind, in_range, bounded_number_at, kind_at, side_at, region_in, tables_in, some_table, each, regions_listed, regions_at, sau_at, numbers_at, Numbers, profile_at, first_overlap, is_small, without_overlap, within_limits, board_with, board_in, document_of, documented, board_of}
+use Rattle.tz_board.specs.Boards.{Read, Place, Top, InRegion, ◌>>=◌, required, found_at, of_kind, in_range, bounded_number_at, kind_at, side_at, region_in, tables_in, some_table, each, regions_listed, regions_at, sau_at, numbers_at, Numbers, profile_at, mover_at, first_overlap, is_small, without_overlap, within_limits, board_with, board_in, document_of, documented, board_of}
 use Rattle.tz_board.specs.Boards as keys
 use Rattle.tz_board.specs.Demo.{demo}
 use Rattle.tz_words.specs.StartWords.{StartWords}
@@ -128,13 +128,16 @@ small_holds false r e h k = k
 limits_hold : (b : BoardValue) → HasRegions b → Holds HasRegions (within_limits b)
 limits_hold b h = small_holds (is_small b) (without_overlap (first_overlap [] b.regions) b) _ (apart_holds (first_overlap [] b.regions) b h) tt
 
--- a board behind its numbers, its profile, and its regions
+-- a board behind its numbers, its profile, whether it has a mover, and its regions
 module _ (ms : Members) where
-  abbrev with_regions : Numbers → Profile → List Region → Read BoardValue
-  with_regions numbers profile regions = sau_at ms >>= (λ (sau : List SauRegion). within_limits (board_with numbers profile regions sau))
+  abbrev with_regions : Numbers → Profile → Bool → List Region → Read BoardValue
+  with_regions numbers profile mover regions = sau_at ms >>= (λ (sau : List SauRegion). within_limits (board_with numbers profile mover regions sau))
+
+  abbrev with_mover : Numbers → Profile → Bool → Read BoardValue
+  with_mover numbers profile mover = regions_at ms >>= with_regions numbers profile mover
 
   abbrev with_profile : Numbers → Profile → Read BoardValue
-  with_profile numbers profile = regions_at ms >>= with_regions numbers profile
+  with_profile numbers profile = mover_at (Top keys.Mover) ms >>= with_mover numbers profile
 
   abbrev with_numbers : Numbers → Read BoardValue
   with_numbers numbers = profile_at (Top keys.Profile) ms >>= with_profile numbers
@@ -144,8 +147,9 @@ module _ (ms : Members) where
   board_holds =
       then_any HasRegions (numbers_at ms) with_numbers (λ numbers.
       then_any HasRegions (profile_at (Top keys.Profile) ms) (with_profile numbers) (λ profile.
-      then_holds AreRegions HasRegions (regions_at ms) (with_regions numbers profile) (regions_hold ms) (λ regions h.
-      then_any HasRegions (sau_at ms) (λ (sau : List SauRegion). within_limits (board_with numbers profile regions sau)) (λ sau. limits_hold (board_with numbers profile regions sau) h))))
+      then_any HasRegions (mover_at (Top keys.Mover) ms) (with_mover numbers profile) (λ mover.
+      then_holds AreRegions HasRegions (regions_at ms) (with_regions numbers profile mover) (regions_hold ms) (λ regions h.
+      then_any HasRegions (sau_at ms) (λ (sau : List SauRegion). within_limits (board_with numbers profile mover regions sau)) (λ sau. limits_hold (board_with numbers profile mover regions sau) h)))))
 
 file_holds : (bytes : List ℕ) → Holds HasRegions (board_of bytes)
 unfolding board_of
