@@ -245,3 +245,10 @@ pub executes_alike : (s : State) (i : Insn) (course : Course) (code : Code) → 
     → executes s.core course code i (executed s i) ≡ executes (executed s i).state.core course code i (executed s i)
 executes_alike s i course code e =
     let x = executed s i in concludes_alike s.core i x.state course code x.stores x.outcome (family_same (family_of i) s i e)
+
+-- a load of PC has nothing to do with the monitor
+pub executes_load : (s : State) (i : Insn) (course : Course) (code : Code) → loads_pc i ≡ true
+    → executes s.core course code i (executed s i) ≡ executes s.core course code i (loads_stores s i)
+executes_load s (insns.Load size signed rt address user) course code e = refl
+executes_load s (insns.LoadMany rn list down back) course code e = refl
+executes_load s i course code e = cc

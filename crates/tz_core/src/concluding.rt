@@ -34,11 +34,13 @@ pub(crate) fn loads_pc(insn: &Insn) -> bool
 
 impl Machine {
     ghost use Rattle.tz_state.specs.State.{priority_in, is_negative_at};
-    ghost use Rattle.tz_sem.specs.Exec.{executed};
+    ghost use Rattle.tz_sem.specs.Exec.{loads_stores};
     ghost use Rattle.tz_sem.specs.Step.{goes_on, concludes, executes};
     ghost use Rattle.tz_core.specs.Closing.{ending_of};
 
-    /// Goes on after an instruction, of which the core before it is the one that it left where it exchanges.
+    /// Goes on after an instruction that left the core as it was where it exchanges. This and `conclude` are always
+    /// inlined, as `make_step` is.
+    #[inline(always)]
     fn go_on(
         &mut self,
         insn: &Insn,
@@ -78,6 +80,7 @@ impl Machine {
     }
 
     /// Goes on after an instruction, or faults.
+    #[inline(always)]
     pub(crate) fn conclude(
         &mut self,
         insn: &Insn,
@@ -99,7 +102,8 @@ impl Machine {
         }
     }
 
-    /// Runs a load of PC. It alone keeps a copy of the core before it, for a fault of the return that it asks for.
+    /// Runs a load of PC. It alone keeps a copy of the core before it, for a fault of the return that it asks for. It has no
+    /// part in `execute`, of which one caller has a copy of its own.
     #[inline(never)]
     pub(crate) fn load_pc(
         &mut self,
@@ -114,11 +118,11 @@ impl Machine {
         requires empty { array_vec_len stores.old ≡ 0 }
         requires unnoted { noted.old ≡ None }
         requires few { noted_count written.old ≤ 2 }
-        ensures does { executes self.old.core course code.now insn.now (executed self.old insn.now) ≡ record { state = self.new; stores = stores.new.items; ending = ending_of result noted.new } }
+        ensures does { executes self.old.core course code.now insn.now (loads_stores self.old insn.now) ≡ record { state = self.new; stores = stores.new.items; ending = ending_of result noted.new } }
         ensures back { before_stores written.new self.new.bus.memory ≡ before_stores written.old self.old.bus.memory }
     {
         let before = self.core;
-        match self.execute(insn, course.negative, stores, written) {
+        match self.load_store(insn, course.negative, stores, written) {
             Ok(Outcome::Exchange { target, ns }) => {
                 self.exchange(insn, &before, course, code, target, ns, noted, written)
             }

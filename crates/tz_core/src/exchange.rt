@@ -109,7 +109,8 @@ impl Machine {
         close
     }
 
-    /// Exchanges to a target: BX, BXNS and loads of PC.
+    /// Exchanges to a target: BX, BXNS and loads of PC. It is always inlined, as `make_step` is.
+    #[inline(always)]
     #[tactic(auto, unfolding(tz_sem::specs::Exchange::exchanged))]
     pub(crate) fn exchange(
         &mut self,

@@ -27,7 +27,7 @@ impl Machine {
     ghost use Rattle.tz_state.specs.State.{priority_in, is_negative_at};
 
     /// A load or a store of the running code.
-    fn load_store(
+    pub(crate) fn load_store(
         &mut self,
         insn: &Insn,
         negative: bool,
