@@ -140,10 +140,14 @@ fn shown_steps(rt: HostRuntime) -> Result<(), Fail> {
         let mut report = report(row.kind, Side::NonSecure, false, Side::NonSecure);
         report.changes.try_extend_from_slice(row.changes)?;
         report.stores.try_extend_from_slice(row.stores)?;
-        hold(&rt, line(&report, 7, View::Ns).as_str() == row.ns, row.ns);
         hold(
             &rt,
-            line(&report, 7, View::All).as_str() == row.all,
+            line(&report, 7, View::Ns).bytes() == row.ns.as_bytes(),
+            row.ns,
+        );
+        hold(
+            &rt,
+            line(&report, 7, View::All).bytes() == row.all.as_bytes(),
             row.all,
         );
     }
@@ -155,7 +159,15 @@ fn shown_steps(rt: HostRuntime) -> Result<(), Fail> {
 fn hidden_steps(rt: HostRuntime) {
     for &(kind, start, touched, end, want) in HIDDEN.iter() {
         let report = report(kind, start, touched, end);
-        hold(&rt, line(&report, 7, View::Ns).as_str() == "7 S\n", want);
-        hold(&rt, line(&report, 7, View::All).as_str() == want, want);
+        hold(
+            &rt,
+            line(&report, 7, View::Ns).bytes() == b"7 S\n".as_slice(),
+            want,
+        );
+        hold(
+            &rt,
+            line(&report, 7, View::All).bytes() == want.as_bytes(),
+            want,
+        );
     }
 }
