@@ -17,3 +17,4 @@ pub mod HexDigits
 pub mod NamePieces
 pub mod Numbers
 pub mod Pieces
+pub mod PieceTexts

@@ -8,6 +8,7 @@ ghost use Rattle.std.specs.Prelude.{◌≡◌, ◌≤◌, ◌<◌, ◌+◌, ◌+
 ghost use Rattle.tz_table.specs.declared.units.Code.{Code};
 ghost use Rattle.tz_text.specs.Instruction.{ran_text};
 ghost use Rattle.tz_text.specs.Kept.{number_of, upper_of};
+ghost use Rattle.tz_text.specs.Room.{IsText};
 
 use crate::instructions::{Text, push_ran};
 use crate::room::Line;
@@ -54,6 +55,7 @@ struct Entry {
     len: usize,
     piece: [u8; LONGEST],
     ghost within: { len ≤ 116 },
+    ghost text: { IsText (take len piece) },
     ghost tells: { (code : Code) → code.first < 65536 → number_of code ≡ number → take len piece ≡ ran_text pc code },
 }
 

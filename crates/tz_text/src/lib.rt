@@ -19,6 +19,5 @@ mod spelled;
 
 pub use disassembly::{disassemble, runs_are_maximal};
 pub use lines::{Lines, line};
-pub use room::Line;
 pub use spelled::decoded_is_spelled;
 pub use tz_model::View;

@@ -37,9 +37,9 @@ fn push_size(line: &mut Line, size: Size)
     ensures len { length line.new.bytes ≡ length line.old.bytes + 4 }
 {
     match size {
-        Size::Byte => line.push(b"].1="),
-        Size::Half => line.push(b"].2="),
-        Size::Word => line.push(b"].4="),
+        Size::Byte => line.push("].1="),
+        Size::Half => line.push("].2="),
+        Size::Word => line.push("].4="),
     }
 }
 
@@ -52,7 +52,7 @@ fn push_stores(line: &mut Line, stores: &[Store])
     ensures len { length line.new.bytes ≤ length line.old.bytes + 22 * length stores.now }
 {
     for store in stores {
-        line.push(b" [");
+        line.push(" [");
         line.push_word(store.addr);
         push_size(line, store.size);
         line.push_word(store.value);
@@ -67,7 +67,7 @@ fn push_exception(line: &mut Line, number: u16)
 {
     let mut digits = ArrayString::<10>::new();
     push_decimal(&mut digits, u32::from(number));
-    line.push(digits.as_str().as_bytes());
+    line.push(digits.as_str());
 }
 
 /// An exception that was taken, with LR.
@@ -77,9 +77,9 @@ fn push_taken(line: &mut Line, number: u16, lr: u32)
     ensures bytes { line.new.bytes ≡ line.old.bytes ++ codes "X " ++ decimal number ++ codes " " ++ hex_word lr }
     ensures len { length line.new.bytes ≤ length line.old.bytes + 21 }
 {
-    line.push(b"X ");
+    line.push("X ");
     push_exception(line, number);
-    line.push(b" ");
+    line.push(" ");
     line.push_word(lr);
 }
 
@@ -91,8 +91,8 @@ fn push_report(line: &mut Line, texts: &mut Texts, report: &Report)
     ensures len { length line.new.bytes ≤ length line.old.bytes + 692 }
 {
     match report.kind {
-        StepKind::Locked => line.push(b"L"),
-        StepKind::Idle => line.push(b"Z"),
+        StepKind::Locked => line.push("L"),
+        StepKind::Idle => line.push("Z"),
         StepKind::Taken { number, lr } => push_taken(line, number, lr),
         StepKind::Ran { pc, code } => {
             texts.push(line, pc, &code);
@@ -117,8 +117,8 @@ fn push_start(line: &mut Line, start: Side)
     ensures len { length line.new.bytes ≡ length line.old.bytes + 2 }
 {
     match start {
-        Side::Secure => line.push(b"s "),
-        Side::NonSecure => line.push(b"n "),
+        Side::Secure => line.push("s "),
+        Side::NonSecure => line.push("n "),
     }
 }
 
@@ -132,7 +132,7 @@ fn push_body(line: &mut Line, texts: &mut Texts, report: &Report, view: View)
     match view {
         View::Ns => {
             if is_hidden(report) {
-                line.push(b"S");
+                line.push("S");
             } else {
                 push_report(line, texts, report);
             }
@@ -191,16 +191,17 @@ impl Lines {
         self.line.clear();
         push_number(&mut self.line, &mut self.tens, step);
         push_body(&mut self.line, &mut self.texts, report, view);
-        self.line.push(b"\n");
+        self.line.push("\n");
     }
 }
 
 /// The line of a step with its line feed, as a view shows it. `step` counts from 0.
-pub fn line(report: &Report, step: u32, view: View) -> Line
+pub fn line(report: &Report, step: u32, view: View) -> ArrayString<768>
     ensures { result.bytes ≡ line view step report.now }
 {
     let mut lines = Lines::new();
     lines.make(report, step, view);
-    let Lines { line, .. } = lines;
-    line
+    let mut text = ArrayString::new();
+    text.push_str(lines.line.as_str());
+    text
 }

@@ -2,6 +2,7 @@
 
 ghost use Rattle.std.specs.Prelude.{◌≡◌, ◌≤◌, ◌+◌, ◌++◌, codes, length, take};
 ghost use Rattle.tz_text.specs.Line.{change_name};
+ghost use Rattle.tz_text.specs.Room.{IsText};
 
 use crate::room::Line;
 
@@ -28,7 +29,8 @@ static NAMES: [([u8; 8], usize); 16] = [
 /// A name between a space and `=`. A number that stands for no register has none.
 #[inline(always)]
 fn named(name: u8) -> ([u8; 8], usize)
-    ensures text { take result.1 result.0 ≡ codes " " ++ change_name name ++ codes "=" }
+    ensures piece { take result.1 result.0 ≡ codes " " ++ change_name name ++ codes "=" }
+    ensures text { IsText (take result.1 result.0) }
     ensures short { result.1 ≤ 6 }
 {
     let place = name as usize;

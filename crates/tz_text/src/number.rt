@@ -65,5 +65,5 @@ pub fn push_number(line: &mut Line, kept: &mut Tens, number: u32)
     kept.keep(number / 10);
     line.push_front(&kept.piece, kept.len);
     let last = 48 + (number % 10) as u8;
-    line.push(&[last, 32]);
+    line.push_front(&[last, 32], 2);
 }

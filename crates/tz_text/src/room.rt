@@ -5,9 +5,11 @@
 
 ghost use Rattle.std.specs.Prelude.{◌≡◌, ◌≤◌, ◌+◌, ◌++◌, [], length, take};
 ghost use Rattle.tz_syntax.specs.Digits.{hex_word};
+ghost use Rattle.tz_text.specs.Room.{IsText};
 
 use crate::hex::write_word;
 use std::marker::Model;
+use std::str;
 
 /// How many bytes there is room for: a line of at most 768, and a piece of at most 128 behind it.
 pub const ROOM: usize = 896;
@@ -22,13 +24,13 @@ pub struct Line {
 
 impl Model for Line {
     ghost use Rattle.std.specs.Prelude.{◌≤◌, take};
-    ghost use Rattle.tz_text.specs.Room.{LineBytes};
+    ghost use Rattle.tz_text.specs.Room.{LineBytes, IsText};
 
     ghost Value = { LineBytes };
 
     ghost view = { λ l. record { bytes = take l.len l.cells } };
 
-    ghost invariant = { λ l. l.len ≤ 768 };
+    ghost invariant = { λ l. (l.len ≤ 768) × IsText (take l.len l.cells) };
 }
 
 impl Line {
@@ -50,6 +52,17 @@ impl Line {
         &self.cells[..self.len]
     }
 
+    /// The same as text.
+    pub fn as_str(&self) -> &str
+        ensures value { result.now ≡ self.now.bytes }
+        ensures fits { length result.now ≤ 768 }
+    {
+        match str::from_utf8(self.bytes()) {
+            Ok(text) => text,
+            Err(_) => "",
+        }
+    }
+
     /// Makes it empty.
     #[inline(always)]
     pub(crate) fn clear(&mut self)
@@ -58,11 +71,12 @@ impl Line {
         self.len = 0;
     }
 
-    /// Appends the front of a piece that has `count` bytes.
+    /// Appends the front of a piece, a text that has `count` bytes.
     #[inline(always)]
     pub(crate) fn push_front(&mut self, piece: &[u8], count: usize)
         requires short { length piece.now ≤ 128 }
         requires within { count ≤ length piece.now }
+        requires text { IsText (take count piece.now) }
         requires room { length self.old.bytes + count ≤ 768 }
         ensures bytes { self.new.bytes ≡ self.old.bytes ++ take count piece.now }
         ensures len { length self.new.bytes ≡ length self.old.bytes + count }
@@ -74,13 +88,13 @@ impl Line {
 
     /// Appends a text.
     #[inline(always)]
-    pub(crate) fn push(&mut self, text: &[u8])
+    pub(crate) fn push(&mut self, text: &str)
         requires short { length text.now ≤ 128 }
         requires room { length self.old.bytes + length text.now ≤ 768 }
         ensures bytes { self.new.bytes ≡ self.old.bytes ++ text.now }
         ensures len { length self.new.bytes ≡ length self.old.bytes + length text.now }
     {
-        self.push_front(text, text.len());
+        self.push_front(text.as_bytes(), text.len());
     }
 
     /// Appends the eight digits of a word.
