@@ -1,6 +1,6 @@
 //! What stores overwrote: it is noted, where that is wanted, and put back.
 
-ghost use Rattle.std.specs.Prelude.{◌≡◌, ◌+◌, ◌<◌, ◌≤◌, ◌^◌, true, false, take, slice_index_or, Some, OnOk, OnErr};
+ghost use Rattle.std.specs.Prelude.{◌≡◌, ◌+◌, ◌++◌, ◌<◌, ◌≤◌, ◌^◌, [], ◌∷◌, true, false, take, slice_index_or, IfOk, Some, OnOk, OnErr};
 ghost use Rattle.arrayvec.specs.ArrayVec.{array_vec_len};
 ghost use Rattle.tz_model.specs.Words.{wrap};
 ghost use Rattle.tz_state.specs.Access.{is_writable};
@@ -10,6 +10,8 @@ ghost use Rattle.tz_access.specs.Written.{put_back, undone, before_stores, noted
 
 use crate::bus::Bus;
 use arrayvec::ArrayVec;
+use std::alloc::{AllocError, Global};
+use std::marker::Model;
 use tz_mem::Refused;
 use tz_model::Size;
 
@@ -31,15 +33,65 @@ impl Default for Was {
     }
 }
 
-/// What the stores of a step overwrote, the newest last: those of its instruction, and those of frames.
-pub type Written = ArrayVec<Was, 40>;
+/// What the stores of a step overwrote, the newest last: those of its instruction, and those of frames. It stands in a
+/// box, so that a step which notes nothing has no room for it to make ready.
+#[derive(Drop)]
+pub struct Written {
+    list: Box<ArrayVec<Was, 40>>,
+}
 
-/// What the store of a number overwrote.
-fn was_at(written: &Written, index: usize) -> Was
-    requires { index < array_vec_len written.now }
-    ensures { result ≡ slice_index_or written.now.items index result }
-{
-    written[index]
+impl Model for Written {
+    ghost use Rattle.arrayvec.specs.ArrayVec.{ArrayVec};
+    ghost use Rattle.tz_access.specs.declared.written.Was.{Was};
+
+    ghost Value = { ArrayVec Was };
+
+    ghost view = { λ w. w.list.value };
+}
+
+impl Written {
+    /// A list with room for 40 stores, and none in it.
+    ///
+    /// # Errors
+    ///
+    /// `AllocError` where memory runs out.
+    pub fn new(alloc: Global) -> Result<Written, AllocError>
+        ensures { IfOk result (λ written. array_vec_len written ≡ 0) }
+    {
+        let list = Box::new(alloc, ArrayVec::new())?;
+        Ok(Written { list })
+    }
+
+    /// Forgets all stores.
+    pub fn clear(&mut self)
+        ensures { self.new.items ≡ [] }
+    {
+        self.list.clear();
+    }
+
+    /// How many stores are noted.
+    pub fn len(&self) -> usize
+        ensures { result ≡ array_vec_len self.now }
+    {
+        self.list.len()
+    }
+
+    /// What the store of a number overwrote.
+    fn was_at(&self, index: usize) -> Was
+        requires { index < array_vec_len self.now }
+        ensures { result ≡ slice_index_or self.now.items index result }
+    {
+        self.list[index]
+    }
+
+    /// Notes what one more store overwrote.
+    fn push(&mut self, was: Was)
+        requires { array_vec_len self.old < 40 }
+        ensures items { self.new.items ≡ self.old.items ++ (was ∷ []) }
+        ensures len { array_vec_len self.new ≡ array_vec_len self.old + 1 }
+    {
+        self.list.push(was);
+    }
 }
 
 impl Bus {
@@ -124,7 +176,7 @@ impl Bus {
         requires { index < array_vec_len written.now }
         ensures { with_memory self.new (undone (take index written.now.items) self.new.memory) ≡ with_memory self.old (undone (take (index + 1) written.now.items) self.old.memory) }
     {
-        let was = was_at(written, index);
+        let was = written.was_at(index);
         self.put_back(&was);
     }
 

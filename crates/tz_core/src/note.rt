@@ -1,6 +1,6 @@
 //! Steps that can be taken back: what a step was before it was made is noted, with what its stores overwrote.
 
-ghost use Rattle.std.specs.Prelude.{◌≡◌, Some};
+ghost use Rattle.std.specs.Prelude.{◌≡◌, Some, IsSome};
 ghost use Rattle.tz_state.specs.Memory.{Memory};
 ghost use Rattle.tz_sem.specs.Step.{step};
 ghost use Rattle.tz_twin.specs.Integrity.{LeavesSecure, EntersSecure};
@@ -9,7 +9,6 @@ ghost use Rattle.tz_access.specs.Written.{before_stores, noted_count};
 ghost use Rattle.tz_core.specs.Undo.{note_of, undo_of};
 
 use crate::running::Machine;
-use arrayvec::ArrayVec;
 use std::alloc::{AllocError, Global};
 use std::marker::Model;
 use tz_access::{Units, Written};
@@ -23,10 +22,12 @@ pub struct Note {
     core: Core,
     exceptions: Exceptions,
     units: Units,
+    /// The list is always there: it is an option as the steps of a machine take it.
     written: Option<Written>,
 }
 
 impl Model for Note {
+    ghost use Rattle.std.specs.Prelude.{IsSome};
     ghost use Rattle.tz_core.specs.Undo.{NoteValue, stores_noted};
 
     ghost Value = { NoteValue };
@@ -40,17 +41,19 @@ impl Model for Note {
       monitor = n.units.monitor;
       written = stores_noted n.written;
     } };
+
+    ghost invariant = { λ n. IsSome n.written };
 }
 
-/// Begins a list of what stores overwrite.
+/// Begins a list of what stores overwrite, which is there.
 #[tactic(auto, unfolding(tz_access::specs::Written::before_stores, tz_access::specs::Written::undone))]
 fn begin(written: &mut Option<Written>)
+    requires { IsSome written.old }
     ensures begun { (m : Memory) → before_stores written.new m ≡ Some m }
     ensures empty { noted_count written.new ≡ 0 }
 {
-    match written {
-        Some(list) => list.clear(),
-        None => *written = Some(ArrayVec::new()),
+    if let Some(list) = written {
+        list.clear();
     }
 }
 
@@ -63,11 +66,12 @@ impl Note {
     /// `AllocError` where memory runs out.
     pub fn new(alloc: Global, board: &Board) -> Result<Note, AllocError> {
         let exceptions = Exceptions::new(alloc, board.interrupts)?;
+        let written = Written::new(alloc)?;
         Ok(Note {
             core: Core::reset(0, 0, 0, 0, false),
             exceptions,
             units: Units::new(board),
-            written: Some(ArrayVec::new()),
+            written: Some(written),
         })
     }
 }

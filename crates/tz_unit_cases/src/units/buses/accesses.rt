@@ -32,7 +32,8 @@ fn checked(bus: &mut Bus, asked: &Asked) -> Result<Place, Fault> {
 /// Makes two stores in turn, tells the word at the address of the first, and puts back what both overwrote.
 fn undo(bus: &mut Bus, asker: &Asker, asked: &Asked, case: &mut Case<'_>) {
     let [addr, value, other, last, ..] = asked.numbers;
-    let mut written = Some(Written::new());
+    let made = Written::new(case.alloc);
+    let mut written = case.kept(made);
     let _first = bus.store(asker, asked.size, addr, value, false, false, &mut written);
     let _second = bus.store(asker, asked.size, other, last, false, false, &mut written);
     tell_number(case, bus.read(addr, Size::Word).ok(), "not mapped");

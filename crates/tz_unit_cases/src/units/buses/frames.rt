@@ -27,7 +27,8 @@ fn room_after(written: &Option<Written>) -> i64 {
 /// it, of room for 40 stores.
 pub fn step(bus: &mut Bus, step: &FrameStep, asked: &Asked, case: &mut Case<'_>) {
     let [first, second, number, ..] = asked.numbers;
-    let mut written = Some(Written::new());
+    let made = Written::new(case.alloc);
+    let mut written = case.kept(made);
     let mut frames = BusFrames {
         bus,
         vtor_s: first,

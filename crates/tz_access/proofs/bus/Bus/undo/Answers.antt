@@ -7,10 +7,10 @@ use Rattle.tz_access.proofs.bus.Bus.undo.Goals as goal
 pub loop-index-init : goal.loop-index-init
 loop-index-init c =
     let ws = c.args.written.now.items in
-    let all : c.len-count.result - 0 ≡ length ws = omega (arith, c.len-count.ensures.value) in
+    let all : c.len-count.result - 0 ≡ length ws = omega (arith, c.len-count.ensures) in
     record {
       told = ap (λ xs. with_memory c.args.self.now (undone xs c.args.self.now.memory)) (sym (taken_all ws (c.len-count.result - 0) all));
-      count = c.len-count.ensures.value;
+      count = c.len-count.ensures;
     }
 
 pub loop-index-preserved : goal.loop-index-preserved
