@@ -5,6 +5,7 @@ use Rattle.std.proofs.lemmas.Fmt.{IsAscii-decimal}
 use Rattle.std.proofs.lemmas.List.{get_or_default}
 use Rattle.std.proofs.lemmas.Str.{IsUtf8-append, IsUtf8-from_ascii, IsUtf8-from_is_utf8, is_utf8-from_IsUtf8, IsAscii-append}
 use Rattle.std.proofs.lemmas.Str.Ascii.{IsAscii-nil, IsAscii-cons}
+use Rattle.std.specs.Fmt.{decimal}
 use Rattle.std.specs.Str.{IsAscii}
 use lib.Ieee.Fits.{and_l, and_r}
 use Rattle.tz_syntax.specs.Digits.{hex_digit, hex_byte, hex_half, hex_word}
