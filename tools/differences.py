@@ -54,6 +54,15 @@ SCRATCH = Told(
     "same one; where each secret has its own, as of a cipher, build both images with 0 in its place. Read an address "
     "of the caller's once, and look at it before it is used",
 )
+# Of such a register at a call of Non-secure code.
+PASSED = Told(
+    SCRATCH.meaning,
+    "an argument of the call (R0 to R3) depends on the secret, or a register that Secure code has worked with isn't "
+    "cleared before the call",
+    "C: call by a type with the attribute cmse_nonsecure_call and compile it by -mcmse. Assembly: clear R0 to R3 and "
+    "R12, as far as they aren't arguments, before blxns. Where it is an argument, give the callee nothing that "
+    "depends on the secret",
+)
 KEPT = Told(
     "Non-secure code has it at its next instruction",
     "Secure code has worked with a register of its caller and doesn't give the caller's word back, or it calls or "
@@ -190,4 +199,6 @@ def told_of(what, kinds=()):
         return ALONE.get(more[0] if more else "", TIME)
     if first in WHATS:
         return WHATS[first]
-    return KEPT if re.fullmatch(r"r([4-9]|1[01])", first) else SCRATCH
+    if re.fullmatch(r"r([4-9]|1[01])", first):
+        return KEPT
+    return PASSED if "call" in kinds else SCRATCH

@@ -81,6 +81,10 @@ class Chart {
         return Math.max(0, Math.min(this.axis.count - 1, cell));
     }
 
+    shows(cell) {
+        return this.left <= cell && cell < this.left + this.span / this.scale;
+    }
+
     zoom(factor, x) {
         const cell = this.left + (x - this.gutter) / this.scale;
         this.scale *= factor;

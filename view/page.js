@@ -221,6 +221,13 @@ class Page {
         }
     }
 
+    // The window has another size. A chosen step that was in view stays there.
+    resize() {
+        const isShown = this.traces.length && this.chart.shows(this.cell);
+        this.layOutAll();
+        if (isShown) this.chart.reveal(this.cell);
+    }
+
     help() {
         const rows = KEYS.map(([key, meaning]) => [element('kbd', {}, key), meaning]);
         byId('keys-table').replaceChildren(table('', ['Key', 'Does'], rows));
@@ -323,7 +330,7 @@ async function start() {
     listenToChart(page);
     listenToPrint(page);
     listenToScheme(page);
-    window.addEventListener('resize', () => page.layOutAll());
+    window.addEventListener('resize', () => page.resize());
     window.addEventListener('hashchange', () => page.traces.length && page.select(page.firstCell()));
     try {
         const files = await embeddedFiles();

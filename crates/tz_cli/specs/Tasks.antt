@@ -93,10 +93,10 @@ shown_told held w = (shown_files held w).told
 abbrev pub end_of : Start → ℕ → State
 end_of start steps = state_after (events_of start.script) 0 (state_of start) steps
 
--- the states before each of the first n steps, the latest first
-abbrev pub states_before : Events → State → ℕ → List State
-states_before events s zero = []
-states_before events s (suc n) = state_after events 0 s n ∷ states_before events s n
+-- the states before each of n steps from step k on, the latest first
+abbrev pub states_before : Events → ℕ → State → ℕ → List State
+states_before events k s zero = []
+states_before events k s (suc n) = state_after events k s n ∷ states_before events k s n
 
 -- ---- tasks
 

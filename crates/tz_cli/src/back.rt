@@ -1,9 +1,9 @@
 //! The command `back`: a run whose last steps are undone, made again and written.
 //!
-//! The history of the run holds what undoes its last steps, and no more of them than are undone. Nothing is written
-//! before there is memory for it.
+//! Noting what undoes a step takes time, so the steps before those that are undone are made without a history. It has
+//! those that are undone, and no others. Nothing is written before there is memory for it.
 
-ghost use Rattle.std.specs.Prelude.{◌≡◌, ◌<◌, ◌≤◌, ◌-◌, [], ◌∷◌, IfOk, IfErr, drop, length, take};
+ghost use Rattle.std.specs.Prelude.{◌≡◌, ◌+◌, ◌^◌, ◌<◌, ◌≤◌, ◌-◌, [], ◌∷◌, IfOk, IfErr, drop, length, take};
 ghost use Rattle.tz_model.specs.Outside.{Gains};
 ghost use Rattle.tz_sem.specs.Run.{state_after};
 ghost use Rattle.tz_run.specs.Events.{events_of};
@@ -24,7 +24,7 @@ use tz_board::Script;
 use tz_core::Machine;
 use tz_model::{Board, Report, Shelf, Sink};
 use tz_ready::Steps;
-use tz_run::run_from;
+use tz_run::{make_steps, run_from};
 use tz_undo::History;
 
 /// The most steps that are undone.
@@ -40,20 +40,27 @@ fn kept_for(back: u32) -> u32
     if back == 0 { 1 } else { back }
 }
 
-/// Makes `steps` steps of a history that has none yet, over a ledger of the looks into the script. One report serves
-/// all steps.
-fn make_kept<L: Ledger>(blank: Blank, history: &mut History, script: &Script, steps: u32)
+/// Makes `steps` steps of a history that has none yet, as of a machine that has made `first` steps, over a ledger of the
+/// looks into the script. One report serves all steps.
+fn make_kept<L: Ledger>(
+    blank: Blank,
+    history: &mut History,
+    script: &Script,
+    first: u32,
+    steps: u32,
+)
     requires name { blank.name ≡ L.name }
     requires parts { blank.parts ≡ L.parts }
     requires some_part { 0 < blank.parts }
+    requires few { first + steps < 2 ^ 32 }
     requires fresh { history.old.before ≡ [] }
-    ensures state { history.new.now ≡ state_after (events_of script.now) 0 history.old.now steps }
-    ensures before { history.new.before ≡ take history.old.kept (states_before (events_of script.now) history.old.now steps) }
+    ensures state { history.new.now ≡ state_after (events_of script.now) first history.old.now steps }
+    ensures before { history.new.before ≡ take history.old.kept (states_before (events_of script.now) first history.old.now steps) }
 {
     let mut looks = Steps::<L>::start(blank);
     let mut report = Report::new();
-    for step in 0..steps {
-        let due = script.due(step, &mut looks);
+    for made in 0..steps {
+        let due = script.due(first + made, &mut looks);
         history.step_into(due, &mut report);
     }
 }
@@ -81,11 +88,14 @@ fn gone_back(
     requires made { back ≤ steps }
     ensures { IfOk result (λ m. m ≡ state_after (events_of script.now) 0 machine (steps - back)) }
 {
-    let mut history = match History::new(alloc, machine, board, kept_for(back)) {
+    let first = steps - back;
+    let mut reached = machine;
+    make_steps(&mut reached, script, first);
+    let mut history = match History::new(alloc, reached, board, kept_for(back)) {
         Ok(history) => history,
         Err(_) => return Err(AllocError),
     };
-    make_kept::<Brand>(Blank::new(1), &mut history, script, steps);
+    make_kept::<Brand>(Blank::new(1), &mut history, script, first, back);
     undo_steps(&mut history, back);
     Ok(history.into_machine())
 }

@@ -1,5 +1,6 @@
 -- What is noted of a step takes it back.
-use Rattle.std.proofs.Common.{◌≡◌, List, Option, Some, None, ap, ◌∙◌}
+use Rattle.std.proofs.Common.{◌≡◌, List, Option, Some, None, ap, ◌∙◌, refl}
+use Rattle.std.specs.Prelude.{IsSome}
 use Rattle.arrayvec.specs.ArrayVec.{ArrayVec}
 use Rattle.tz_model.specs.declared.report.ScriptEvent.{ScriptEvent}
 use Rattle.tz_state.specs.Memory.{Memory}
@@ -15,6 +16,12 @@ put_back : (w : Option (ArrayVec Was)) (m m' : Memory) → before_stores w m' �
 unfolding before_stores
 put_back None m m' e = cc
 put_back (Some ws) m m' e = cc
+
+-- a list that was there before the stores is there still
+pub is_there : (w : Option (ArrayVec Was)) (m m' : Memory) → before_stores w m' ≡ Some m → IsSome w
+unfolding before_stores
+is_there None m m' e = cc
+is_there (Some ws) m m' e = refl
 
 -- a step leaves the board
 board_stays : (s s' : State) (due : List ScriptEvent) → s' ≡ (step s due).state → s'.bus.board ≡ s.bus.board

@@ -248,9 +248,7 @@ impl Machine {
         self.conclude(insn, &before, course, code, outcome, stores, noted, written)
     }
 
-    /// Runs an instruction, unless it may not stand where it does, or its condition fails. It is always inlined, as
-    /// `go_by_sleep` is: each of both calls would cost a step some 37 instructions.
-    #[inline(always)]
+    /// Runs an instruction, unless it may not stand where it does, or its condition fails.
     fn run(
         &mut self,
         insn: &Insn,
@@ -429,7 +427,6 @@ impl Machine {
     }
 
     /// Goes on, or sleeps on, by what the core waits for.
-    #[inline(always)]
     fn go_by_sleep(
         &mut self,
         stores: &mut Stores,

@@ -1,5 +1,8 @@
 //! Steps on the bus of the built-in board: the profile, steps before the case, and the steps of the case.
 
+ghost use Rattle.std.specs.Prelude.{◌≡◌};
+ghost use Rattle.tz_access.specs.Written.{noted_count};
+
 mod accesses;
 mod fetches;
 mod frames;
@@ -13,7 +16,7 @@ use fetches::FetchStep;
 use frames::FrameStep;
 use plain::PlainStep;
 use std::alloc::{AllocError, Global};
-use tz_access::Bus;
+use tz_access::{Bus, Written};
 use tz_board::demo_board;
 use tz_model::Profile;
 use tz_testing::{Case, meant, profile_in};
@@ -24,6 +27,19 @@ fn bus_of(alloc: Global, profile: Profile) -> Result<Bus, AllocError> {
     let mut board = demo_board(alloc)?;
     board.profile = profile;
     Bus::new(alloc, &board)
+}
+
+/// A list of what stores overwrite, with none in it. Where memory is refused, that is kept, and there is no list.
+fn list_in(case: &mut Case<'_>) -> Option<Written>
+    ensures { noted_count result ≡ 0 }
+{
+    match Written::new(case.alloc) {
+        Ok(list) => Some(list),
+        Err(error) => {
+            let _none: Option<Written> = case.kept(Err(error));
+            None
+        }
+    }
 }
 
 /// A step: a plain access or one of the monitor, one of the units, an access with its checks, a fetch, or one of

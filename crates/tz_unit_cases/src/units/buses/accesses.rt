@@ -1,8 +1,9 @@
 //! Accesses with their checks.
 
 use crate::units::asked::Asked;
+use crate::units::buses::list_in;
 use crate::units::faults::{tell_fault, tell_number};
-use tz_access::{Bus, Place, Written};
+use tz_access::{Bus, Place};
 use tz_model::{Fault, Size};
 use tz_state::{Asker, Request};
 use tz_testing::Case;
@@ -32,8 +33,7 @@ fn checked(bus: &mut Bus, asked: &Asked) -> Result<Place, Fault> {
 /// Makes two stores in turn, tells the word at the address of the first, and puts back what both overwrote.
 fn undo(bus: &mut Bus, asker: &Asker, asked: &Asked, case: &mut Case<'_>) {
     let [addr, value, other, last, ..] = asked.numbers;
-    let made = Written::new(case.alloc);
-    let mut written = case.kept(made);
+    let mut written = list_in(case);
     let _first = bus.store(asker, asked.size, addr, value, false, false, &mut written);
     let _second = bus.store(asker, asked.size, other, last, false, false, &mut written);
     tell_number(case, bus.read(addr, Size::Word).ok(), "not mapped");

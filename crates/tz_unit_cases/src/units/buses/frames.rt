@@ -1,6 +1,7 @@
 //! Words of frames and vector tables, by the bus.
 
 use crate::units::asked::Asked;
+use crate::units::buses::list_in;
 use crate::units::faults::tell_word;
 use tz_access::{Bus, BusFrames, Written};
 use tz_frames::Frames;
@@ -18,7 +19,7 @@ pub enum FrameStep {
 fn room_after(written: &Option<Written>) -> i64 {
     match written {
         None => 40,
-        Some(list) => 40 - list.len() as i64,
+        Some(list) => 40 - list.len().min(40) as i64,
     }
 }
 
@@ -27,8 +28,7 @@ fn room_after(written: &Option<Written>) -> i64 {
 /// it, of room for 40 stores.
 pub fn step(bus: &mut Bus, step: &FrameStep, asked: &Asked, case: &mut Case<'_>) {
     let [first, second, number, ..] = asked.numbers;
-    let made = Written::new(case.alloc);
-    let mut written = case.kept(made);
+    let mut written = list_in(case);
     let mut frames = BusFrames {
         bus,
         vtor_s: first,

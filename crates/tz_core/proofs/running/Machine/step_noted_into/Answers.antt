@@ -6,7 +6,7 @@ use Rattle.tz_twin.specs.Ways.{TellsWay}
 use Rattle.tz_twin.proofs.Unharmed.{leaves_secure, enters_secure}
 use Rattle.tz_twin.proofs.WaysOut.{tells_way}
 use Rattle.tz_core.specs.Undo.{NoteValue, stores_noted, undo_of}
-use Rattle.tz_core.proofs.Undoes.{undoes}
+use Rattle.tz_core.proofs.Undoes.{is_there, undoes}
 use Rattle.tz_core.proofs.running.Machine.step_noted_into.Goals as goal
 
 pub returns-clause-steps : goal.returns-clause-steps
@@ -31,3 +31,7 @@ returns-clause-note c =
     let back = c.report_step.ensures.back ∙ c.begin.ensures.begun c.args.self.now.bus.memory in
     subst (λ (n : NoteValue). undo_of (record n { written = stores_noted c.report_step.new.written }) c.report_step.new.self ≡ c.args.self.now) (sym c.note.view_is)
     (undoes c.args.self.now c.report_step.new.self c.args.due.now c.note_state.new.note c.args.note.now.written c.report_step.new.written c.note_state.ensures is back)
+
+pub invariant_of-note : goal.invariant_of-note
+invariant_of-note c =
+    is_there c.report_step.new.written c.args.self.now.bus.memory c.report_step.new.self.bus.memory (c.report_step.ensures.back ∙ c.begin.ensures.begun c.args.self.now.bus.memory)
