@@ -27,7 +27,8 @@ digit_ascii d h = grind (arith, nat_tests)
 
 byte_ascii : (b : ℕ) → b < 256 → IsAscii (hex_byte b)
 unfolding hex_byte
-byte_ascii b h = IsAscii-cons _ _ (digit_ascii (b / 16) (omega arith)) (IsAscii-cons _ _ (digit_ascii (b % 16) (omega arith)) IsAscii-nil)
+byte_ascii b h =
+    IsAscii-cons (hex_digit (b / 16)) (hex_digit (b % 16) ∷ []) (digit_ascii (b / 16) (omega arith)) (IsAscii-cons (hex_digit (b % 16)) [] (digit_ascii (b % 16) (omega arith)) IsAscii-nil)
 
 half_ascii : (n : ℕ) → n < 65536 → IsAscii (hex_half n)
 unfolding hex_half
@@ -47,7 +48,7 @@ text_tens n h =
 
 -- the last digit, and a space
 pub text_last : (n : ℕ) → IsText ((48 + n % 10) ∷ 32 ∷ [])
-text_last n = text_ascii _ (IsAscii-cons _ _ (omega arith) (IsAscii-cons _ _ (omega arith) IsAscii-nil))
+text_last n = text_ascii ((48 + n % 10) ∷ 32 ∷ []) (IsAscii-cons (48 + n % 10) (32 ∷ []) (omega arith) (IsAscii-cons 32 [] (omega arith) IsAscii-nil))
 
 -- whether all are below 128
 abbrev ascii : List ℕ → Bool
@@ -70,7 +71,7 @@ below : (n k : ℕ) → T (are_ascii n) → k < n → IsAscii (take (get_or NAME
 below zero k t h = absurd (omega arith)
 below (suc n) k t h =
     elim (eq-zero-or-pos (n - k)) [
-      | inl z ↦ let e : k ≡ n = omega arith in rw e (from_ascii _ (and_l _ (are_ascii n) t))
+      | inl z ↦ let e : k ≡ n = omega arith in rw e (from_ascii (take (get_or NAMES n none).1 (get_or NAMES n none).0) (and_l _ (are_ascii n) t))
       | inr g ↦ below n k (and_r _ (are_ascii n) t) (omega arith)
     ]
 
