@@ -66,12 +66,16 @@ fn unset(count: u8) -> ArrayVec<Bounds, 16>
     regions
 }
 
-/// Makes regions as others are.
+/// Makes regions as others are. Those of one board are as many, and are copied where they stand.
 fn copy_bounds(bounds: &mut ArrayVec<Bounds, 16>, other: &ArrayVec<Bounds, 16>)
     ensures { bounds.new.items ≡ other.now.items }
 {
-    bounds.clear();
-    let _fits = bounds.try_extend_from_slice(other.as_slice());
+    if bounds.len() == other.len() {
+        bounds.as_mut_slice().copy_from_slice(other.as_slice());
+    } else {
+        bounds.clear();
+        let _fits = bounds.try_extend_from_slice(other.as_slice());
+    }
 }
 
 impl Mpu {

@@ -6,12 +6,16 @@ use crate::unit::Sau;
 use arrayvec::ArrayVec;
 use tz_state::Bounds;
 
-/// Makes regions as others are.
+/// Makes regions as others are. Those of one board are as many, and are copied where they stand.
 fn copy_bounds(bounds: &mut ArrayVec<Bounds, 8>, other: &ArrayVec<Bounds, 8>)
     ensures { bounds.new.items ≡ other.now.items }
 {
-    bounds.clear();
-    let _fits = bounds.try_extend_from_slice(other.as_slice());
+    if bounds.len() == other.len() {
+        bounds.as_mut_slice().copy_from_slice(other.as_slice());
+    } else {
+        bounds.clear();
+        let _fits = bounds.try_extend_from_slice(other.as_slice());
+    }
 }
 
 impl Sau {
