@@ -2,7 +2,7 @@
 use Rattle.std.specs.Prelude.{ℕ, ◌-◌, nat_lt, if◌then◌else◌, List, ◌++◌, codes, decimal}
 use Rattle.tz_model.specs.declared.report.Slot.{Slot}
 use Rattle.tz_state.specs.ExceptionNumbers.{first_interrupt}
-use Rattle.tz_show.specs.Exceptions.{system_name}
+use Rattle.tz_tell.specs.ExceptionNames.{system_name}
 use Rattle.tz_full.specs.Words.{side_text}
 
 unfoldable pub exception_name : ℕ → List ℕ

@@ -10,7 +10,7 @@ use Rattle.tz_frames.specs.declared.frame.StackFault.TheVariants.{Limit, Access,
 use Rattle.tz_frames.specs.declared.leaving.Returning.{Returning}
 use Rattle.tz_frames.specs.ReturnBits.{exc_return_es, exc_return_spsel, exc_return_mode, exc_return_ftype, exc_return_dcrs, exc_return_s}
 use Rattle.tz_frames.specs.Leave.{is_set, returning_by, side_of_bit}
-use Rattle.tz_show.specs.Frames.{frame_uses_process}
+use Rattle.tz_tell.specs.FramePointer.{frame_uses_process}
 use Rattle.tz_syntax.specs.Digits.{hex_word}
 use Rattle.tz_full.specs.Words.{side_text, mode_text}
 use Rattle.tz_full.specs.FaultNames.{fault_name, word_text}

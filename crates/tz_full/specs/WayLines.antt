@@ -20,7 +20,7 @@ use Rattle.tz_frames.specs.Stack.{additional_frame_size}
 use Rattle.tz_sem.specs.declared.ending.Cause.{Cause}
 use Rattle.tz_sem.specs.declared.ending.Cause.TheVariants.{Went, Called, CameBack, Resumed}
 use Rattle.tz_syntax.specs.Digits.{hex_word}
-use Rattle.tz_show.specs.Frames.{frame_pointer, frame_uses_process}
+use Rattle.tz_tell.specs.FramePointer.{frame_pointer, frame_uses_process}
 use Rattle.tz_sem.specs.declared.account.Account.{Account}
 use Rattle.tz_full.specs.FrameLines.{frame_text, additional_text}
 use Rattle.tz_full.specs.RefusalLines.{exc_return_line}

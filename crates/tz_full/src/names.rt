@@ -9,9 +9,9 @@ ghost use Rattle.tz_full.specs.ExceptionNames.{exception_name, slot_text};
 use crate::text::{Text, push_side};
 use itoa::Buffer;
 use tz_model::Slot;
-use tz_show::system_name;
 use tz_state::exception::{FIRST_INTERRUPT, ZERO_PRIORITY};
 use tz_syntax::push_decimal;
+use tz_tell::system_name;
 
 /// The name of an exception; external interrupts count from 0.
 #[tactic(auto, unfolding(crate::specs::ExceptionNames::exception_name))]

@@ -15,8 +15,8 @@ use tz_frames::return_bits::{
 use tz_frames::{Refusal, Returning, StackFault};
 use tz_model::{Fault, Side};
 use tz_regs::Core;
-use tz_show::frame_uses_process;
 use tz_syntax::{push_decimal, push_hex_word};
+use tz_tell::frame_uses_process;
 
 /// Whether a side is the Non-secure one.
 fn is_nonsecure(side: Side) -> bool

@@ -3,7 +3,7 @@
 ghost use Rattle.std.specs.Prelude.{◌≡◌, ◌<◌, OnOk};
 ghost use Rattle.tz_model.specs.Outside.{HasCause, Put};
 ghost use Rattle.tz_sem.specs.Run.{state_after};
-ghost use Rattle.tz_run.specs.Events.{events_of};
+ghost use Rattle.tz_board.specs.Scripts.{due_at};
 ghost use Rattle.tz_full.specs.Full.{full_from};
 
 use crate::full::{Texts, put_step};
@@ -25,9 +25,9 @@ pub fn run_full<O: Sink>(
     steps: u32,
     out: &mut O,
 ) -> Result<(), SinkError>
-    ensures put { Put (O.written out.old) (O.written out.new) (O.space out.old) (O.space out.new) (full_from (events_of script.now) 0 machine.old steps) result }
+    ensures put { Put (O.written out.old) (O.written out.new) (O.space out.old) (O.space out.new) (full_from (λ k. due_at k script.now) 0 machine.old steps) result }
     ensures cause { HasCause (O.faults out.old) (O.faults out.new) (result ≡ Err SinkError.Failed) }
-    ensures state { OnOk result (machine.new ≡ state_after (events_of script.now) 0 machine.old steps) }
+    ensures state { OnOk result (machine.new ≡ state_after (λ k. due_at k script.now) 0 machine.old steps) }
 {
     run_counted::<Brand, O>(Blank::new(1), machine, script, steps, out)
 }
@@ -43,9 +43,9 @@ fn run_counted<L: Ledger, O: Sink>(
     requires name { blank.name ≡ L.name }
     requires parts { blank.parts ≡ L.parts }
     requires some_part { 0 < blank.parts }
-    ensures put { Put (O.written out.old) (O.written out.new) (O.space out.old) (O.space out.new) (full_from (events_of script.now) 0 machine.old steps) result }
+    ensures put { Put (O.written out.old) (O.written out.new) (O.space out.old) (O.space out.new) (full_from (λ k. due_at k script.now) 0 machine.old steps) result }
     ensures cause { HasCause (O.faults out.old) (O.faults out.new) (result ≡ Err SinkError.Failed) }
-    ensures state { OnOk result (machine.new ≡ state_after (events_of script.now) 0 machine.old steps) }
+    ensures state { OnOk result (machine.new ≡ state_after (λ k. due_at k script.now) 0 machine.old steps) }
 {
     let mut looks = Steps::<L>::start(blank);
     let mut report = Report::new();

@@ -19,8 +19,8 @@ use tz_gate::{is_fnc_return, return_base};
 use tz_model::{Report, Side, Size, StepKind};
 use tz_regs::Core;
 use tz_sem::{Account, Cause};
-use tz_show::{frame_pointer, frame_uses_process};
 use tz_syntax::{push_decimal, push_hex_word};
+use tz_tell::{frame_pointer, frame_uses_process};
 
 // ---- SG
 

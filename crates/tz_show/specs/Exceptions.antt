@@ -6,32 +6,19 @@ use Rattle.tz_table.specs.declared.units.Side.TheVariants.{Secure, NonSecure}
 use Rattle.tz_model.specs.declared.report.Slot.{Slot}
 use Rattle.tz_regs.specs.declared.parts.Status.{Status}
 use Rattle.tz_state.specs.declared.slot.SlotState.{SlotState}
-use Rattle.tz_state.specs.ExceptionNumbers.{nmi, hard_fault, mem_manage, bus_fault, usage_fault, secure_fault, sv_call, pend_sv, sys_tick, first_interrupt}
+use Rattle.tz_state.specs.ExceptionNumbers.{first_interrupt}
 use Rattle.tz_state.specs.Slots.{ExceptionsValue, at, places, is_place, slot_at}
 use Rattle.tz_state.specs.Priority.{priority_of}
 use Rattle.tz_state.specs.Execution.{manual_priority}
 use Rattle.tz_state.specs.ControlRegisters.{ccr_value}
 use Rattle.tz_syntax.specs.Digits.{hex_byte}
+use Rattle.tz_tell.specs.ExceptionNames.{system_name}
 use Rattle.tz_show.specs.declared.bits.Named.TheVariants.{Ccr}
 use Rattle.tz_show.specs.Rows.{pair_row, row, where_so, widened, texts_below}
 
 -- a number below 1000, three characters wide
 unfoldable pub wide_number : ℕ → List ℕ
 wide_number n = (if nat_lt n 10 then codes "  " else if nat_lt n 100 then codes " " else []) ++ decimal n
-
--- the name of a number of the system; one that no exception has is reserved
-unfoldable pub system_name : ℕ → List ℕ
-system_name n =
-    if n == nmi then codes "NMI"
-    else if n == hard_fault then codes "HardFault"
-    else if n == mem_manage then codes "MemManage"
-    else if n == bus_fault then codes "BusFault"
-    else if n == usage_fault then codes "UsageFault"
-    else if n == secure_fault then codes "SecureFault"
-    else if n == sv_call then codes "SVCall"
-    else if n == pend_sv then codes "PendSV"
-    else if n == sys_tick then codes "SysTick"
-    else codes "reserved"
 
 -- that of any number, thirteen characters wide; external interrupts count from 0
 unfoldable pub exception_name : ℕ → List ℕ

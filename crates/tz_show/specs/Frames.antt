@@ -4,16 +4,15 @@ use Rattle.std.specs.Prelude.{ℕ, ◌+◌, ◌*◌, Bool, ◌&&◌, if◌then�
 use Rattle.tz_table.specs.declared.units.Size.TheVariants.{Word}
 use Rattle.tz_model.specs.Words.{wrap}
 use Rattle.tz_regs.specs.declared.parts.Core.{Core}
-use Rattle.tz_regs.specs.Banks.{stacks_of}
-use Rattle.tz_regs.specs.Registers.{is_handler, sp_in, sp_of}
+use Rattle.tz_regs.specs.Registers.{is_handler, sp_in}
 use Rattle.tz_state.specs.Access.{is_mapped}
-use Rattle.tz_state.specs.Difference.{is_same_flag}
 use Rattle.tz_state.specs.Memory.{every, word_at}
 use Rattle.tz_state.specs.State.{Bus}
 use Rattle.tz_frames.specs.declared.leaving.Returning.{Returning}
-use Rattle.tz_frames.specs.Leave.{is_exc_return, is_well_formed, returning_by, side_of_bit, has_callee}
+use Rattle.tz_frames.specs.Leave.{is_exc_return, is_well_formed, returning_by, has_callee}
 use Rattle.tz_syntax.specs.Digits.{hex_word}
 use Rattle.tz_syntax.specs.Names.{or_nothing}
+use Rattle.tz_tell.specs.FramePointer.{frame_pointer}
 use Rattle.tz_show.specs.declared.bits.Named.TheVariants.{ExcReturn}
 use Rattle.tz_show.specs.Rows.{row, texts_below}
 
@@ -48,14 +47,6 @@ frame_label k = or_nothing (slice_get frame_labels k)
 -- a handler has an EXC_RETURN value in LR
 abbrev pub has_frame : Core → Bool
 has_frame c = is_handler c.registers.ipsr && (is_exc_return c.registers.lr && is_well_formed c.registers.lr)
-
--- SPSEL of the value counts where the exception and the frame are of one side, else CONTROL.SPSEL of the frame's
-abbrev pub frame_uses_process : Core → Returning → Bool
-frame_uses_process c r = r.thread && (if is_same_flag r.es r.secure then r.process else (stacks_of (side_of_bit r.secure) c).spsel)
-
--- the stack pointer from which a return takes the frame
-abbrev pub frame_pointer : Core → Returning → ℕ
-frame_pointer c r = sp_of (frame_uses_process c r) (stacks_of (side_of_bit r.secure) c)
 
 -- the label of its first word, and how many words it has
 abbrev pub frame_first : Returning → ℕ

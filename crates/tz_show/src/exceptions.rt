@@ -3,7 +3,7 @@
 ghost use Rattle.std.specs.Prelude.{◌≡◌, ◌≤◌, ◌<◌, ◌+◌, ◌++◌, length};
 ghost use Rattle.arrayvec.specs.ArrayString.{array_string_len};
 ghost use Rattle.tz_state.specs.Slots.{places};
-ghost use Rattle.tz_show.specs.Exceptions.{wide_number, system_name, exception_name, side_mark, flag_text, flags_text, slot_words, priority_words, slot_line, slot_text, is_listed, exception_text, grouping_line, grouping_text, control_text, exceptions_text};
+ghost use Rattle.tz_show.specs.Exceptions.{wide_number, exception_name, side_mark, flag_text, flags_text, slot_words, priority_words, slot_line, slot_text, is_listed, exception_text, grouping_line, grouping_text, control_text, exceptions_text};
 ghost use Rattle.tz_show.specs.Rows.{texts_below};
 
 use crate::bits::Named;
@@ -12,11 +12,9 @@ use tz_model::{Side, Slot};
 use tz_nvic::{Exceptions, PLACES, SlotState};
 use tz_regs::Status;
 use tz_regs::register_bits::CCR_RES1;
-use tz_state::exception::{
-    BUS_FAULT, FIRST_INTERRUPT, HARD_FAULT, MEM_MANAGE, NMI, PEND_SV, SECURE_FAULT, SV_CALL,
-    SYS_TICK, USAGE_FAULT, ZERO_PRIORITY,
-};
+use tz_state::exception::{FIRST_INTERRUPT, ZERO_PRIORITY};
 use tz_syntax::{push_decimal, push_hex_byte};
+use tz_tell::system_name;
 
 /// A number below 1000, three characters wide.
 #[tactic(auto, unfolding(crate::specs::Exceptions::wide_number))]
@@ -31,26 +29,6 @@ fn push_wide_number(text: &mut Text, n: u32)
         text.push_str(" ");
     }
     push_decimal(text, n);
-}
-
-/// The manual's name of a number of the system, at most 11 bytes; `reserved` where no exception has the number.
-#[tactic(auto, unfolding(crate::specs::Exceptions::system_name))]
-pub fn system_name(number: u16) -> &'static str
-    ensures name { result.now ≡ system_name number }
-    ensures short { length result.now ≤ 11 }
-{
-    match number {
-        NMI => "NMI",
-        HARD_FAULT => "HardFault",
-        MEM_MANAGE => "MemManage",
-        BUS_FAULT => "BusFault",
-        USAGE_FAULT => "UsageFault",
-        SECURE_FAULT => "SecureFault",
-        SV_CALL => "SVCall",
-        PEND_SV => "PendSV",
-        SYS_TICK => "SysTick",
-        _ => "reserved",
-    }
 }
 
 /// The name of any number.

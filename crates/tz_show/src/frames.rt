@@ -4,17 +4,18 @@
 ghost use Rattle.std.specs.Prelude.{◌≡◌, ◌≤◌, ◌<◌, ◌+◌, ◌*◌, ◌++◌, length, map, slice_get};
 ghost use Rattle.arrayvec.specs.ArrayString.{array_string_len};
 ghost use Rattle.tz_syntax.specs.Names.{or_nothing};
-ghost use Rattle.tz_show.specs.Frames.{shown_word, word_text, stack_word_text, stack_text, frame_label, has_frame, frame_uses_process, frame_pointer, frame_first, frame_count, frame_word_text, frame_by, frame_text};
+ghost use Rattle.tz_show.specs.Frames.{shown_word, word_text, stack_word_text, stack_text, frame_label, has_frame, frame_first, frame_count, frame_word_text, frame_by, frame_text};
 ghost use Rattle.tz_show.specs.Rows.{texts_below};
 
 use crate::bits::Named;
 use crate::rows::{Text, push_row};
 use tz_access::Bus;
-use tz_excret::{has_callee, is_exc_return, is_well_formed, returning_by, side_of_bit};
+use tz_excret::{has_callee, is_exc_return, is_well_formed, returning_by};
 use tz_frames::Returning;
 use tz_model::Size;
 use tz_regs::Core;
 use tz_syntax::push_hex_word;
+use tz_tell::frame_pointer;
 
 /// The words of an additional frame, and above them those of a basic one.
 pub static LABELS: [&str; 18] = [
@@ -125,28 +126,6 @@ fn has_frame(core: &Core) -> bool
 {
     let lr = core.registers.lr;
     core.handler() && is_exc_return(lr) && is_well_formed(lr)
-}
-
-/// Whether PSP is the stack pointer from which a return takes the frame, by the core that returns.
-pub fn frame_uses_process(core: &Core, returning: &Returning) -> bool
-    ensures { result ≡ frame_uses_process core.now returning.now }
-{
-    let process = if returning.es == returning.secure {
-        returning.process
-    } else {
-        core.stacks(side_of_bit(returning.secure)).spsel
-    };
-    returning.thread && process
-}
-
-/// The stack pointer from which a return takes the frame, by the core that returns.
-pub fn frame_pointer(core: &Core, returning: &Returning) -> u32
-    ensures { result ≡ frame_pointer core.now returning.now }
-{
-    core.sp(
-        side_of_bit(returning.secure),
-        frame_uses_process(core, returning),
-    )
 }
 
 /// A word of a frame by its number, with its label.

@@ -30,8 +30,6 @@ use crate::mover::push_mover;
 use crate::registers::{push_head, push_registers, push_stacks};
 use crate::rows::Text;
 use crate::units::{push_mpus, push_sau, push_timers};
-pub use exceptions::system_name;
-pub use frames::{frame_pointer, frame_uses_process};
 use tz_access::Bus;
 use tz_core::Machine;
 use tz_model::{Sink, SinkError};

@@ -1,4 +1,4 @@
-use Rattle.tz_show.proofs.Texts.{follows}
+use Rattle.tz_tell.proofs.Texts.{follows}
 use Rattle.tz_full.specs.BegunLines.{irq_line}
 use Rattle.tz_full.proofs.begun.push_irq.Goals as goal
 

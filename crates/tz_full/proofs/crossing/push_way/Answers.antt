@@ -1,4 +1,4 @@
-use Rattle.tz_show.proofs.Texts.{follows}
+use Rattle.tz_tell.proofs.Texts.{follows}
 use Rattle.tz_full.specs.CrossingLine.{way_text}
 use Rattle.tz_full.proofs.crossing.push_way.Goals as goal
 

@@ -1,4 +1,4 @@
-use Rattle.tz_show.proofs.Texts.{follows}
+use Rattle.tz_tell.proofs.Texts.{follows}
 use Rattle.tz_full.specs.EntryFrames.{basic_unwritten}
 use Rattle.tz_full.proofs.entry.push_basic_unwritten.Goals as goal
 

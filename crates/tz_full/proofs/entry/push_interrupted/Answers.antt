@@ -1,4 +1,4 @@
-use Rattle.tz_show.proofs.Texts.{follows}
+use Rattle.tz_tell.proofs.Texts.{follows}
 use Rattle.tz_full.specs.EntryFrames.{interrupted_line}
 use Rattle.tz_full.proofs.entry.push_interrupted.Goals as goal
 

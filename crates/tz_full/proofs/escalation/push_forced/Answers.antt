@@ -1,4 +1,4 @@
-use Rattle.tz_show.proofs.Texts.{follows}
+use Rattle.tz_tell.proofs.Texts.{follows}
 use Rattle.tz_full.specs.Escalation.{forced_line}
 use Rattle.tz_full.proofs.escalation.push_forced.Goals as goal
 

@@ -1,4 +1,4 @@
-use Rattle.tz_show.proofs.Texts.{follows}
+use Rattle.tz_tell.proofs.Texts.{follows}
 use Rattle.tz_full.specs.Escalation.{lockup_line}
 use Rattle.tz_full.proofs.escalation.push_lockup.Goals as goal
 

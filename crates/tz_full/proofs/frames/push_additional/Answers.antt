@@ -1,4 +1,4 @@
-use Rattle.tz_show.proofs.Texts.{follows}
+use Rattle.tz_tell.proofs.Texts.{follows}
 use Rattle.tz_full.specs.FrameLines.{additional_text}
 use Rattle.tz_full.proofs.frames.push_additional.Goals as goal
 

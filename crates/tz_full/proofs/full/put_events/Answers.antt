@@ -1,5 +1,5 @@
 use Rattle.std.proofs.Common.{arith}
-use Rattle.tz_show.proofs.Texts.{sent_start, sent_line, sent_failed}
+use Rattle.tz_tell.proofs.Texts.{sent_start, sent_line, sent_failed}
 use Rattle.tz_full.proofs.EventLines.{events_more}
 use Rattle.tz_full.proofs.full.put_events.Goals as goal
 

@@ -1,5 +1,5 @@
 use Rattle.std.proofs.Common.{◌≤◌, drop}
-use Rattle.tz_show.proofs.Texts.{Sent}
+use Rattle.tz_tell.proofs.Texts.{Sent}
 use Rattle.tz_full.specs.BegunLines.{events_text}
 use Rattle.tz_full.proofs.full.put_events.Given as goal
 

@@ -1,4 +1,4 @@
-use Rattle.tz_show.proofs.Texts.{follows}
+use Rattle.tz_tell.proofs.Texts.{follows}
 use Rattle.tz_full.specs.RefusalLines.{refused_line}
 use Rattle.tz_full.proofs.refusals.push_refused.Goals as goal
 

@@ -1,7 +1,7 @@
 use Rattle.std.proofs.Common.{◌≡◌, ◌∙◌, ap, sym, subst, List, arith}
 use Rattle.tz_model.specs.declared.report.ScriptEvent.{ScriptEvent}
 use Rattle.tz_sem.specs.Step.{Stepped, step}
-use Rattle.tz_run.specs.Events.{events_of}
+use Rattle.tz_board.specs.Scripts.{due_at}
 use Rattle.tz_full.proofs.Told.{text_told, so_far_start, so_far_step, so_far_end, so_far_failed, state_at_end}
 use Rattle.tz_full.proofs.run.run_counted.Goals as goal
 
@@ -13,7 +13,7 @@ loop-step-preserved g c =
     let due = c.due-due.ensures.events in
     let made = c.step_told-account.ensures.step in
     let moved = ap (λ (d : List ScriptEvent). (step c.loop-step.machine d).state) (sym due) ∙ ap (λ (x : Stepped). x.state) made in
-    let told = text_told (events_of c.args.script.now) c.loop-step.step _ _ _ _ _ due made c.step_told-account.ensures.account in
+    let told = text_told (λ k. due_at k c.args.script.now) c.loop-step.step _ _ _ _ _ due made c.step_told-account.ensures.account in
     record {
       lines = so_far_step _ _ _ _ _ _ _ _ _ _ _ _ _ c.loop-step-test.true moved told c.loop-step.invariant.lines c.in_default.ensures.put;
       later = let l = c.in_default.ensures.cause.later in omega (arith, l, c.loop-step.invariant.later);
@@ -24,7 +24,7 @@ returns-in-Err-clause-put g c =
     let due = c.due-due.ensures.events in
     let made = c.step_told-account.ensures.step in
     let moved = ap (λ (d : List ScriptEvent). (step c.loop-step.machine d).state) (sym due) ∙ ap (λ (x : Stepped). x.state) made in
-    let told = text_told (events_of c.args.script.now) c.loop-step.step _ _ _ _ _ due made c.step_told-account.ensures.account in
+    let told = text_told (λ k. due_at k c.args.script.now) c.loop-step.step _ _ _ _ _ due made c.step_told-account.ensures.account in
     so_far_failed _ _ _ _ _ _ _ _ _ _ _ _ _ c.in-Err.error c.loop-step-test.true moved told c.loop-step.invariant.lines c.in-Err.ensures.put
 
 pub returns-clause-put : goal.returns-clause-put

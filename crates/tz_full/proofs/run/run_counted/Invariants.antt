@@ -1,10 +1,10 @@
 use Rattle.std.proofs.Common.{◌≤◌}
-use Rattle.tz_run.specs.Events.{events_of}
+use Rattle.tz_board.specs.Scripts.{due_at}
 use Rattle.tz_full.proofs.Told.{SoFar}
 use Rattle.tz_full.proofs.run.run_counted.Given as goal
 
 abbrev pub invariant-loop-step : goal.invariant-loop-step
 invariant-loop-step g l = record {
-  lines : SoFar (events_of l.script) (g.O.Sink.written l.fn.out) (g.O.Sink.written l.out) (g.O.Sink.space l.fn.out) (g.O.Sink.space l.out) l.fn.machine l.machine l.step l.steps;
+  lines : SoFar (λ k. due_at k l.script) (g.O.Sink.written l.fn.out) (g.O.Sink.written l.out) (g.O.Sink.space l.fn.out) (g.O.Sink.space l.out) l.fn.machine l.machine l.step l.steps;
   later : g.O.Sink.faults l.fn.out ≤ g.O.Sink.faults l.out;
 }

@@ -1,4 +1,4 @@
-use Rattle.tz_show.proofs.Texts.{follows}
+use Rattle.tz_tell.proofs.Texts.{follows}
 use Rattle.tz_full.specs.TakenLines.{takes_line}
 use Rattle.tz_full.proofs.taken.push_takes_line.Goals as goal
 

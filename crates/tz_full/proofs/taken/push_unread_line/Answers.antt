@@ -1,4 +1,4 @@
-use Rattle.tz_show.proofs.Texts.{follows}
+use Rattle.tz_tell.proofs.Texts.{follows}
 use Rattle.tz_full.specs.TakenLines.{unread_line}
 use Rattle.tz_full.proofs.taken.push_unread_line.Goals as goal
 

@@ -1,4 +1,4 @@
-use Rattle.tz_show.proofs.Texts.{follows}
+use Rattle.tz_tell.proofs.Texts.{follows}
 use Rattle.tz_full.specs.WayLines.{fnc_text}
 use Rattle.tz_full.proofs.ways.push_fnc.Goals as goal
 

@@ -1,5 +1,5 @@
 use Rattle.tz_show.specs.Exceptions.{exceptions_text}
-use Rattle.tz_show.proofs.Texts.{follows}
+use Rattle.tz_tell.proofs.Texts.{follows}
 use Rattle.tz_show.proofs.exceptions.push_exceptions.Goals as goal
 
 pub returns-clause-bytes : goal.returns-clause-bytes

@@ -1,5 +1,5 @@
 use Rattle.tz_show.specs.Exceptions.{grouping_line}
-use Rattle.tz_show.proofs.Texts.{follows}
+use Rattle.tz_tell.proofs.Texts.{follows}
 use Rattle.tz_show.proofs.exceptions.push_grouping_line.Goals as goal
 
 pub returns-clause-bytes : goal.returns-clause-bytes

@@ -1,6 +1,6 @@
 use Rattle.std.proofs.Common.{arith}
 use Rattle.tz_show.proofs.Ranges.{ranges_more}
-use Rattle.tz_show.proofs.Texts.{sent_start, sent_line, sent_failed}
+use Rattle.tz_tell.proofs.Texts.{sent_start, sent_line, sent_failed}
 use Rattle.tz_show.proofs.memory.put_ranges.Goals as goal
 
 pub loop-range-init : goal.loop-range-init

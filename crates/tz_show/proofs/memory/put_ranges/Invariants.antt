@@ -1,6 +1,6 @@
 use Rattle.std.proofs.Common.{◌≤◌, drop}
 use Rattle.tz_show.specs.Dump.{ranges_text}
-use Rattle.tz_show.proofs.Texts.{Sent}
+use Rattle.tz_tell.proofs.Texts.{Sent}
 use Rattle.tz_show.proofs.memory.put_ranges.Given as goal
 
 abbrev pub invariant-loop-range : goal.invariant-loop-range

@@ -1,5 +1,5 @@
 use Rattle.tz_show.specs.Mover.{channels_text}
-use Rattle.tz_show.proofs.Texts.{follows}
+use Rattle.tz_tell.proofs.Texts.{follows}
 use Rattle.tz_show.proofs.mover.push_channels.Goals as goal
 
 pub returns-clause-bytes : goal.returns-clause-bytes

@@ -1,5 +1,5 @@
 use Rattle.tz_show.specs.Registers.{running_text}
-use Rattle.tz_show.proofs.Texts.{follows}
+use Rattle.tz_tell.proofs.Texts.{follows}
 use Rattle.tz_show.proofs.registers.push_running.Goals as goal
 
 pub returns-clause-bytes : goal.returns-clause-bytes

@@ -1,0 +1,2 @@
+pub mod ExceptionNames
+pub mod FramePointer
