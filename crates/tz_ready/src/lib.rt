@@ -4,6 +4,11 @@
 //! that a body makes without counting them.
 #![tactic(auto)]
 
+mod levels;
+mod queue;
+mod ready;
 mod steps;
 
+pub use queue::Queue;
+pub use ready::Ready;
 pub use steps::Steps;

@@ -1,0 +1,62 @@
+-- How lists are threaded through tables by number. A node is a slot, or the head of a list, which stands behind the
+-- slots; `after` leads from a node to the next slot of its list, `before` from a slot to the node before it.
+use Rattle.std.specs.Prelude.{◌≡◌, ◌⊎◌, ℕ, ◌+◌, ◌<◌, ◌≤◌, nat_lt, Bool, true, false, if◌then◌else◌, List, slice_index, Option, Some, None, length, is_some}
+use Rattle.std.specs.List.{count_by}
+use Rattle.tz_table.specs.declared.units.Side.{Side}
+use Rattle.tz_table.specs.declared.units.Side.TheVariants.{Secure, NonSecure}
+use Rattle.tz_ready.specs.declared.queue.Queue.{Queue}
+use Rattle.tz_ready.specs.declared.ready.Ready.TheInside.{Inside}
+use Rattle.tz_ready.specs.Levels.{is_set}
+use Rattle.tz_ready.specs.Links.{Linked, slots, queue_of}
+
+-- the number of a list among those of both sides
+abbrev pub number_by : ℕ → Side → ℕ
+number_by level Secure = level
+number_by level NonSecure = 256 + level
+
+abbrev pub number_of : Queue → ℕ
+number_of q = number_by q.level q.side
+
+-- the head of a list among the nodes
+abbrev pub head_of : Queue → ℕ
+head_of q = slots + number_of q
+
+-- the first slot that may follow a node
+abbrev pub behind : ℕ → ℕ
+behind m = if nat_lt m slots then m + 1 else 0
+
+-- n is the first slot of a list from i on; behind the last slot where there is none
+pub record IsNext (f : ℕ → Option Queue) (q : Queue) (i n : ℕ) : Type 0 where
+  pub from : i ≤ n
+  pub few : n ≤ slots
+  pub there : n < slots → f n ≡ Some q
+  pub none : (j : ℕ) → i ≤ j → j < n → f j ≡ Some q → ⊥
+
+-- m is the last slot of a list below i; the head of the list where there is none
+pub record IsLast (f : ℕ → Option Queue) (q : Queue) (i m : ℕ) : Type 0 where
+  pub node : (m < slots) ⊎ (m ≡ head_of q)
+  pub below : behind m ≤ i
+  pub there : m < slots → f m ≡ Some q
+  pub none : (j : ℕ) → behind m ≤ j → j < i → f j ≡ Some q → ⊥
+
+-- what the head of a list leads to: nothing where the bit of the list isn't set
+abbrev pub first_in : List ℕ → List ℕ → Queue → ℕ
+first_in words after q = if is_set words (number_of q) then slice_index after (head_of q) else slots
+
+-- the tables thread each list through its slots, in ascending number
+pub record Threads (l : Linked) (after before words : List ℕ) : Type 0 where
+  pub levels : (i : ℕ) (q : Queue) → queue_of l i ≡ Some q → q.level < 256
+  pub heads : (q : Queue) → q.level < 256 → IsNext (queue_of l) q 0 (first_in words after q)
+  pub some : (q : Queue) → q.level < 256 → is_set words (number_of q) ≡ true → first_in words after q < slots
+  pub next : (i : ℕ) (q : Queue) → queue_of l i ≡ Some q → IsNext (queue_of l) q (i + 1) (slice_index after i)
+  pub last : (i : ℕ) (q : Queue) → queue_of l i ≡ Some q → IsLast (queue_of l) q i (slice_index before i)
+
+-- what holds of the tables
+abbrev pub Holds : Inside → Type 0
+Holds r =
+    (length r.queues ≡ 272)
+    × (length r.after ≡ 784)
+    × (length r.before ≡ 273)
+    × (length r.levels.words ≡ 16)
+    × Threads r.queues r.after r.before r.levels.words
+    × (r.count ≡ count_by (λ q. is_some q) r.queues)
