@@ -1,6 +1,6 @@
 -- What setting and clearing a bit of a word leaves, and the least bit from one on.
 use Rattle.std.proofs.Common.{◌≡◌, ◌≢◌, ℕ, ◌+◌, ◌-◌, ◌*◌, ◌/◌, ◌%◌, ◌^◌, ◌<◌, ◌≤◌, Bool, true, false, List, length, get_or, set, get_or-set_same, get_or-set_other, ap, ◌∙◌, sym, refl, arith, inl, inr, ◌⊎◌}
-use Rattle.std.specs.Prelude.{bit_and, bit_or, ◌==◌}
+use Rattle.std.specs.Prelude.{bit_and, bit_or, ◌==◌, ◌&&◌, not}
 use Rattle.std.specs.Int.{bit_at, trailing_zeros, w32}
 use Rattle.std.proofs.lemmas.Nat.Bits.{bit_at-lt, bit_at_and, bit_at_set_same, bit_at_set_other, bit_at_clear_same, bit_at_clear_other, bit_at_mask_inside, bit_at_mask_below, bit_at-trailing_zeros, ones_shl}
 use Rattle.tz_ready.specs.Levels.{has_bit, is_set, FailsWithin, IsLeast}
@@ -100,3 +100,10 @@ is_least word from h some few =
 
     not_below : (at : ℕ) → bit_at (rest word from) at ≡ 1 → from ≤ at
     not_below at b = elim (below_or_not at) [ inl l ↦ absurd (omega (arith, b, rest_below word from at h l)) | inr g ↦ g ]
+
+-- a bit that is cleared where nothing is left
+pub none_left : (b t : Bool) → t ≡ true → false ≡ (b && not t)
+none_left true true e = refl
+none_left false true e = refl
+none_left true false e = cc
+none_left false false e = refl

@@ -40,23 +40,22 @@ pub record IsLast (f : ℕ → Option Queue) (q : Queue) (i m : ℕ) : Type 0 wh
   pub none : (j : ℕ) → behind m ≤ j → j < i → f j ≡ Some q → ⊥
 
 -- what the head of a list leads to: nothing where the bit of the list isn't set
-abbrev pub first_in : List ℕ → List ℕ → Queue → ℕ
-first_in words after q = if is_set words (number_of q) then slice_index after (head_of q) else slots
+abbrev pub first_in : (ℕ → Bool) → (ℕ → ℕ) → Queue → ℕ
+first_in set after q = if set (number_of q) then after (head_of q) else slots
 
--- the tables thread each list through its slots, in ascending number
-pub record Threads (l : Linked) (after before words : List ℕ) : Type 0 where
-  pub levels : (i : ℕ) (q : Queue) → queue_of l i ≡ Some q → q.level < 256
-  pub heads : (q : Queue) → q.level < 256 → IsNext (queue_of l) q 0 (first_in words after q)
-  pub some : (q : Queue) → q.level < 256 → is_set words (number_of q) ≡ true → first_in words after q < slots
-  pub next : (i : ℕ) (q : Queue) → queue_of l i ≡ Some q → IsNext (queue_of l) q (i + 1) (slice_index after i)
-  pub last : (i : ℕ) (q : Queue) → queue_of l i ≡ Some q → IsLast (queue_of l) q i (slice_index before i)
+-- the tables thread each list through its slots, in ascending number; the bit of a list is set where it isn't empty
+pub record Threads (f : ℕ → Option Queue) (after before : ℕ → ℕ) (set : ℕ → Bool) : Type 0 where
+  pub few : (i : ℕ) (q : Queue) → f i ≡ Some q → (i < slots) × (q.level < 256)
+  pub heads : (q : Queue) → q.level < 256 → IsNext f q 0 (first_in set after q)
+  pub some : (q : Queue) → q.level < 256 → set (number_of q) ≡ true → after (head_of q) < slots
+  pub next : (i : ℕ) (q : Queue) → f i ≡ Some q → IsNext f q (i + 1) (after i)
+  pub last : (i : ℕ) (q : Queue) → f i ≡ Some q → IsLast f q i (before i)
 
 -- what holds of the tables
-abbrev pub Holds : Inside → Type 0
-Holds r =
-    (length r.queues ≡ 272)
-    × (length r.after ≡ 784)
-    × (length r.before ≡ 273)
-    × (length r.levels.words ≡ 16)
-    × Threads r.queues r.after r.before r.levels.words
-    × (r.count ≡ count_by (λ q. is_some q) r.queues)
+pub record Holds (r : Inside) : Type 0 where
+  pub queues : length r.queues ≡ slots
+  pub after : length r.after ≡ 784
+  pub before : length r.before ≡ 273
+  pub words : length r.levels.words ≡ 16
+  pub threads : Threads (queue_of r.queues) (λ i. slice_index r.after i) (λ i. slice_index r.before i) (is_set r.levels.words)
+  pub count : r.count ≡ count_by (λ q. is_some q) r.queues

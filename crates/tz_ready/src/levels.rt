@@ -1,6 +1,6 @@
 //! Which lists aren't empty, a bit each.
 
-ghost use Rattle.std.specs.Prelude.{◌≡◌, ◌≢◌, ℕ, ◌≤◌, ◌<◌, ◌+◌, ◌-◌, ◌*◌, ◌/◌, true, false, replicate};
+ghost use Rattle.std.specs.Prelude.{◌≡◌, ◌≢◌, ℕ, ◌≤◌, ◌<◌, ◌+◌, ◌-◌, ◌*◌, ◌/◌, ◌&&◌, not, true, false, replicate};
 ghost use Rattle.tz_ready.specs.Levels.{has_bit, is_set, Finds};
 
 use crate::steps::Steps;
@@ -53,13 +53,15 @@ impl Levels {
         self.words[number / WORD] |= 1 << (number % WORD);
     }
 
-    /// Clears a bit.
-    pub(crate) fn take(&mut self, number: usize)
+    /// Clears a bit where nothing is left that it tells of.
+    pub(crate) fn take_if(&mut self, number: usize, gone: bool)
         requires { number < 512 }
-        ensures clear { is_set self.new.words number ≡ false }
+        ensures here { is_set self.new.words number ≡ (is_set self.old.words number && not gone) }
         ensures others { (j : ℕ) → j ≢ number → is_set self.new.words j ≡ is_set self.old.words j }
     {
-        self.words[number / WORD] &= !(1 << (number % WORD));
+        if gone {
+            self.words[number / WORD] &= !(1 << (number % WORD));
+        }
     }
 
     /// The least bit that is set, from one on, up to the end of a word. Each word counts one look.

@@ -1,6 +1,6 @@
 //! The lists, and the calls that keep them.
 
-ghost use Rattle.std.specs.Prelude.{◌≡◌, ◌<◌, ◌≤◌, ◌+◌, Some, None, MatchOption, replicate, IsSome};
+ghost use Rattle.std.specs.Prelude.{◌≡◌, ◌<◌, ◌≤◌, ◌+◌, Some, None, MatchOption, replicate, IsSome, nat_le, ◌==◌, ◌&&◌};
 ghost use Rattle.tz_ready.specs.Links.{queue_of, linked, unlinked, IsFirst, HasNone};
 ghost use Rattle.tz_ready.specs.Threads.{IsNext, IsLast};
 
@@ -50,6 +50,13 @@ pub(crate) struct Gap {
     before: u16,
     /// The slot after it.
     after: u16,
+}
+
+/// Whether a slot stands alone in its list, by the node before it and the slot after it.
+fn is_alone(before: u16, after: u16) -> bool
+    ensures { result ≡ (nat_le 272 before && after == 272) }
+{
+    before >= END && after == END
 }
 
 impl Ready {
@@ -131,9 +138,8 @@ impl Ready {
             self.queues[usize::from(slot)] = None;
             self.after[usize::from(before)] = after;
             self.before[usize::from(after)] = before;
-            if before >= END && after == END {
-                self.levels.take(queue.number());
-            }
+            self.levels
+                .take_if(queue.number(), is_alone(before, after));
             self.count -= 1;
         }
     }
