@@ -1,6 +1,6 @@
 -- What a slot that is linked, or taken out, leaves of the lists.
 use Rattle.std.proofs.Common.{◌≡◌, ◌≢◌, ◌⊎◌, inl, inr, ℕ, ◌+◌, ◌<◌, ◌≤◌, Bool, true, false, cond, Option, Some, None, refl, sym, ap, ◌∙◌, subst, arith}
-use Rattle.std.specs.Prelude.{nat_lt}
+use Rattle.std.specs.Prelude.{nat_lt, nat_le, ◌==◌, ◌&&◌, not}
 use Rattle.std.proofs.lemmas.Bool.Decides.{nat_tests}
 use Rattle.tz_table.specs.declared.units.Side.{Side}
 use Rattle.tz_table.specs.declared.units.Side.TheVariants.{Secure, NonSecure}
@@ -162,6 +162,11 @@ not_head p i f k = go p.level p.side k where
   go : (level : ℕ) (side : Side) → 272 + number_by level side ≡ i → ⊥
   go level side e = omega arith
 
+head_high : (b : ℕ) (p : Queue) → b ≡ head_of p → 272 ≤ b
+head_high b p k = go p.level p.side k where
+  go : (level : ℕ) (side : Side) → b ≡ 272 + number_by level side → 272 ≤ b
+  go level side e = omega arith
+
 same_head : (p q : Queue) → head_of p ≡ head_of q → number_of p ≡ number_of q
 same_head p q k = go (number_of p) (number_of q) k where
   go : (m n : ℕ) → 272 + m ≡ 272 + n → m ≡ n
@@ -283,3 +288,159 @@ module _ (v w : ℕ → Option Queue) (after after' before before' : ℕ → ℕ
 
   pub threads_with : Threads w after' before' set'
   threads_with = record { few = linked_few; heads = linked_heads; some = linked_some; next = linked_next; last = linked_last }
+
+-- ---- all tables after a slot was taken out
+
+pub record Unlinks (v w : ℕ → Option Queue) (after after' before before' : ℕ → ℕ) (set set' : ℕ → Bool) (s b a : ℕ) (q : Queue) : Type 0 where
+  pub there : v s ≡ Some q
+  pub last : b ≡ before s
+  pub next : a ≡ after s
+  pub queues : Differs v w s None
+  pub after_node : after' b ≡ a
+  pub after_others : (x : ℕ) → x ≢ b → after' x ≡ after x
+  pub before_next : a < 272 → before' a ≡ b
+  pub before_others : (x : ℕ) → x ≢ a → before' x ≡ before x
+  pub set_here : set' (number_of q) ≡ (set (number_of q) && not (nat_le 272 b && a == 272))
+  pub set_others : (k : ℕ) → k ≢ number_of q → set' k ≡ set k
+
+slot_stays : (u : Bool) (b a : ℕ) → b < 272 → (u && not (nat_le 272 b && a == 272)) ≡ u
+slot_stays u b a f = let no_head : nat_le 272 b ≡ false = grind (arith, nat_tests) in rw no_head (and_true u) where
+  and_true : (u : Bool) → (u && true) ≡ u
+  and_true true = refl
+  and_true false = refl
+
+-- of a list whose first is taken out the next is the first, where there is one
+pub record FirstGoes (a : ℕ) (u : Bool) : Type 0 where
+  pub leads : cond u a 272 ≡ a
+  pub some : u ≡ true → a < 272
+
+first_goes : (b a : ℕ) → 272 ≤ b → a ≤ 272 → FirstGoes a (not (nat_le 272 b && a == 272))
+first_goes b a h f =
+    let head : nat_le 272 b ≡ true = grind (arith, nat_tests) in
+    subst (λ (t : Bool). FirstGoes a (not (t && a == 272))) (sym head) (go (a == 272) refl) where
+  go : (t : Bool) → (a == 272) ≡ t → FirstGoes a (not t)
+  go true e = let end : a ≡ 272 = grind (arith, nat_tests) in record { leads = sym end; some = λ x. absurd cc }
+  go false e = let on : a < 272 = grind (arith, nat_tests) in record { leads = refl; some = λ _. on }
+
+module _ (v w : ℕ → Option Queue) (after after' before before' : ℕ → ℕ) (set set' : ℕ → Bool) (s b a : ℕ) (q : Queue) (t : Threads v after before set) (l : Unlinks v w after after' before before' set set' s b a q) where
+  gone_few : s < 272
+  gone_few = (t.few s q l.there).0
+
+  gone_level : q.level < 256
+  gone_level = (t.few s q l.there).1
+
+  gone_last : IsLast v q s b
+  gone_last = subst (λ m. IsLast v q s m) (sym l.last) (t.last s q l.there)
+
+  gone_next : IsNext v q (s + 1) a
+  gone_next = subst (λ n. IsNext v q (s + 1) n) (sym l.next) (t.next s q l.there)
+
+  gone_before : b ≢ s
+  gone_before k = omega (arith, gone_last.below, behind_slot s gone_few, ap behind k)
+
+  not_gone : (i : ℕ) (p : Queue) → w i ≡ Some p → i ≢ s
+  not_gone i p e k = none_is_none p (sym l.queues.here ∙ (ap w (sym k) ∙ e))
+
+  left_in : (i : ℕ) (p : Queue) → w i ≡ Some p → v i ≡ Some p
+  left_in i p e = sym (l.queues.others i (not_gone i p e)) ∙ e
+
+  stays_next : (p : Queue) (i n : ℕ) → n ≢ s → IsNext v p i n → IsNext w p i n
+  stays_next p i n d h = next_kept v w s i n None p l.queues d (λ x _ _. none_is_none p x) h
+
+  gone_node_next : b < 272 → IsNext w q (b + 1) (after' b)
+  gone_node_next f = rw l.after_node (subst (λ i. IsNext w q i a) (behind_slot b f) (next_joined v w s b a q l.queues gone_last gone_next))
+
+  gone_not_after : (i : ℕ) (p : Queue) → v i ≡ Some p → i ≢ b → after i ≢ s
+  gone_not_after i p e nb k =
+      let n : IsNext v p (i + 1) s = subst (λ m. IsNext v p (i + 1) m) k (t.next i p e) in
+      let x : p ≡ q = same_queue p q (sym (n.there gone_few) ∙ l.there) in
+      nb (last_unique v s b i s q gone_last (e ∙ ap (λ r. Some r) x) (omega (arith, n.from)) (omega arith) (subst (λ r. IsNext v r (i + 1) s) x n))
+
+  unlinked_next : (i : ℕ) (p : Queue) → w i ≡ Some p → IsNext w p (i + 1) (after' i)
+  unlinked_next i p e =
+      let old : v i ≡ Some p = left_in i p e in
+      elim (same_or_not i b) [
+        | inl k ↦ (let f : b < 272 = subst (λ j. j < 272) k (t.few i p old).0 in
+            let x : p ≡ q = same_queue p q (sym old ∙ (ap v k ∙ gone_last.there f)) in
+            subst (λ j. IsNext w p (j + 1) (after' j)) (sym k) (subst (λ r. IsNext w r (b + 1) (after' b)) (sym x) (gone_node_next f)))
+        | inr nb ↦ subst (λ m. IsNext w p (i + 1) m) (sym (l.after_others i nb)) (stays_next p (i + 1) (after i) (gone_not_after i p old nb) (t.next i p old))
+      ]
+
+  gone_next_last : a < 272 → IsLast w q a (before' a)
+  gone_next_last f = subst (λ m. IsLast w q a m) (sym (l.before_next f)) (last_joined v w s b a q l.queues gone_last gone_before gone_next)
+
+  gone_not_before : (i : ℕ) (p : Queue) → v i ≡ Some p → i ≢ a → before i ≢ s
+  gone_not_before i p e na k =
+      let m : IsLast v p i s = subst (λ m. IsLast v p i m) k (t.last i p e) in
+      let x : p ≡ q = same_queue p q (sym (m.there gone_few) ∙ l.there) in
+      na (first_unique v s a i s q gone_next (e ∙ ap (λ r. Some r) x) (t.few i p e).0 (omega (arith, m.below, behind_slot s gone_few)) (omega (arith, behind_slot s gone_few)) (subst (λ r. IsLast v r i s) x m))
+
+  unlinked_last : (i : ℕ) (p : Queue) → w i ≡ Some p → IsLast w p i (before' i)
+  unlinked_last i p e =
+      let old : v i ≡ Some p = left_in i p e in
+      elim (same_or_not i a) [
+        | inl k ↦ (let f : a < 272 = subst (λ j. j < 272) k (t.few i p old).0 in
+            let x : p ≡ q = same_queue p q (sym old ∙ (ap v k ∙ gone_next.there f)) in
+            subst (λ j. IsLast w p j (before' j)) (sym k) (subst (λ r. IsLast w r a (before' a)) (sym x) (gone_next_last f)))
+        | inr na ↦ subst (λ m. IsLast w p i m) (sym (l.before_others i na))
+            (last_kept v w s i (before i) None p l.queues (gone_not_before i p old na) (λ x _ _. none_is_none p x) (t.last i p old))
+      ]
+
+  -- the list of the slot isn't empty before
+  gone_set : (u : Bool) → set (number_of q) ≡ u → u ≡ true
+  gone_set true e = refl
+  gone_set false e =
+      let n : IsNext v q 0 272 = subst (λ (u : Bool). IsNext v q 0 (cond u (after (head_of q)) 272)) e (t.heads q gone_level) in
+      absurd (n.none s (omega arith) gone_few l.there)
+
+  was_set : set (number_of q) ≡ true
+  was_set = gone_set (set (number_of q)) refl
+
+  old_first : IsNext v q 0 (after (head_of q))
+  old_first = subst (λ (u : Bool). IsNext v q 0 (cond u (after (head_of q)) 272)) was_set (t.heads q gone_level)
+
+  -- another slot is the first
+  gone_behind : b < 272 → IsNext w q 0 (first_in set' after' q) × (after' (head_of q) < 272)
+  gone_behind f =
+      let bit : set' (number_of q) ≡ true = l.set_here ∙ slot_stays (set (number_of q)) b a f ∙ was_set in
+      let same : after' (head_of q) ≡ after (head_of q) = l.after_others (head_of q) (λ k. not_head q b f k) in
+      let before_slot : after (head_of q) ≢ s = (λ k. old_first.none b (omega arith) (omega (arith, gone_last.below, behind_slot b f)) (gone_last.there f)) in
+      (subst (λ (u : Bool). IsNext w q 0 (cond u (after' (head_of q)) 272)) (sym bit) (subst (λ m. IsNext w q 0 m) (sym same) (stays_next q 0 (after (head_of q)) before_slot old_first)),
+      subst (λ m. m < 272) (sym same) (t.some q gone_level was_set))
+
+  -- it was the first itself
+  gone_first : b ≡ head_of q → IsNext w q 0 (first_in set' after' q) × (set' (number_of q) ≡ true → after' (head_of q) < 272)
+  gone_first k =
+      let same : after' (head_of q) ≡ a = ap after' (sym k) ∙ l.after_node in
+      let bit : set' (number_of q) ≡ not (nat_le 272 b && a == 272) = l.set_here ∙ ap (λ (u : Bool). u && not (nat_le 272 b && a == 272)) was_set in
+      let goes = first_goes b a (head_high b q k) gone_next.few in
+      let leads : first_in set' after' q ≡ a = ap (λ (u : Bool). cond u (after' (head_of q)) 272) bit ∙ (ap (λ m. cond (not (nat_le 272 b && a == 272)) m 272) same ∙ goes.leads) in
+      (subst (λ m. IsNext w q 0 m) (sym leads) (subst (λ i. IsNext w q i a) (ap behind k ∙ behind_head q) (next_joined v w s b a q l.queues gone_last gone_next)),
+      λ e. subst (λ m. m < 272) (sym same) (goes.some (sym bit ∙ e)))
+
+  gone_head : IsNext w q 0 (first_in set' after' q) × (set' (number_of q) ≡ true → after' (head_of q) < 272)
+  gone_head = elim gone_last.node [ inl f ↦ ((gone_behind f).0, λ _. (gone_behind f).1) | inr k ↦ gone_first k ]
+
+  gone_other_after : (p : Queue) → number_of p ≢ number_of q → after' (head_of p) ≡ after (head_of p)
+  gone_other_after p d = l.after_others (head_of p) (λ k. elim gone_last.node [ inl f ↦ not_head p b f k | inr h ↦ d (same_head p q (k ∙ h)) ])
+
+  gone_other_first : (p : Queue) (n : ℕ) → number_of p ≢ number_of q → IsNext v p 0 n → n ≢ s
+  gone_other_first p n d h k = d (ap number_of (same_queue p q (sym (h.there (subst (λ j. j < 272) (sym k) gone_few)) ∙ (ap v k ∙ l.there))))
+
+  unlinked_heads : (p : Queue) → p.level < 256 → IsNext w p 0 (first_in set' after' p)
+  unlinked_heads p f = elim (same_or_not (number_of p) (number_of q)) [
+    | inl k ↦ subst (λ r. IsNext w r 0 (first_in set' after' r)) (one_queue q p gone_level f (sym k)) gone_head.0
+    | inr d ↦ (let n = t.heads p f in
+        let same : first_in set' after' p ≡ first_in set after p =
+            ap (λ (u : Bool). cond u (after' (head_of p)) 272) (l.set_others (number_of p) d) ∙ ap (λ m. cond (set (number_of p)) m 272) (gone_other_after p d) in
+        rw same (stays_next p 0 (first_in set after p) (gone_other_first p (first_in set after p) d n) n))
+  ]
+
+  unlinked_some : (p : Queue) → p.level < 256 → set' (number_of p) ≡ true → after' (head_of p) < 272
+  unlinked_some p f e = elim (same_or_not (number_of p) (number_of q)) [
+    | inl k ↦ subst (λ r. after' (head_of r) < 272) (one_queue q p gone_level f (sym k)) (gone_head.1 (ap set' (sym k) ∙ e))
+    | inr d ↦ subst (λ m. m < 272) (sym (gone_other_after p d)) (t.some p f (sym (l.set_others (number_of p) d) ∙ e))
+  ]
+
+  pub threads_without : Threads w after' before' set'
+  threads_without = record { few = λ i p e. t.few i p (left_in i p e); heads = unlinked_heads; some = unlinked_some; next = unlinked_next; last = unlinked_last }
