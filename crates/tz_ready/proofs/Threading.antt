@@ -14,7 +14,7 @@ same_or_not a b = grind arith
 less_or_more : (a b : ℕ) → a ≢ b → (a < b) ⊎ (b < a)
 less_or_more a b d = grind arith
 
-behind_slot : (m : ℕ) → m < 272 → behind m ≡ m + 1
+pub behind_slot : (m : ℕ) → m < 272 → behind m ≡ m + 1
 behind_slot m h = grind (arith, nat_tests)
 
 behind_head : (q : Queue) → behind (head_of q) ≡ 0

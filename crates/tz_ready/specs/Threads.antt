@@ -56,6 +56,5 @@ pub record Holds (r : Inside) : Type 0 where
   pub queues : length r.queues ≡ slots
   pub after : length r.after ≡ 784
   pub before : length r.before ≡ 273
-  pub words : length r.levels.words ≡ 16
   pub threads : Threads (queue_of r.queues) (λ i. slice_index r.after i) (λ i. slice_index r.before i) (is_set r.levels.words)
   pub count : r.count ≡ count_by (λ q. is_some q) r.queues

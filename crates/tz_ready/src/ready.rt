@@ -78,7 +78,7 @@ impl Ready {
         requires { slot < 272 }
         ensures { result ≡ queue_of self.now slot }
     {
-        self.queues[usize::from(slot)]
+        self.queues[slot as usize]
     }
 
     /// The first slot of a list, or what follows the last where it is empty.
@@ -104,7 +104,7 @@ impl Ready {
         let mut after = self.head(queue);
         while after < slot {
             before = after;
-            after = self.after[usize::from(after)];
+            after = self.after[after as usize];
         }
         Gap { before, after }
     }
@@ -117,11 +117,11 @@ impl Ready {
     {
         let queue = Queue { level, side };
         let gap = self.gap(slot, queue);
-        self.queues[usize::from(slot)] = Some(queue);
-        self.after[usize::from(slot)] = gap.after;
-        self.after[usize::from(gap.before)] = slot;
-        self.before[usize::from(slot)] = gap.before;
-        self.before[usize::from(gap.after)] = slot;
+        self.queues[slot as usize] = Some(queue);
+        self.after[slot as usize] = gap.after;
+        self.after[gap.before as usize] = slot;
+        self.before[slot as usize] = gap.before;
+        self.before[gap.after as usize] = slot;
         self.levels.put(queue.number());
         self.count += 1;
     }
@@ -132,12 +132,12 @@ impl Ready {
         requires linked { IsSome (queue_of self.old slot) }
         ensures { self.new ≡ unlinked self.old slot }
     {
-        if let Some(queue) = self.queues[usize::from(slot)] {
-            let before = self.before[usize::from(slot)];
-            let after = self.after[usize::from(slot)];
-            self.queues[usize::from(slot)] = None;
-            self.after[usize::from(before)] = after;
-            self.before[usize::from(after)] = before;
+        if let Some(queue) = self.queues[slot as usize] {
+            let before = self.before[slot as usize];
+            let after = self.after[slot as usize];
+            self.queues[slot as usize] = None;
+            self.after[before as usize] = after;
+            self.before[after as usize] = before;
             self.levels
                 .take_if(queue.number(), is_alone(before, after));
             self.count -= 1;
