@@ -1,3 +1,5 @@
 pub mod Bits
 pub mod Threading
 pub mod Tables
+pub mod Finding
+pub mod Beginning

@@ -17,6 +17,11 @@ number_by level NonSecure = 256 + level
 abbrev pub number_of : Queue → ℕ
 number_of q = number_by q.level q.side
 
+-- the words of bits up to the last list of a side
+abbrev pub words_to : Side → ℕ
+words_to Secure = 8
+words_to NonSecure = 16
+
 -- the head of a list among the nodes
 abbrev pub head_of : Queue → ℕ
 head_of q = slots + number_of q

@@ -2,7 +2,7 @@
 
 ghost use Rattle.std.specs.Prelude.{◌≡◌, ◌<◌, ◌≤◌, ◌+◌, Some, None, MatchOption, replicate, IsSome, nat_le, ◌==◌, ◌&&◌};
 ghost use Rattle.tz_ready.specs.Links.{queue_of, linked, unlinked, IsFirst, HasNone};
-ghost use Rattle.tz_ready.specs.Threads.{IsNext, IsLast};
+ghost use Rattle.tz_ready.specs.Threads.{words_to, IsNext, IsLast};
 
 use crate::levels::Levels;
 use crate::queue::Queue;
@@ -57,6 +57,16 @@ fn is_alone(before: u16, after: u16) -> bool
     ensures { result ≡ (nat_le 272 before && after == 272) }
 {
     before >= END && after == END
+}
+
+/// How many words tell of the lists up to the last of a side.
+fn words_to(side: Side) -> usize
+    ensures { result ≡ words_to side }
+{
+    match side {
+        Side::Secure => 8,
+        Side::NonSecure => 16,
+    }
 }
 
 impl Ready {
@@ -162,11 +172,7 @@ impl Ready {
         ensures some { steps.old ≤ steps.new }
     {
         let start = Queue { level: from, side }.number();
-        let words = match side {
-            Side::Secure => 8,
-            Side::NonSecure => 16,
-        };
-        match self.levels.least_from(start, words, steps) {
+        match self.levels.least_from(start, words_to(side), steps) {
             None => None,
             Some(number) => {
                 steps.look();
