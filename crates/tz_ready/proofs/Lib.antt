@@ -3,3 +3,4 @@ pub mod Threading
 pub mod Tables
 pub mod Finding
 pub mod Beginning
+pub mod Copying

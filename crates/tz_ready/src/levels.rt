@@ -7,12 +7,14 @@ use crate::steps::Steps;
 use std::sync::ledger::Ledger;
 
 /// How many bits a word has.
-const WORD: usize = 32;
+pub(crate) const WORD: usize = 32;
+/// How many words there are.
+pub(crate) const WORDS: usize = 16;
 
 /// A bit for each list, by its number.
 #[derive(Clone, Copy)]
 pub(crate) struct Levels {
-    pub(crate) words: [u32; 16],
+    pub(crate) words: [u32; WORDS],
 }
 
 /// The least bit of a word that is set, from one on.
@@ -33,7 +35,7 @@ impl Levels {
     pub(crate) fn none() -> Levels
         ensures { result.words ≡ replicate 16 0 }
     {
-        Levels { words: [0; 16] }
+        Levels { words: [0; WORDS] }
     }
 
     /// Whether a bit is set.

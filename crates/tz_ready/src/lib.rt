@@ -4,6 +4,7 @@
 //! that a body makes without counting them.
 #![tactic(auto)]
 
+mod copy;
 mod levels;
 mod queue;
 mod ready;

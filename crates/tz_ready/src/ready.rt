@@ -12,7 +12,7 @@ use std::sync::ledger::Ledger;
 use tz_table::Side;
 
 /// How many slots there are.
-const SLOTS: usize = 272;
+pub(crate) const SLOTS: usize = 272;
 /// What follows the last slot of a list.
 const END: u16 = 272;
 
