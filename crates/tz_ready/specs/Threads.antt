@@ -1,6 +1,6 @@
 -- How lists are threaded through tables by number. A node is a slot, or the head of a list, which stands behind the
 -- slots; `after` leads from a node to the next slot of its list, `before` from a slot to the node before it.
-use Rattle.std.specs.Prelude.{◌≡◌, ◌⊎◌, ℕ, ◌+◌, ◌<◌, ◌≤◌, nat_lt, Bool, true, false, if◌then◌else◌, List, slice_index, Option, Some, None, length, is_some}
+use Rattle.std.specs.Prelude.{◌≡◌, ◌⊎◌, ℕ, zero, suc, ◌+◌, ◌<◌, ◌≤◌, nat_lt, Bool, true, if◌then◌else◌, List, [], ◌∷◌, slice_index, Option, Some, None, length, is_some}
 use Rattle.std.specs.List.{count_by}
 use Rattle.tz_table.specs.declared.units.Side.{Side}
 use Rattle.tz_table.specs.declared.units.Side.TheVariants.{Secure, NonSecure}
@@ -55,6 +55,16 @@ pub record Threads (f : ℕ → Option Queue) (after before : ℕ → ℕ) (set 
   pub some : (q : Queue) → q.level < 256 → set (number_of q) ≡ true → after (head_of q) < slots
   pub next : (i : ℕ) (q : Queue) → f i ≡ Some q → IsNext f q (i + 1) (after i)
   pub last : (i : ℕ) (q : Queue) → f i ≡ Some q → IsLast f q i (before i)
+
+-- the slots of a list from i on, in ascending number: the first of them, and those behind it
+abbrev pub AreFrom : (ℕ → Option Queue) → Queue → ℕ → List ℕ → Type 0
+AreFrom f q i [] = IsNext f q i slots
+AreFrom f q i (n ∷ ns) = IsNext f q i n × (n < slots) × AreFrom f q (n + 1) ns
+
+-- at most k slots that the table leads through, from one on
+unfoldable pub walk : ℕ → (ℕ → ℕ) → ℕ → List ℕ
+walk zero after n = []
+walk (suc k) after n = if nat_lt n slots then n ∷ walk k after (after n) else []
 
 -- what holds of the tables
 pub record Holds (r : Inside) : Type 0 where

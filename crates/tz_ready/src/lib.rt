@@ -5,11 +5,13 @@
 #![tactic(auto)]
 
 mod copy;
+mod laws;
 mod levels;
 mod queue;
 mod ready;
 mod steps;
 
+pub use laws::lists_ascend;
 pub use queue::Queue;
 pub use ready::Ready;
 pub use steps::Steps;
