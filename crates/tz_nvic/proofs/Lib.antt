@@ -5,3 +5,4 @@ pub mod ActiveSlots
 pub mod Timers
 pub mod Beyond
 pub mod Idle
+pub mod Relinked

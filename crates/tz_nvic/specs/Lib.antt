@@ -1,3 +1,4 @@
 pub mod ActiveSlots
 pub mod Known
+pub mod Lists
 pub mod Viewed
