@@ -6,3 +6,5 @@ pub mod Timers
 pub mod Beyond
 pub mod Idle
 pub mod Relinked
+pub mod Order
+pub mod Leading
