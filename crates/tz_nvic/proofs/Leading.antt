@@ -143,7 +143,7 @@ on_either : (e : ExceptionsValue) (j : ℕ) (side : Side) → has_fixed_priority
 on_either e j Secure f s = inl (f, s)
 on_either e j NonSecure f s = inr (f, s)
 
-abbrev IsAny : ExceptionsValue → ℕ → Type 0
+abbrev pub IsAny : ExceptionsValue → ℕ → Type 0
 IsAny e = Either IsFixed (Either (IsOn e Secure) (IsOn e NonSecure))
 
 covered : (e : ExceptionsValue) (j : ℕ) → is_ready e j ≡ true → IsAny e j
@@ -159,7 +159,7 @@ rank_apart e i j fi fj d h = apart (priority_of e i * 256 + subpriority_of e i) 
   apart : (x y i j : ℕ) → i < 512 → j < 512 → i ≢ j → x * 512 + i ≤ y * 512 + j → x * 512 + i < y * 512 + j
   apart x y i j fi fj d h = grind arith
 
-abbrev place_of : Option Candidate → Option ℕ
+abbrev pub place_of : Option Candidate → Option ℕ
 place_of None = None
 place_of (Some c) = Some c.place
 
@@ -172,7 +172,7 @@ leading_chosen e None h = sym (none_least (chosen_place e) refl) where
   none_least None k = k
   none_least (Some b) k = let f = least_found (is_ready e) (rank_of e) 272 b k in absurd (h b (covered e b f.is_ready) f.is_ready)
 
-pub all_lead : (e : ExceptionsValue) (nmi hard_s hard_ns secure nonsecure : Option Candidate) → nmi ≡ candidate_at e 4 → hard_s ≡ candidate_at e 6 → hard_ns ≡ candidate_at e 7 → Leads e (IsOn e Secure) secure → Leads e (IsOn e NonSecure) nonsecure →
+all_lead : (e : ExceptionsValue) (nmi hard_s hard_ns secure nonsecure : Option Candidate) → nmi ≡ candidate_at e 4 → hard_s ≡ candidate_at e 6 → hard_ns ≡ candidate_at e 7 → Leads e (IsOn e Secure) secure → Leads e (IsOn e NonSecure) nonsecure →
     Leads e (IsAny e) (lower (lower nmi (lower hard_s hard_ns)) (lower secure nonsecure))
 all_lead e nmi hard_s hard_ns secure nonsecure a b c s ns =
     let four = subst (λ (o : Option Candidate). Leads e (IsAt 4) o) (sym a) (candidate_leads e 4 (omega arith)) in
@@ -181,3 +181,9 @@ all_lead e nmi hard_s hard_ns secure nonsecure a b c s ns =
     lower_leads e IsFixed (Either (IsOn e Secure) (IsOn e NonSecure)) (lower nmi (lower hard_s hard_ns)) (lower secure nonsecure)
     (lower_leads e (IsAt 4) (Either (IsAt 6) (IsAt 7)) nmi (lower hard_s hard_ns) four (lower_leads e (IsAt 6) (IsAt 7) hard_s hard_ns six seven))
     (lower_leads e (IsOn e Secure) (IsOn e NonSecure) secure nonsecure s ns)
+
+pub found_leads : (e : ExceptionsValue) (nmi hard_s hard_ns hard secure nonsecure fixed sides found : Option Candidate) → nmi ≡ candidate_at e 4 → hard_s ≡ candidate_at e 6 → hard_ns ≡ candidate_at e 7 →
+    Leads e (IsOn e Secure) secure → Leads e (IsOn e NonSecure) nonsecure → hard ≡ lower hard_s hard_ns → fixed ≡ lower nmi hard → sides ≡ lower secure nonsecure → found ≡ lower fixed sides → Leads e (IsAny e) found
+found_leads e nmi hard_s hard_ns hard secure nonsecure fixed sides found a b c s ns h f t r =
+    let same : lower (lower nmi (lower hard_s hard_ns)) (lower secure nonsecure) ≡ found = cc in
+    subst (λ (o : Option Candidate). Leads e (IsAny e) o) same (all_lead e nmi hard_s hard_ns secure nonsecure a b c s ns)
