@@ -1,7 +1,7 @@
 -- What a write leaves of the ready lists.
 use Rattle.std.proofs.Common.{◌≡◌, ◌≢◌, ◌⊎◌, inl, inr, ℕ, ◌+◌, ◌-◌, ◌/◌, ◌%◌, ◌<◌, ◌≤◌, Bool, true, false, cond, Option, Some, None, List, length, get_or, set, drop, replicate, refl, ap, sym, ◌∙◌, subst, length-set, get_or-set_same, get_or-set_other, get_or-drop, arith}
 use Rattle.std.specs.Prelude.{nat_lt, ◌==◌, ◌&&◌, ◌||◌, not}
-use Rattle.std.proofs.lemmas.List.{get_or_past, get_or-replicate, length-replicate, set-get_or}
+use Rattle.std.proofs.lemmas.List.{get_or_past, get_or-replicate, length-replicate}
 use Rattle.std.proofs.lemmas.Bool.Decides.{nat_tests}
 use Rattle.tz_table.specs.declared.units.Side.{Side}
 use Rattle.tz_ready.specs.declared.queue.Queue.{Queue}
@@ -52,16 +52,11 @@ idle_at n i slots h later =
     ap (λ k. get_or slots k idle) (sym e) ∙ sym (get_or-drop n slots (i - n) idle) ∙ ap (λ l. get_or l (i - n) idle) h.1 ∙ all_same (places - n) (i - n) idle
 
 -- no idle slot is linked
-pub none_from : (e : ExceptionsValue) (l : Linked) (n k : ℕ) → AreIdleFrom n e.slots → n ≤ k → AreLinked e l → (i : ℕ) → k ≤ i → queue_of l i ≡ None
-none_from e l n k h later g i m = g.each i ∙ idle_unlinked e i (idle_at n i e.slots h (omega arith))
+pub none_from : (e : ExceptionsValue) (l : Linked) (n k : ℕ) → AreIdleFrom n e.slots → n ≤ k → AreLinked e l → (i : ℕ) → k ≤ i → i < places → queue_of l i ≡ None
+none_from e l n k h later g i m _ = g.each i ∙ idle_unlinked e i (idle_at n i e.slots h (omega arith))
 
 pub reset_linked : (e : ExceptionsValue) → e.slots ≡ replicate places idle → AreLinked e (replicate places None)
 reset_linked e h = record {
   many = length-replicate {A = Option Queue} places None;
   each = λ i. all_same {A = Option Queue} places i None ∙ sym (idle_unlinked e i (ap (λ l. get_or l i idle) h ∙ all_same places i idle));
 }
-
--- ---- a slot that stays where it is
-
-pub same_queue : (l : Linked) (i : ℕ) (q : Option Queue) → queue_of l i ≡ q → l ≡ set l i q
-same_queue l i q h = sym (ap (set l i) (sym h) ∙ set-get_or l i None)

@@ -7,7 +7,6 @@ ghost use Rattle.tz_state.specs.Slots.{at, first_interrupt_place, exists, is_ext
 ghost use Rattle.tz_state.specs.SlotChanges.{pended, unpended, activated, deactivated, prioritized, switched, targeted};
 
 use crate::known::Known;
-use crate::lists::relink;
 use crate::place::{
     FIRST_INTERRUPT_PLACE, PLACES, exception_number, index_of, is_always_enabled, is_banked,
     is_system,
@@ -159,12 +158,11 @@ impl Exceptions {
         requires { index < 272 }
         ensures { self.new ≡ with_slot self.old index state }
     {
-        let was = self.queue_by(index, &self.slots[index]);
-        let is = self.queue_by(index, &state);
+        let queue = self.queue_by(index, &state);
         self.known = None;
         self.slots[index] = state;
         self.idle_from = self.idle_from.max(index + 1);
-        relink(&mut self.ready, index as u16, was, is);
+        self.ready.put(index as u16, queue);
     }
 
     /// Sets a slot pending. The slot exists.

@@ -8,31 +8,15 @@
 //! definitions speak of, and what is copied when a step is noted. A copy of the lists writes nothing where nothing is
 //! linked, as in most steps.
 
-ghost use Rattle.std.specs.Prelude.{◌≡◌, ◌<◌, slice_set, length};
+ghost use Rattle.std.specs.Prelude.{◌≡◌, ◌<◌};
 ghost use Rattle.tz_nvic.specs.Lists.{side_by, queue_by};
-ghost use Rattle.tz_ready.specs.Links.{queue_of};
 
 use crate::exceptions::Exceptions;
 use crate::place::{FIRST_INTERRUPT_PLACE, exception_number, is_always_enabled};
 use tz_model::Side;
-use tz_ready::{Queue, Ready};
+use tz_ready::Queue;
 use tz_state::SlotState;
 use tz_state::exception::{BUS_FAULT, HARD_FAULT, NMI};
-
-/// Moves a slot from where it is linked to where it is to be.
-pub(crate) fn relink(ready: &mut Ready, slot: u16, was: Option<Queue>, is: Option<Queue>)
-    requires slot { slot < 272 }
-    requires was { queue_of ready.old slot ≡ was }
-    requires many { length ready.old ≡ 272 }
-    ensures { ready.new ≡ slice_set ready.old slot is }
-{
-    match (was, is) {
-        (None, None) => {}
-        (None, Some(queue)) => ready.link(slot, queue.level, queue.side),
-        (Some(_), None) => ready.unlink(slot),
-        (Some(_), Some(queue)) => ready.move_to(slot, queue.level, queue.side),
-    }
-}
 
 impl Exceptions {
     /// The side of the slot at a place, where this is kept of it.

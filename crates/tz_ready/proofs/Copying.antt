@@ -47,10 +47,10 @@ threads_copied f after after' before before' set t same heads = record {
   first_same q l false e = ap (λ (u : Bool). cond u (after (head_of q)) 272) e ∙ ap (λ (u : Bool). cond u (after' (head_of q)) 272) (sym e)
 
 -- two tables of lists with the same slots before an end, and none behind it
-pub same_linked : (old l m : Linked) (end : ℕ) → length old ≡ 272 → length m ≡ 272 → IsCopied old l 0 end m → length l ≡ 272 → ((i : ℕ) → end ≤ i → queue_of old i ≡ None) → ((i : ℕ) → end ≤ i → queue_of l i ≡ None) → m ≡ l
+pub same_linked : (old l m : Linked) (end : ℕ) → length old ≡ 272 → length m ≡ 272 → IsCopied old l 0 end m → length l ≡ 272 → ((i : ℕ) → end ≤ i → i < 272 → queue_of old i ≡ None) → ((i : ℕ) → end ≤ i → i < 272 → queue_of l i ≡ None) → m ≡ l
 same_linked old l m end lo lm h ll none_here none_there = ext_get_or None m l (lm ∙ sym ll) (λ i few. elim (below_or_not i end) [
   | inl b ↦ h.inside i None (omega arith) b
-  | inr b ↦ h.outside i None (inr b) ∙ none_here i b ∙ sym (none_there i b)
+  | inr b ↦ h.outside i None (inr b) ∙ none_here i b (omega arith) ∙ sym (none_there i b (omega arith))
 ])
 
 abbrev one : Option Queue → ℕ
@@ -80,12 +80,13 @@ abbrev at : List ℕ → ℕ → ℕ
 at l i = get_or l i 0
 
 -- the tables that a copy leaves thread the lists of the other
-pub all_copied : (l : Linked) (after_old after_slots after' after before_old before' before words : List ℕ) (end : ℕ) → end ≤ 272 → ((i : ℕ) → end ≤ i → queue_of l i ≡ None) →
+pub all_copied : (l : Linked) (after_old after_slots after' after before_old before' before words : List ℕ) (end : ℕ) → end ≤ 272 → ((i : ℕ) → end ≤ i → i < 272 → queue_of l i ≡ None) →
     IsCopied after_old after 0 end after_slots → IsCopied before_old before 0 end before' → ((i : ℕ) → i < 272 → at after' i ≡ at after_slots i) →
     ((k : ℕ) → k < 512 → is_set words k ≡ true → at after' (272 + k) ≡ at after (272 + k)) → Threads (queue_of l) (at after) (at before) (is_set words) → Threads (queue_of l) (at after') (at before') (is_set words)
 all_copied l after_old after_slots after' after before_old before' before words end few none a b slots heads t =
     threads_copied (queue_of l) (at after) (at after') (at before) (at before') (is_set words) t (λ i q e.
-      let low : i < end = elim (below_or_not i end) [ inl k ↦ k | inr k ↦ absurd (not_none q (sym (none i k) ∙ e)) ] in
+      let few' = (t.few i q e).0 in
+      let low : i < end = elim (below_or_not i end) [ inl k ↦ k | inr k ↦ absurd (not_none q (sym (none i k few') ∙ e)) ] in
       (slots i (omega arith) ∙ a.inside i 0 (omega arith) low, b.inside i 0 (omega arith) low)) (λ q f e. heads (number_of q) (number_few q f) e)
   where
     not_none : (q : Queue) → None ≡ Some q → ⊥

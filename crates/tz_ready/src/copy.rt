@@ -51,8 +51,8 @@ impl Ready {
     /// written, else no more than the slots before that, and 32 heads for a list that isn't empty.
     pub fn copy_from(&mut self, other: &Ready, end: usize)
         requires few { end ≤ 272 }
-        requires none_here { (i : ℕ) → end ≤ i → queue_of self.old i ≡ None }
-        requires none_there { (i : ℕ) → end ≤ i → queue_of other.now i ≡ None }
+        requires none_here { (i : ℕ) → end ≤ i → i < 272 → queue_of self.old i ≡ None }
+        requires none_there { (i : ℕ) → end ≤ i → i < 272 → queue_of other.now i ≡ None }
         ensures { self.new ≡ other.now }
     {
         if self.count == 0 && other.count == 0 {

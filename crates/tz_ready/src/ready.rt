@@ -1,6 +1,6 @@
 //! The lists, and the calls that keep them.
 
-ghost use Rattle.std.specs.Prelude.{◌≡◌, ◌<◌, ◌≤◌, ◌+◌, Some, None, MatchOption, replicate, IsSome, nat_le, ◌==◌, ◌&&◌};
+ghost use Rattle.std.specs.Prelude.{◌≡◌, ◌<◌, ◌≤◌, ◌+◌, Some, None, MatchOption, replicate, slice_set, IsSome, nat_le, ◌==◌, ◌&&◌};
 ghost use Rattle.tz_ready.specs.Links.{queue_of, linked, unlinked, IsFirst, HasNone};
 ghost use Rattle.tz_ready.specs.Threads.{words_to, IsNext, IsLast};
 
@@ -162,6 +162,23 @@ impl Ready {
     {
         self.unlink(slot);
         self.link(slot, level, side);
+    }
+
+    /// Puts a slot in a list, or in none, wherever it was.
+    pub fn put(&mut self, slot: u16, queue: Option<Queue>)
+        requires { slot < 272 }
+        ensures { self.new ≡ slice_set self.old slot queue }
+    {
+        match (self.queue(slot), queue) {
+            (None, None) => {}
+            (None, Some(queue)) => self.link(slot, queue.level, queue.side),
+            (Some(_), None) => self.unlink(slot),
+            (Some(old), Some(queue)) => {
+                if old != queue {
+                    self.move_to(slot, queue.level, queue.side);
+                }
+            }
+        }
     }
 
     /// The first slot of the least level of a side, at or above a level, that has one; None exactly where there is none.

@@ -1,4 +1,4 @@
-use Rattle.std.proofs.Common.{◌≡◌, ℕ, ◌≤◌, None, length, get_or, sym, subst, ◌∙◌, arith}
+use Rattle.std.proofs.Common.{◌≡◌, ℕ, ◌<◌, ◌≤◌, None, length, get_or, sym, subst, ◌∙◌, arith}
 use Rattle.std.specs.Prelude.{is_some}
 use Rattle.std.specs.List.{count_by}
 use Rattle.tz_ready.specs.Levels.{is_set}
@@ -12,7 +12,7 @@ returns-then-other-eq0 c =
     sym c.self.view_is ∙ both_empty c.self.inside.queues c.other.inside.queues c.self.invariant.queues c.other.invariant.queues (sym c.self.invariant.count ∙ c.if-self-eq0.true) (sym c.other.invariant.count ∙ c.if-other-eq0.true) ∙ c.other.view_is
 
 abbrev NoneFrom : ℕ → Linked → Type 0
-NoneFrom end l = (i : ℕ) → end ≤ i → queue_of l i ≡ None
+NoneFrom end l = (i : ℕ) → end ≤ i → i < 272 → queue_of l i ≡ None
 
 pub invariant_of-self : goal.invariant_of-self
 invariant_of-self c =
