@@ -166,7 +166,7 @@ place_of (Some c) = Some c.place
 -- what leads all is chosen
 pub leading_chosen : (e : ExceptionsValue) (o : Option Candidate) → Leads e (IsAny e) o → place_of o ≡ chosen_place e
 leading_chosen e (Some c) h = sym (least_is (is_ready e) (rank_of e) 272 c.place h.few h.ready (λ j few r d.
-  rank_apart e c.place j (omega (arith, h.few)) (omega arith) (λ k. d (sym k)) (subst (λ n. n ≤ rank_of e j) h.rank (h.least j (covered e j r) r))))
+    rank_apart e c.place j (omega (arith, h.few)) (omega arith) (λ k. d (sym k)) (subst (λ n. n ≤ rank_of e j) h.rank (h.least j (covered e j r) r))))
 leading_chosen e None h = sym (none_least (chosen_place e) refl) where
   none_least : (o : Option ℕ) → chosen_place e ≡ o → chosen_place e ≡ None
   none_least None k = k

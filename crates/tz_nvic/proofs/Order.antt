@@ -51,8 +51,8 @@ Below e side x y =
 bytes_order : (e : ExceptionsValue) (side : Side) (x y : ℕ) → x < y → Below e side x y
 bytes_order e side x y h = elim (quotients (group_size e side) x y (pow_pos (prigroup_of e side + 1)) h) [
   | inl l ↦ inl (subst (λ g. g < restricted_priority e side (group_of e side y)) (ap (restricted_priority e side) (sym (group_even e side x)))
-    (subst (λ g. restricted_priority e side (2 * (x / group_size e side * 2 ^ prigroup_of e side)) < g) (ap (restricted_priority e side) (sym (group_even e side y)))
-    (restricted_less e side (x / group_size e side * 2 ^ prigroup_of e side) (y / group_size e side * 2 ^ prigroup_of e side) (times_less (x / group_size e side) (y / group_size e side) (2 ^ prigroup_of e side) l (pow_pos (prigroup_of e side))))))
+      (subst (λ g. restricted_priority e side (2 * (x / group_size e side * 2 ^ prigroup_of e side)) < g) (ap (restricted_priority e side) (sym (group_even e side y)))
+      (restricted_less e side (x / group_size e side * 2 ^ prigroup_of e side) (y / group_size e side * 2 ^ prigroup_of e side) (times_less (x / group_size e side) (y / group_size e side) (2 ^ prigroup_of e side) l (pow_pos (prigroup_of e side))))))
   | inr k ↦ inr (ap (λ q. restricted_priority e side (q * group_size e side)) k.0, k.1)
 ]
 

@@ -85,9 +85,9 @@ pub all_copied : (l : Linked) (after_old after_slots after' after before_old bef
     ((k : ℕ) → k < 512 → is_set words k ≡ true → at after' (272 + k) ≡ at after (272 + k)) → Threads (queue_of l) (at after) (at before) (is_set words) → Threads (queue_of l) (at after') (at before') (is_set words)
 all_copied l after_old after_slots after' after before_old before' before words end few none a b slots heads t =
     threads_copied (queue_of l) (at after) (at after') (at before) (at before') (is_set words) t (λ i q e.
-      let few' = (t.few i q e).0 in
-      let low : i < end = elim (below_or_not i end) [ inl k ↦ k | inr k ↦ absurd (not_none q (sym (none i k few') ∙ e)) ] in
-      (slots i (omega arith) ∙ a.inside i 0 (omega arith) low, b.inside i 0 (omega arith) low)) (λ q f e. heads (number_of q) (number_few q f) e)
+    let few' = (t.few i q e).0 in
+    let low : i < end = elim (below_or_not i end) [ inl k ↦ k | inr k ↦ absurd (not_none q (sym (none i k few') ∙ e)) ] in
+    (slots i (omega arith) ∙ a.inside i 0 (omega arith) low, b.inside i 0 (omega arith) low)) (λ q f e. heads (number_of q) (number_few q f) e)
   where
     not_none : (q : Queue) → None ≡ Some q → ⊥
     not_none q e = cc

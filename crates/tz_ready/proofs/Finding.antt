@@ -54,7 +54,7 @@ module _ (l : Linked) (after before : ℕ → ℕ) (set : ℕ → Bool) (side : 
     head : IsNext (queue_of l) (queue (k - base side) side) 0 (after (272 + k))
     head =
         let n : IsNext (queue_of l) (queue (k - base side) side) 0 (after (head_of (queue (k - base side) side))) =
-            subst (λ (u : Bool). IsNext (queue_of l) (queue (k - base side) side) 0 (cond u (after (head_of (queue (k - base side) side))) 272)) is_set (t.heads (queue (k - base side) side) few) in
+        subst (λ (u : Bool). IsNext (queue_of l) (queue (k - base side) side) 0 (cond u (after (head_of (queue (k - base side) side))) 272)) is_set (t.heads (queue (k - base side) side) few) in
         subst (λ i. IsNext (queue_of l) (queue (k - base side) side) 0 (after (272 + i))) number n
 
     found : after (272 + k) < 272

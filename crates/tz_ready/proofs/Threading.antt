@@ -247,10 +247,11 @@ module _ (v w : ℕ → Option Queue) (after after' before before' : ℕ → ℕ
   linked_not_empty : b < 272 → (u : Bool) → set (number_of q) ≡ u → IsNext w q 0 (after' (head_of q)) × (after' (head_of q) < 272)
   linked_not_empty f true e =
       let n : IsNext v q 0 (after (head_of q)) = subst (λ (u : Bool). IsNext v q 0 (cond u (after (head_of q)) 272)) e (t.heads q l.level) in
-      let same : after' (head_of q) ≡ after (head_of q) = l.after_others (head_of q) (λ k. not_head q s l.few k) (λ k. not_head q b f k) in
-      (rw same (next_kept v w s 0 (after (head_of q)) (Some q) q l.queues (not_first v s 0 (after (head_of q)) q l.few l.free n)
-      (λ _ _ m. n.none b (omega arith) (omega (arith, l.last.below, behind_slot b f)) (l.last.there f)) n),
-      subst (λ m. m < 272) (sym same) (t.some q l.level e))
+      let same : after' (head_of q) ≡ after (head_of q) = l.after_others (head_of q) (λ k. not_head q s l.few k) (λ k. not_head q b f k) in (
+        rw same (next_kept v w s 0 (after (head_of q)) (Some q) q l.queues (not_first v s 0 (after (head_of q)) q l.few l.free n)
+            (λ _ _ m. n.none b (omega arith) (omega (arith, l.last.below, behind_slot b f)) (l.last.there f)) n),
+        subst (λ m. m < 272) (sym same) (t.some q l.level e),
+      )
   linked_not_empty f false e =
       let n : IsNext v q 0 272 = subst (λ (u : Bool). IsNext v q 0 (cond u (after (head_of q)) 272)) e (t.heads q l.level) in
       absurd (n.none b (omega arith) f (l.last.there f))
@@ -258,9 +259,10 @@ module _ (v w : ℕ → Option Queue) (after after' before before' : ℕ → ℕ
   linked_head : IsNext w q 0 (after' (head_of q)) × (after' (head_of q) < 272)
   linked_head = elim l.last.node [
     | inl f ↦ linked_not_empty f (set (number_of q)) refl
-    | inr k ↦ (let same : after' (head_of q) ≡ s = ap after' (sym k) ∙ l.after_node in
-        (subst (λ m. IsNext w q 0 m) (sym same) (subst (λ i. IsNext w q i s) (ap behind k ∙ behind_head q) (next_here v w s b q l.queues l.few l.last)),
-        subst (λ m. m < 272) (sym same) l.few))
+    | inr k ↦ (let same : after' (head_of q) ≡ s = ap after' (sym k) ∙ l.after_node in (
+      subst (λ m. IsNext w q 0 m) (sym same) (subst (λ i. IsNext w q i s) (ap behind k ∙ behind_head q) (next_here v w s b q l.queues l.few l.last)),
+      subst (λ m. m < 272) (sym same) l.few,
+    ))
   ]
 
   other_number : (p : Queue) → p.level < 256 → number_of p ≢ number_of q → Some q ≡ Some p → ⊥
@@ -276,7 +278,7 @@ module _ (v w : ℕ → Option Queue) (after after' before before' : ℕ → ℕ
         subst (λ r. IsNext w r 0 (first_in set' after' r)) x (subst (λ (u : Bool). IsNext w q 0 (cond u (after' (head_of q)) 272)) (sym l.set_here) linked_head.0))
     | inr d ↦ (let n = t.heads p f in
         let same : first_in set' after' p ≡ first_in set after p =
-            ap (λ (u : Bool). cond u (after' (head_of p)) 272) (l.set_others (number_of p) d) ∙ ap (λ m. cond (set (number_of p)) m 272) (linked_other_after p d) in
+        ap (λ (u : Bool). cond u (after' (head_of p)) 272) (l.set_others (number_of p) d) ∙ ap (λ m. cond (set (number_of p)) m 272) (linked_other_after p d) in
         rw same (next_kept v w s 0 (first_in set after p) (Some q) p l.queues (not_first v s 0 (first_in set after p) p l.few l.free n) (λ e _ _. other_number p f d e) n))
   ]
 
@@ -318,9 +320,9 @@ first_goes : (b a : ℕ) → 272 ≤ b → a ≤ 272 → FirstGoes a (not (nat_l
 first_goes b a h f =
     let head : nat_le 272 b ≡ true = grind (arith, nat_tests) in
     subst (λ (t : Bool). FirstGoes a (not (t && a == 272))) (sym head) (go (a == 272) refl) where
-  go : (t : Bool) → (a == 272) ≡ t → FirstGoes a (not t)
-  go true e = let end : a ≡ 272 = grind (arith, nat_tests) in record { leads = sym end; some = λ x. absurd cc }
-  go false e = let on : a < 272 = grind (arith, nat_tests) in record { leads = refl; some = λ _. on }
+      go : (t : Bool) → (a == 272) ≡ t → FirstGoes a (not t)
+      go true e = let end : a ≡ 272 = grind (arith, nat_tests) in record { leads = sym end; some = λ x. absurd cc }
+      go false e = let on : a < 272 = grind (arith, nat_tests) in record { leads = refl; some = λ _. on }
 
 module _ (v w : ℕ → Option Queue) (after after' before before' : ℕ → ℕ) (set set' : ℕ → Bool) (s b a : ℕ) (q : Queue) (t : Threads v after before set) (l : Unlinks v w after after' before before' set set' s b a q) where
   gone_few : s < 272
@@ -404,9 +406,10 @@ module _ (v w : ℕ → Option Queue) (after after' before before' : ℕ → ℕ
   gone_behind f =
       let bit : set' (number_of q) ≡ true = l.set_here ∙ slot_stays (set (number_of q)) b a f ∙ was_set in
       let same : after' (head_of q) ≡ after (head_of q) = l.after_others (head_of q) (λ k. not_head q b f k) in
-      let before_slot : after (head_of q) ≢ s = (λ k. old_first.none b (omega arith) (omega (arith, gone_last.below, behind_slot b f)) (gone_last.there f)) in
-      (subst (λ (u : Bool). IsNext w q 0 (cond u (after' (head_of q)) 272)) (sym bit) (subst (λ m. IsNext w q 0 m) (sym same) (stays_next q 0 (after (head_of q)) before_slot old_first)),
-      subst (λ m. m < 272) (sym same) (t.some q gone_level was_set))
+      let before_slot : after (head_of q) ≢ s = (λ k. old_first.none b (omega arith) (omega (arith, gone_last.below, behind_slot b f)) (gone_last.there f)) in (
+        subst (λ (u : Bool). IsNext w q 0 (cond u (after' (head_of q)) 272)) (sym bit) (subst (λ m. IsNext w q 0 m) (sym same) (stays_next q 0 (after (head_of q)) before_slot old_first)),
+        subst (λ m. m < 272) (sym same) (t.some q gone_level was_set),
+      )
 
   -- it was the first itself
   gone_first : b ≡ head_of q → IsNext w q 0 (first_in set' after' q) × (set' (number_of q) ≡ true → after' (head_of q) < 272)
@@ -414,9 +417,10 @@ module _ (v w : ℕ → Option Queue) (after after' before before' : ℕ → ℕ
       let same : after' (head_of q) ≡ a = ap after' (sym k) ∙ l.after_node in
       let bit : set' (number_of q) ≡ not (nat_le 272 b && a == 272) = l.set_here ∙ ap (λ (u : Bool). u && not (nat_le 272 b && a == 272)) was_set in
       let goes = first_goes b a (head_high b q k) gone_next.few in
-      let leads : first_in set' after' q ≡ a = ap (λ (u : Bool). cond u (after' (head_of q)) 272) bit ∙ (ap (λ m. cond (not (nat_le 272 b && a == 272)) m 272) same ∙ goes.leads) in
-      (subst (λ m. IsNext w q 0 m) (sym leads) (subst (λ i. IsNext w q i a) (ap behind k ∙ behind_head q) (next_joined v w s b a q l.queues gone_last gone_next)),
-      λ e. subst (λ m. m < 272) (sym same) (goes.some (sym bit ∙ e)))
+      let leads : first_in set' after' q ≡ a = ap (λ (u : Bool). cond u (after' (head_of q)) 272) bit ∙ (ap (λ m. cond (not (nat_le 272 b && a == 272)) m 272) same ∙ goes.leads) in (
+        subst (λ m. IsNext w q 0 m) (sym leads) (subst (λ i. IsNext w q i a) (ap behind k ∙ behind_head q) (next_joined v w s b a q l.queues gone_last gone_next)),
+        λ e. subst (λ m. m < 272) (sym same) (goes.some (sym bit ∙ e)),
+      )
 
   gone_head : IsNext w q 0 (first_in set' after' q) × (set' (number_of q) ≡ true → after' (head_of q) < 272)
   gone_head = elim gone_last.node [ inl f ↦ ((gone_behind f).0, λ _. (gone_behind f).1) | inr k ↦ gone_first k ]
@@ -432,7 +436,7 @@ module _ (v w : ℕ → Option Queue) (after after' before before' : ℕ → ℕ
     | inl k ↦ subst (λ r. IsNext w r 0 (first_in set' after' r)) (one_queue q p gone_level f (sym k)) gone_head.0
     | inr d ↦ (let n = t.heads p f in
         let same : first_in set' after' p ≡ first_in set after p =
-            ap (λ (u : Bool). cond u (after' (head_of p)) 272) (l.set_others (number_of p) d) ∙ ap (λ m. cond (set (number_of p)) m 272) (gone_other_after p d) in
+        ap (λ (u : Bool). cond u (after' (head_of p)) 272) (l.set_others (number_of p) d) ∙ ap (λ m. cond (set (number_of p)) m 272) (gone_other_after p d) in
         rw same (stays_next p 0 (first_in set after p) (gone_other_first p (first_in set after p) d n) n))
   ]
 

@@ -148,8 +148,7 @@ impl Ready {
             self.queues[slot as usize] = None;
             self.after[before as usize] = after;
             self.before[after as usize] = before;
-            self.levels
-                .take_if(queue.number(), is_alone(before, after));
+            self.levels.take_if(queue.number(), is_alone(before, after));
             self.count -= 1;
         }
     }

@@ -17,6 +17,7 @@ struct ReadyCase {
 }
 
 const S: Side = Side::Secure;
+
 const NS: Side = Side::NonSecure;
 
 static CASES: [ReadyCase; 7] = [

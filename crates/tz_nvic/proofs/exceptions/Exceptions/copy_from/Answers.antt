@@ -28,9 +28,15 @@ invariant_of-self c =
     let h = c.other.invariant in
     let many : length c.other.inside.slots.items ≡ c.self.inside.slots.len = omega (arith, c.self.invariant.0, h.0, c.deref_mut.ensures.len, ap length c.deref_mut.ensures.value) in
     let new = c.copy_below.ensures ∙ (λ i. take c.max-end.result (c.deref.ensures.value i) ++ drop c.max-end.result (c.deref_mut.ensures.value i)) in
-    let same = copied c.self.inside.idle_from c.other.inside.idle_from c.max-end.result c.self.inside.slots.len c.self.inside.slots.items c.other.inside.slots.items c.copy_below.new.slots c.self.invariant.5 h.5 c.max-end.ensures many new in
-    (ap length same ∙ h.0, h.1, h.2, h.3, subst (λ s. IfSome c.other.inside.known (λ k. IsKnown (with_slots c.other.inside s) k)) (sym same) h.4, (h.5.0, ap (drop c.other.inside.idle_from) same ∙ h.5.1),
-    subst (λ s. AreLinked (with_slots c.other.inside s) c.copy_from.new.self) (sym same) (subst (λ (l : Linked). AreLinked (value_of c.other.inside) l) (sym c.copy_from.ensures) h.6))
+    let same = copied c.self.inside.idle_from c.other.inside.idle_from c.max-end.result c.self.inside.slots.len c.self.inside.slots.items c.other.inside.slots.items c.copy_below.new.slots c.self.invariant.5 h.5 c.max-end.ensures many new in (
+      ap length same ∙ h.0,
+      h.1,
+      h.2,
+      h.3,
+      subst (λ s. IfSome c.other.inside.known (λ k. IsKnown (with_slots c.other.inside s) k)) (sym same) h.4,
+      (h.5.0, ap (drop c.other.inside.idle_from) same ∙ h.5.1),
+      subst (λ s. AreLinked (with_slots c.other.inside s) c.copy_from.new.self) (sym same) (subst (λ (l : Linked). AreLinked (value_of c.other.inside) l) (sym c.copy_from.ensures) h.6),
+    )
 
 pub returns : goal.returns
 returns c =

@@ -21,8 +21,7 @@ invariant_of-result c =
       bfhfnmins = false;
       timer_s = no_timer;
       timer_ns = no_timer;
-    } in
-    (
+    } in (
       ap length slots ∙ length-replicate 272 idle,
       c.requires.few,
       omega arith,

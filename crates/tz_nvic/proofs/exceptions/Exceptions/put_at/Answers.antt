@@ -13,8 +13,7 @@ pub invariant_of-self : goal.invariant_of-self
 invariant_of-self c =
     let h = c.self.invariant in
     let e : ExceptionsValue = value_of c.self.inside in
-    let is = c.put.ensures ∙ ap (set c.self.inside.ready c.args.index) (c.queue_by-queue.ensures ∙ ap (λ (x : ExceptionsValue). queue_by x c.args.index c.args.state) (sym c.self.view_is)) in
-    (
+    let is = c.put.ensures ∙ ap (set c.self.inside.ready c.args.index) (c.queue_by-queue.ensures ∙ ap (λ (x : ExceptionsValue). queue_by x c.args.index c.args.state) (sym c.self.view_is)) in (
       omega (arith, length-set c.self.inside.slots.items c.args.index c.args.state, h.0),
       h.1,
       h.2,

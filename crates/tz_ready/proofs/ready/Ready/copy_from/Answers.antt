@@ -22,7 +22,7 @@ invariant_of-self c =
     let many : length c.copy_between.new.places ≡ 272 = omega (arith, c.self.invariant.queues, c.copy_between.auto.places) in
     let same = same_linked c.self.inside.queues c.other.inside.queues c.copy_between.new.places c.args.end c.self.invariant.queues many c.copy_between.ensures h.queues none_here none_there in
     let threads = all_copied c.other.inside.queues c.self.inside.after c.copy_between-2.new.places c.copy_heads.new.after c.other.inside.after c.self.inside.before c.copy_between-3.new.places c.other.inside.before c.other.inside.levels.words c.args.end c.requires.few none_there
-        c.copy_between-2.ensures c.copy_between-3.ensures c.copy_heads.ensures.slots c.copy_heads.ensures.heads h.threads in
+    c.copy_between-2.ensures c.copy_between-3.ensures c.copy_heads.ensures.slots c.copy_heads.ensures.heads h.threads in
     record {
       queues = many;
       after = omega (arith, c.self.invariant.after, c.copy_between-2.auto.places, c.copy_heads.auto.after);
