@@ -1,6 +1,6 @@
 -- Where nothing is linked the tables are threaded.
 use Rattle.std.specs.Prelude.{◌==◌, ◌/◌, ◌%◌, ◌^◌}
-use Rattle.std.proofs.Common.{◌≡◌, ◌⊎◌, inl, inr, ℕ, ◌<◌, ◌≤◌, Bool, true, false, cond, subst, Option, Some, None, List, get_or, replicate, length, refl, ap, ◌∙◌, sym, arith}
+use Rattle.std.proofs.Common.{◌≡◌, ◌⊎◌, inl, inr, ℕ, ◌<◌, ◌≤◌, Bool, true, false, cond, subst, Option, Some, None, get_or, replicate, ap, ◌∙◌, sym, arith}
 use Rattle.std.proofs.lemmas.List.{get_or-replicate, length-replicate, get_or_past}
 use Rattle.tz_ready.specs.declared.queue.Queue.{Queue}
 use Rattle.tz_ready.specs.Levels.{has_bit, is_set}

@@ -1,11 +1,11 @@
 -- The least bit of a side that is set leads to the slot that comes first.
-use Rattle.std.proofs.Common.{◌≡◌, ◌⊎◌, inl, inr, ℕ, ◌+◌, ◌-◌, ◌*◌, ◌<◌, ◌≤◌, Bool, true, false, cond, Option, Some, refl, sym, ap, ◌∙◌, subst, arith}
+use Rattle.std.proofs.Common.{◌≡◌, ◌⊎◌, inl, inr, ℕ, ◌+◌, ◌-◌, ◌*◌, ◌<◌, ◌≤◌, Bool, true, false, cond, Some, refl, sym, ap, ◌∙◌, subst, arith}
 use Rattle.tz_table.specs.declared.units.Side.{Side}
 use Rattle.tz_table.specs.declared.units.Side.TheVariants.{Secure, NonSecure}
 use Rattle.tz_ready.specs.declared.queue.Queue.{Queue}
 use Rattle.tz_ready.specs.Levels.{FailsWithin, IsLeast}
 use Rattle.tz_ready.specs.Links.{Linked, queue_of, IsFrom, IsBefore, IsFirst, HasNone}
-use Rattle.tz_ready.specs.Threads.{number_by, number_of, words_to, head_of, IsNext, first_in, Threads}
+use Rattle.tz_ready.specs.Threads.{number_by, words_to, head_of, IsNext, Threads}
 
 -- the number of the first list of a side
 abbrev base : Side → ℕ

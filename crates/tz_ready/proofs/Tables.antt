@@ -1,5 +1,5 @@
 -- The tables of `Ready` as functions of numbers, and what a write to one of them leaves.
-use Rattle.std.proofs.Common.{◌≡◌, ◌≢◌, ℕ, ◌+◌, ◌<◌, ◌≤◌, true, List, length, get_or, set, Option, Some, None, inl, inr, refl, get_or-set_same, get_or-set_other, length-set, ap, sym, subst, ◌∙◌, arith}
+use Rattle.std.proofs.Common.{◌≡◌, ◌≢◌, ℕ, ◌+◌, ◌<◌, true, List, length, get_or, set, Option, Some, None, inl, inr, refl, get_or-set_same, get_or-set_other, length-set, ap, sym, subst, ◌∙◌, arith}
 use Rattle.std.specs.Prelude.{◌-◌, nat_le, ◌==◌, ◌&&◌, not, is_some, cond}
 use Rattle.std.specs.List.{count_by}
 use Rattle.std.proofs.lemmas.List.Sums.{sum_by-set}
@@ -9,7 +9,7 @@ use Rattle.tz_ready.specs.Levels.{is_set}
 use Rattle.tz_table.specs.declared.units.Side.{Side}
 use Rattle.tz_table.specs.declared.units.Side.TheVariants.{Secure, NonSecure}
 use Rattle.tz_ready.specs.Threads.{number_by, number_of, behind, IsNext, IsLast, Threads}
-use Rattle.tz_ready.proofs.Threading.{Differs, behind_slot, Links, Unlinks, threads_with, threads_without}
+use Rattle.tz_ready.proofs.Threading.{Differs, behind_slot, threads_with, threads_without}
 
 abbrev at : List ℕ → ℕ → ℕ
 at l i = get_or l i 0

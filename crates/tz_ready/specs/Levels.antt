@@ -1,5 +1,5 @@
 -- Bits that tell which lists aren't empty, 32 to a word.
-use Rattle.std.specs.Prelude.{◌≡◌, ℕ, ◌+◌, ◌/◌, ◌%◌, ◌^◌, ◌==◌, ◌<◌, ◌≤◌, Bool, true, false, List, slice_index, Option, Some, None}
+use Rattle.std.specs.Prelude.{◌≡◌, ℕ, ◌/◌, ◌%◌, ◌^◌, ◌==◌, ◌<◌, ◌≤◌, Bool, true, false, List, slice_index, Option, Some, None}
 
 -- bit j of a word
 abbrev pub has_bit : ℕ → ℕ → Bool

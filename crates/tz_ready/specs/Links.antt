@@ -1,5 +1,5 @@
 -- Which slots are linked, in which lists, and which of them comes first.
-use Rattle.std.specs.Prelude.{◌≡◌, ◌⊎◌, ℕ, ◌+◌, ◌<◌, ◌≤◌, nat_lt, Bool, true, false, if◌then◌else◌, List, [], ◌∷◌, ◌++◌, zero, suc, slice_index_or, slice_set, Option, Some, None}
+use Rattle.std.specs.Prelude.{◌≡◌, ◌⊎◌, ℕ, ◌<◌, ◌≤◌, List, slice_index_or, slice_set, Option, Some, None}
 use Rattle.tz_table.specs.declared.units.Side.{Side}
 use Rattle.tz_ready.specs.declared.queue.Queue.{Queue}
 

@@ -1,13 +1,13 @@
 -- How lists are threaded through tables by number. A node is a slot, or the head of a list, which stands behind the
 -- slots; `after` leads from a node to the next slot of its list, `before` from a slot to the node before it.
-use Rattle.std.specs.Prelude.{◌≡◌, ◌⊎◌, ℕ, zero, suc, ◌+◌, ◌<◌, ◌≤◌, nat_lt, Bool, true, if◌then◌else◌, List, [], ◌∷◌, slice_index, Option, Some, None, length, is_some}
+use Rattle.std.specs.Prelude.{◌≡◌, ◌⊎◌, ℕ, zero, suc, ◌+◌, ◌<◌, ◌≤◌, nat_lt, Bool, true, if◌then◌else◌, List, [], ◌∷◌, slice_index, Option, Some, length, is_some}
 use Rattle.std.specs.List.{count_by}
 use Rattle.tz_table.specs.declared.units.Side.{Side}
 use Rattle.tz_table.specs.declared.units.Side.TheVariants.{Secure, NonSecure}
 use Rattle.tz_ready.specs.declared.queue.Queue.{Queue}
 use Rattle.tz_ready.specs.declared.ready.Ready.TheInside.{Inside}
 use Rattle.tz_ready.specs.Levels.{is_set}
-use Rattle.tz_ready.specs.Links.{Linked, slots, queue_of}
+use Rattle.tz_ready.specs.Links.{slots, queue_of}
 
 -- the number of a list among those of both sides
 abbrev pub number_by : ℕ → Side → ℕ

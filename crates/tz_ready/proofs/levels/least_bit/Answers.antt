@@ -1,4 +1,4 @@
-use Rattle.std.proofs.Common.{◌<◌, arith}
+use Rattle.std.proofs.Common.{arith}
 use Rattle.std.proofs.lemmas.Grind.{common_steps, widths}
 use Rattle.tz_ready.proofs.Bits.{no_bit, is_least}
 use Rattle.tz_ready.proofs.levels.least_bit.Goals as goal
