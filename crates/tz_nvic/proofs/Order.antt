@@ -1,12 +1,12 @@
 -- Within a side the order by group priority and subpriority is that of the priority registers, whatever PRIGROUP and
 -- PRIS are.
-use Rattle.std.proofs.Common.{◌≡◌, ◌≢◌, ◌⊎◌, inl, inr, ℕ, ◌+◌, ◌*◌, ◌/◌, ◌%◌, ◌^◌, ◌<◌, ◌≤◌, Bool, true, false, cond, refl, ap, sym, subst, ◌∙◌, arith}
+use Rattle.std.proofs.Common.{◌≡◌, ◌⊎◌, inl, inr, ℕ, ◌+◌, ◌*◌, ◌/◌, ◌%◌, ◌^◌, ◌<◌, ◌≤◌, Bool, true, false, cond, refl, ap, sym, subst, ◌∙◌, arith}
 use Rattle.std.proofs.lemmas.Nat.{div-add-mod', mul-add-lt, le-div, pow_pos}
 use Rattle.std.proofs.lemmas.Grind.{pow_more}
 use Rattle.std.specs.Prelude.{◌==◌, ◌||◌}
 use Rattle.tz_table.specs.declared.units.Side.{Side}
 use Rattle.tz_table.specs.declared.units.Side.TheVariants.{Secure, NonSecure}
-use Rattle.tz_state.specs.Slots.{ExceptionsValue, at, exception_number, side_at, has_fixed_priority, prigroup_of}
+use Rattle.tz_state.specs.Slots.{ExceptionsValue, at, exception_number, side_at, prigroup_of}
 use Rattle.tz_state.specs.Priority.{group_size, group_of, subgroup_of, restricted_priority, hard_priority, priority_of, subpriority_of, rank_of}
 use Rattle.tz_state.specs.First.{ComesBefore, FitGroups}
 use Rattle.tz_nvic.specs.Choice.{IsOn}

@@ -1,9 +1,7 @@
 -- What a write leaves of the ready lists.
-use Rattle.std.proofs.Common.{◌≡◌, ◌≢◌, ◌⊎◌, inl, inr, ℕ, ◌+◌, ◌-◌, ◌/◌, ◌%◌, ◌<◌, ◌≤◌, Bool, true, false, cond, Option, Some, None, List, length, get_or, set, drop, replicate, refl, ap, sym, ◌∙◌, subst, length-set, get_or-set_same, get_or-set_other, get_or-drop, arith}
-use Rattle.std.specs.Prelude.{nat_lt, ◌==◌, ◌&&◌, ◌||◌, not}
+use Rattle.std.proofs.Common.{◌≡◌, ◌≢◌, ◌⊎◌, inl, inr, ℕ, ◌+◌, ◌-◌, ◌<◌, ◌≤◌, Bool, true, false, cond, Option, Some, None, List, length, get_or, set, replicate, refl, ap, sym, ◌∙◌, length-set, get_or-set_same, get_or-set_other, get_or-drop, arith}
+use Rattle.std.specs.Prelude.{◌&&◌, ◌||◌, not}
 use Rattle.std.proofs.lemmas.List.{get_or_past, get_or-replicate, length-replicate}
-use Rattle.std.proofs.lemmas.Bool.Decides.{nat_tests}
-use Rattle.tz_table.specs.declared.units.Side.{Side}
 use Rattle.tz_ready.specs.declared.queue.Queue.{Queue}
 use Rattle.tz_ready.specs.Links.{Linked, queue_of}
 use Rattle.tz_state.specs.declared.slot.SlotState.{SlotState}

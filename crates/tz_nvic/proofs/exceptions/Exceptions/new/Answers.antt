@@ -1,4 +1,4 @@
-use Rattle.std.proofs.Common.{false, None, length, ap, ◌∙◌, sym, subst, arith}
+use Rattle.std.proofs.Common.{false, length, ap, ◌∙◌, sym, subst, arith}
 use Rattle.std.proofs.lemmas.List.{length-replicate}
 use Rattle.tz_ready.specs.Links.{Linked}
 use Rattle.tz_state.specs.Slots.{ExceptionsValue, idle, no_timer}
