@@ -94,7 +94,7 @@ static CASES: [ReadyCase; 7] = [
     },
 ];
 
-fn put(ready: &mut Ready, put: &Put) {
+fn put_slot(ready: &mut Ready, put: &Put) {
     if put.0 < 272 {
         let queue = match put.1 {
             Some((level, side)) => Some(Queue { level, side }),
@@ -118,7 +118,7 @@ fn first_of_ready_lists(rt: HostRuntime) {
     for case in &CASES {
         let mut ready = Ready::new();
         for each in case.puts {
-            put(&mut ready, each);
+            put_slot(&mut ready, each);
         }
         let mut copied = Ready::new();
         copied.put(7, Some(Queue { level: 0, side: S }));
