@@ -1,11 +1,11 @@
 //! One MPU.
 
-ghost use Rattle.std.specs.Prelude.{◌≡◌, ◌≤◌, ◌<◌, ◌&&◌, None, Some, MatchOption, MatchResult, length, replicate, slice_set};
+ghost use Rattle.std.specs.Prelude.{◌≡◌, ◌≤◌, ◌<◌, ◌&&◌, None, Some, MatchOption, MatchResult, false, length, replicate, slice_set};
 ghost use Rattle.tz_state.specs.Difference.{mpu_differs};
 ghost use Rattle.tz_state.specs.Protection.{permission, permission_by, mpu_region, is_mpu_on, has_privileged_default, default_permits};
 ghost use Rattle.tz_state.specs.Regions.{no_bounds, holding};
-ghost use Rattle.tz_state.specs.UnitRegisters.{bounds_at, selected, mpu_register, mpu_value, mpu_read, with_mpu_value, mpu_written, rlar_bits, reset_mpu};
-ghost use Rattle.tz_mpu.specs.Units.{with_registers};
+ghost use Rattle.tz_state.specs.UnitRegisters.{bounds_at, selected, mpu_register, mpu_value, mpu_read, with_mpu_value, rlar_bits, reset_mpu};
+ghost use Rattle.tz_mpu.specs.Units.{with_registers, with_written};
 
 use crate::holders::{Holders, find_holders};
 use crate::permission::{default_permits, region_permits};
@@ -22,7 +22,8 @@ use tz_state::{Bounds, Kind, MpuRegister};
 #[error("the MPU refuses the access")]
 pub struct MpuFault;
 
-/// The MPU of a state: CTRL, RNR, both MAIRs and RBAR and RLAR of each region.
+/// The MPU of a state: CTRL, RNR, both MAIRs and RBAR and RLAR of each region; and whether one was written since
+/// that was last asked.
 #[derive(Drop)]
 pub struct Mpu {
     profile: Profile,
@@ -31,6 +32,7 @@ pub struct Mpu {
     mair0: u32,
     mair1: u32,
     regions: ArrayVec<Bounds, 16>,
+    changed: bool,
 }
 
 impl Model for Mpu {
@@ -41,6 +43,7 @@ impl Model for Mpu {
     ghost view = { λ m. record {
       profile = m.profile;
       mpu = record { ctrl = m.ctrl; rnr = m.rnr; mair0 = m.mair0; mair1 = m.mair1; regions = m.regions.items };
+      changed = m.changed;
     } };
 }
 
@@ -83,7 +86,7 @@ impl Mpu {
     #[tactic(auto, unfolding(tz_state::specs::UnitRegisters::reset_mpu))]
     pub fn new(regions: u8, profile: Profile) -> Mpu
         requires { regions ≤ 16 }
-        ensures { result ≡ record { profile = profile; mpu = reset_mpu regions } }
+        ensures { result ≡ record { profile = profile; mpu = reset_mpu regions; changed = false } }
     {
         Mpu {
             profile,
@@ -92,6 +95,7 @@ impl Mpu {
             mair0: 0,
             mair1: 0,
             regions: unset(regions),
+            changed: false,
         }
     }
 
@@ -231,12 +235,23 @@ impl Mpu {
 
     /// Replaces the registers of the region that RNR and an alias select, if there is one.
     fn replace_selected(&mut self, alias: u8, bounds: Bounds)
-        ensures { self.new ≡ with_registers self.old (record self.old.mpu { regions = slice_set self.old.mpu.regions (selected self.old.mpu alias) bounds }) }
+        ensures { self.new ≡ record self.old { mpu = record self.old.mpu { regions = slice_set self.old.mpu.regions (selected self.old.mpu alias) bounds } } }
     {
         let index = self.selected(alias);
         if index < self.regions.len() {
             self.regions[index] = bounds;
         }
+    }
+
+    /// Whether a register was written since this was last asked, or since the MPU was made: by its name, at its
+    /// address, or as those of another MPU.
+    pub fn take_changed(&mut self) -> bool
+        ensures told { result ≡ self.old.changed }
+        ensures taken { self.new ≡ record self.old { changed = false } }
+    {
+        let changed = self.changed;
+        self.changed = false;
+        changed
     }
 
     /// Writes a register by its name: each keeps the bits that it has, TYPE none.
@@ -265,11 +280,12 @@ impl Mpu {
             MpuRegister::Mair0 => self.mair0 = value,
             MpuRegister::Mair1 => self.mair1 = value,
         }
+        self.changed = true;
     }
 
     /// Writes the register at an address, if there is one: each keeps the bits that it has, TYPE none.
     pub fn write(&mut self, addr: u32, value: u32)
-        ensures { self.new ≡ with_registers self.old (mpu_written self.old.profile self.old.mpu (mpu_register addr) value) }
+        ensures { self.new ≡ with_written self.old (mpu_register addr) value }
     {
         if let Some(register) = register_at(addr) {
             self.set(register, value);
@@ -285,6 +301,7 @@ impl Mpu {
         self.mair0 = other.mair0;
         self.mair1 = other.mair1;
         copy_bounds(&mut self.regions, &other.regions);
+        self.changed = true;
     }
 
     /// Whether the registers of two MPUs differ.
