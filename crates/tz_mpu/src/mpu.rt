@@ -2,13 +2,16 @@
 
 ghost use Rattle.std.specs.Prelude.{◌≡◌, ◌≤◌, ◌<◌, ◌&&◌, None, Some, MatchOption, MatchResult, false, length, replicate, slice_set};
 ghost use Rattle.tz_state.specs.Difference.{mpu_differs};
-ghost use Rattle.tz_state.specs.Protection.{permission, permission_by, mpu_region, is_mpu_on, has_privileged_default, default_permits};
+ghost use Rattle.tz_state.specs.declared.request.Kind.TheVariants.{Read, Write, Fetch};
+ghost use Rattle.tz_state.specs.Protection.{permits, permission, permission_by, mpu_region, is_mpu_on, has_privileged_default, default_permits};
 ghost use Rattle.tz_state.specs.Regions.{no_bounds, holding};
 ghost use Rattle.tz_state.specs.UnitRegisters.{bounds_at, selected, mpu_register, mpu_value, mpu_read, with_mpu_value, rlar_bits, reset_mpu};
 ghost use Rattle.tz_mpu.specs.Units.{with_registers, with_written};
 
 use crate::holders::{Holders, find_holders};
-use crate::permission::{default_permits, region_permits};
+use crate::permission::{
+    Permitted, default_permits, nothing, permitted_by_default, permitted_by_region, region_permits,
+};
 use crate::register::register_at;
 use arrayvec::ArrayVec;
 use std::marker::Model;
@@ -161,6 +164,30 @@ impl Mpu {
             return Ok(None);
         }
         Err(MpuFault)
+    }
+
+    /// All that the MPU permits at a byte, as `check` tells it of each kind of access: the regions are looked
+    /// through once.
+    #[tactic(auto, unfolding(tz_state::specs::Protection::permission))]
+    pub fn permitted(&self, addr: u32, privileged: bool, negative: bool) -> Permitted
+        ensures read { result.read ≡ permits self.now.profile self.now.mpu addr Read privileged negative }
+        ensures write { result.write ≡ permits self.now.profile self.now.mpu addr Write privileged negative }
+        ensures execute { result.execute ≡ permits self.now.profile self.now.mpu addr Fetch privileged negative }
+    {
+        if !self.is_on(negative) {
+            return permitted_by_default(addr);
+        }
+        match find_holders(&self.regions, addr) {
+            Holders::Nothing => {
+                if privileged && self.ctrl / MPU_CTRL_PRIVDEFENA % 2 == 1 {
+                    permitted_by_default(addr)
+                } else {
+                    nothing()
+                }
+            }
+            Holders::One(_, bounds) => permitted_by_region(self.profile, &bounds, privileged),
+            Holders::Several => nothing(),
+        }
     }
 
     /// The one enabled region that holds an address, where the MPU is on; what TT tells of it.
