@@ -13,6 +13,8 @@ mod data;
 mod difference;
 mod fetch;
 mod frames;
+mod look_up;
+mod looking;
 mod monitor;
 mod noted_units;
 mod place;
