@@ -4,3 +4,4 @@ pub mod Written
 pub mod Units
 pub mod Permitted
 pub mod LookUps
+pub mod Kept

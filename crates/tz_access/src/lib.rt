@@ -27,6 +27,7 @@ mod written;
 pub use bus::Bus;
 pub use data::is_aligned;
 pub use frames::BusFrames;
+pub use looking::Kept;
 pub use noted_units::Units;
 pub use place::Place;
 pub use written::{Was, Written};
