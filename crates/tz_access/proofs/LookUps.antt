@@ -1,6 +1,6 @@
 -- Look-ups are what the definitions say: those of a block that are made of one of its bytes, and all places after
 -- one more is kept.
-use Rattle.std.proofs.Common.{◌≡◌, ℕ, zero, suc, ◌+◌, ◌*◌, ◌/◌, ◌%◌, ◌^◌, ◌<◌, ◌≤◌, ◌⊎◌, inl, inr, ⊎_elim, Bool, true, false, ◌&&◌, ◌||◌, List, [], ◌∷◌, Option, None, Some, length, set, get_or, replicate, refl, sym, ap, ◌∙◌, subst, arith, rules}
+use Rattle.std.proofs.Common.{◌≡◌, ℕ, zero, suc, ◌/◌, ◌%◌, ◌^◌, ◌<◌, ◌⊎◌, inl, inr, ⊎_elim, Bool, true, false, ◌&&◌, ◌||◌, List, [], ◌∷◌, Option, None, Some, set, get_or, replicate, refl, sym, ap, ◌∙◌, subst, arith}
 use Rattle.std.specs.Prelude.{slice_index_or, slice_set}
 use Rattle.std.specs.Option.{is_some}
 use Rattle.std.proofs.lemmas.Bool.Decides.{nat_tests}
@@ -26,7 +26,7 @@ use Rattle.tz_state.specs.Protection.{permits}
 use Rattle.tz_state.specs.State.{Bus, mpu_of}
 use Rattle.tz_state.specs.Access.{may_touch, is_let, lets, is_private}
 use Rattle.tz_access.specs.Checks.{IsByBlocks, last_of}
-use Rattle.tz_access.specs.LookUps.{Guards, admits, admits_by, admits_data, grants, Tells, IsSeen, AreSeen}
+use Rattle.tz_access.specs.LookUps.{Guards, admits_by, admits_data, grants, Tells, IsSeen, AreSeen}
 use Rattle.tz_access.proofs.Blocks.{every_by_ends, open_by_blocks, own_by_blocks, lets_by_blocks, permission_blocks}
 
 true_false : true ≡ false → ⊥
@@ -57,24 +57,20 @@ block_granted g kind who a b e =
 pub seen_block : (g : Guards) (k : LookUp) (a : ℕ) → are_regions g.map.regions ≡ true → a < 2 ^ 32 → k.block ≡ a / 32 → Tells g k.who a k → IsSeen g k
 seen_block g k a is small block tells = record {
   block = omega (arith, small, block);
-  tells = λ b e.
-      (tells.0 ∙ block_admitted k.who.fetch g.map k.who.side a b is (sym (e ∙ block)),
-      tells.1 ∙ block_granted g Read k.who a b (sym (e ∙ block)),
-      tells.2 ∙ block_granted g Write k.who a b (sym (e ∙ block)),
-      tells.3 ∙ block_granted g Fetch k.who a b (sym (e ∙ block)));
+  tells = λ b e. (
+    tells.0 ∙ block_admitted k.who.fetch g.map k.who.side a b is (sym (e ∙ block)),
+    tells.1 ∙ block_granted g Read k.who a b (sym (e ∙ block)),
+    tells.2 ∙ block_granted g Write k.who a b (sym (e ∙ block)),
+    tells.3 ∙ block_granted g Fetch k.who a b (sym (e ∙ block)),
+  );
 }
-
--- what is found at the place of a block, for who asks
-pub found_tells : (g : Guards) (places : List (Option LookUp)) (k : LookUp) (a block : ℕ) (who : Who) → AreSeen g places → slice_index_or places (block % 16) None ≡ Some k → k.block ≡ block → k.who ≡ who → block ≡ a / 32 → Tells g who a k
-found_tells g places k a block who are at e same is =
-    subst (λ (w : Who). Tells g w a k) same ((are.seen (block % 16) k at).tells a (sym (e ∙ is)))
 
 -- ---- an access within a block
 
 last_same : (p : ℕ → Bool) (a b : ℕ) → IsByBlocks p → a / 32 ≡ b / 32 → (p a && p b) ≡ p a
 last_same p a b is e = ap (λ q. p a && q) (sym (is.same a b e)) ∙ and_self (p a)
 
-pub every_in_block : (p : ℕ → Bool) (a : ℕ) (size : Size) → IsByBlocks p → a < 2 ^ 32 → a / 32 ≡ last_of size a / 32 → every p a size ≡ p a
+every_in_block : (p : ℕ → Bool) (a : ℕ) (size : Size) → IsByBlocks p → a < 2 ^ 32 → a / 32 ≡ last_of size a / 32 → every p a size ≡ p a
 every_in_block p a size is small e = every_by_ends p a size is small ∙ last_same p a (last_of size a) is e
 
 pub touch_in_block : (m : MapState) (side : Side) (size : Size) (a : ℕ) → are_regions m.regions ≡ true → a < 2 ^ 32 → a / 32 ≡ last_of size a / 32 → may_touch m side size a ≡ admits_data side m a
@@ -103,7 +99,7 @@ same_at o (suc n) zero = refl
 same_at o (suc n) (suc index) = same_at o n index
 
 -- where nothing is kept
-pub none_seen : (g : Guards) (places : List (Option LookUp)) → places ≡ replicate 16 None → AreSeen g places
+none_seen : (g : Guards) (places : List (Option LookUp)) → places ≡ replicate 16 None → AreSeen g places
 none_seen g places e = record {
   place = λ index k at. absurd (none_is_some k (sym (same_at None 16 index) ∙ ap (λ (ps : List (Option LookUp)). get_or ps index None) (sym e) ∙ at));
   seen = λ index k at. absurd (none_is_some k (sym (same_at None 16 index) ∙ ap (λ (ps : List (Option LookUp)). get_or ps index None) (sym e) ∙ at));
@@ -134,20 +130,38 @@ changed_seen g h true places after same emptied left are = none_seen h after (em
 changed_seen g h false places after same emptied left are =
     subst (λ (i : Guards). AreSeen i after) (same refl) (subst (λ (ps : List (Option LookUp)). AreSeen g ps) (sym (left refl)) are)
 
--- registers that aren't told as written are as they were
-pub sau_left : (s : SauValue) (register : Option SauRegister) (value : ℕ) → (saus.with_written s register value).changed ≡ false → (saus.with_written s register value).sau ≡ s.sau
-sau_left s None value e = refl
-sau_left s (Some register) value e = absurd (true_false e)
+-- ---- a write at an address, after which it is asked whether a register was written: what isn't told as written stays
 
-pub mpu_left : (m : MpuValue) (register : Option MpuRegister) (value : ℕ) → (mpus.with_written m register value).changed ≡ false → (mpus.with_written m register value).mpu ≡ m.mpu
-mpu_left m None value e = refl
-mpu_left m (Some register) value e = absurd (true_false e)
+sau_stays : (s : SauValue) (register : Option SauRegister) (value : ℕ) → (saus.with_written s register value).changed ≡ false → (saus.with_written s register value).sau ≡ s.sau
+sau_stays s None value e = refl
+sau_stays s (Some register) value e = absurd (true_false e)
 
--- and what isn't a register stays
-pub regions_stay : (s : SauValue) (register : Option SauRegister) (value : ℕ) → (saus.with_written s register value).regions ≡ s.regions
+pub sau_left : (s written taken : SauValue) (register : Option SauRegister) (value : ℕ) (changed : Bool) → written ≡ saus.with_written s register value → changed ≡ written.changed → taken ≡ record written { changed = false } → changed ≡ false → s.sau ≡ taken.sau
+sau_left s written taken register value changed is told rest e =
+    sym (ap (λ (v : SauValue). v.sau) rest ∙ ap (λ (v : SauValue). v.sau) is
+    ∙ sau_stays s register value (sym (ap (λ (v : SauValue). v.changed) is) ∙ sym told ∙ e))
+
+regions_stay : (s : SauValue) (register : Option SauRegister) (value : ℕ) → (saus.with_written s register value).regions ≡ s.regions
 regions_stay s None value = refl
 regions_stay s (Some register) value = refl
 
-pub profile_stays : (m : MpuValue) (register : Option MpuRegister) (value : ℕ) → (mpus.with_written m register value).profile ≡ m.profile
+pub regions_left : (s written taken : SauValue) (register : Option SauRegister) (value : ℕ) → written ≡ saus.with_written s register value → taken ≡ record written { changed = false } → taken.regions ≡ s.regions
+regions_left s written taken register value is rest =
+    ap (λ (v : SauValue). v.regions) rest ∙ ap (λ (v : SauValue). v.regions) is ∙ regions_stay s register value
+
+mpu_stays : (m : MpuValue) (register : Option MpuRegister) (value : ℕ) → (mpus.with_written m register value).changed ≡ false → (mpus.with_written m register value).mpu ≡ m.mpu
+mpu_stays m None value e = refl
+mpu_stays m (Some register) value e = absurd (true_false e)
+
+pub mpu_left : (m written taken : MpuValue) (register : Option MpuRegister) (value : ℕ) (changed : Bool) → written ≡ mpus.with_written m register value → changed ≡ written.changed → taken ≡ record written { changed = false } → changed ≡ false → m.mpu ≡ taken.mpu
+mpu_left m written taken register value changed is told rest e =
+    sym (ap (λ (v : MpuValue). v.mpu) rest ∙ ap (λ (v : MpuValue). v.mpu) is
+    ∙ mpu_stays m register value (sym (ap (λ (v : MpuValue). v.changed) is) ∙ sym told ∙ e))
+
+profile_stays : (m : MpuValue) (register : Option MpuRegister) (value : ℕ) → (mpus.with_written m register value).profile ≡ m.profile
 profile_stays m None value = refl
 profile_stays m (Some register) value = refl
+
+pub profile_left : (m written taken : MpuValue) (register : Option MpuRegister) (value : ℕ) → written ≡ mpus.with_written m register value → taken ≡ record written { changed = false } → taken.profile ≡ m.profile
+profile_left m written taken register value is rest =
+    ap (λ (v : MpuValue). v.profile) rest ∙ ap (λ (v : MpuValue). v.profile) is ∙ profile_stays m register value

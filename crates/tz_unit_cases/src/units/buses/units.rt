@@ -46,7 +46,11 @@ fn tell_kept(bus: &Bus, index: u32, case: &mut Case<'_>) {
     case.tell_hex(kept.block);
     case.tell(if kept.fetch { " code " } else { " data " });
     case.tell(side_word(kept.side));
-    case.tell(if kept.privileged { " privileged" } else { " user" });
+    case.tell(if kept.privileged {
+        " privileged"
+    } else {
+        " user"
+    });
     case.tell(if kept.negative { " negative " } else { " " });
     tell_word(case, &kept.attribute);
     case.tell(if kept.read { " r" } else { " -" });
