@@ -39,6 +39,18 @@ pub(crate) struct LookUps {
     places: [Option<LookUp>; PLACES],
 }
 
+/// Who asks for data.
+pub(crate) fn who_accesses(side: Side, privileged: bool, negative: bool) -> Who
+    ensures { result ≡ record { fetch = false; side = side; privileged = privileged; negative = negative } }
+{
+    Who {
+        fetch: false,
+        side,
+        privileged,
+        negative,
+    }
+}
+
 /// Whether an access of a kind is permitted.
 pub(crate) fn permits(permitted: Permitted, kind: Kind) -> bool
     ensures { result ≡ permitted_by kind permitted }

@@ -9,7 +9,7 @@ ghost use Rattle.tz_access.specs.Kept.{IsKept};
 ghost use Rattle.tz_access.specs.LookUps.{Tells, admits, admits_data, guards_of};
 
 use crate::bus::Bus;
-use crate::look_up::{LookUp, Who, permits};
+use crate::look_up::{LookUp, Who, permits, who_accesses};
 use crate::span::{is_one_block, last_of};
 use tz_model::address_map::PRIVATE_FIRST;
 use tz_model::{Side, Size};
@@ -128,26 +128,16 @@ impl Bus {
         let Request {
             addr,
             size,
-            kind,
             side,
-            privileged,
-            negative,
             ..
         } = *request;
         if addr < PRIVATE_FIRST && is_one_block(addr, last_of(size, addr)) {
             self.know_regions();
-            let found = self.look_up(
-                addr,
-                Who {
-                    fetch: false,
-                    side,
-                    privileged,
-                    negative,
-                },
-            );
+            let who = who_accesses(side, request.privileged, request.negative);
+            let found = self.look_up(addr, who);
             Passes {
                 touches: found.admitted,
-                is_let: permits(found.permitted, kind),
+                is_let: permits(found.permitted, request.kind),
             }
         } else {
             Passes {
@@ -168,16 +158,8 @@ impl Bus {
             && is_one_block(addr, last_of(size, addr))
         {
             self.know_regions();
-            let found = self.look_up(
-                addr,
-                Who {
-                    fetch: false,
-                    side,
-                    privileged: true,
-                    negative,
-                },
-            );
-            found.admitted
+            self.look_up(addr, who_accesses(side, true, negative))
+                .admitted
         } else {
             self.may_touch(side, size, addr)
         }
