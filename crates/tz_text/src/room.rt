@@ -57,7 +57,7 @@ impl Line {
         ensures value { result.now ≡ self.now.bytes }
         ensures fits { length result.now ≤ 768 }
     {
-        match str::from_utf8(self.bytes()) {
+        match str::from_utf8(&self.cells[..self.len]) {
             Ok(text) => text,
             Err(_) => "",
         }

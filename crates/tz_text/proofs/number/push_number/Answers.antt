@@ -6,8 +6,8 @@ use Rattle.tz_text.proofs.number.push_number.Goals as goal
 pub push_front-requires-clause-text : goal.push_front-requires-clause-text
 push_front-requires-clause-text c = rw (c.keep.new.self.tells, c.keep.ensures) (text_tens (c.args.number / 10) (omega arith))
 
-pub push_front-2-requires-clause-text : goal.push_front-2-requires-clause-text
-push_front-2-requires-clause-text c = text_last c.args.number
+pub push_front-requires-2-clause-text : goal.push_front-requires-2-clause-text
+push_front-requires-2-clause-text c = text_last c.args.number
 
 pub returns-clause-bytes : goal.returns-clause-bytes
 returns-clause-bytes c =
