@@ -135,7 +135,7 @@ pub struct Texts {
 impl Texts {
     /// Texts with nothing in them yet.
     pub fn new() -> Texts
-        ensures line { result.line.bytes ≡ [] }
+        ensures lines { result.lines ≡ [] }
         ensures text { result.text.bytes ≡ [] }
     {
         Texts {

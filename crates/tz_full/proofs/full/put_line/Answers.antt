@@ -1,7 +1,5 @@
-use Rattle.std.proofs.Common.{◌++◌, ◌∙◌, ap, subst, List, ℕ}
+use Rattle.std.proofs.Common.{◌∙◌, subst, List, ℕ}
 use Rattle.tz_model.specs.Outside.{Put}
-use Rattle.tz_model.specs.declared.report.View.TheVariants.{All}
-use Rattle.tz_text.specs.Line.{line}
 use Rattle.tz_full.proofs.full.put_line.Goals as goal
 
 pub returns-clause-put : goal.returns-clause-put
