@@ -1,4 +1,4 @@
-use Rattle.std.proofs.Common.{◌≡◌, ◌+◌, ◌*◌, ◌<◌, arith}
+use Rattle.std.proofs.Common.{arith}
 use Rattle.tz_text.proofs.Numbers.{upper_pos}
 use Rattle.tz_text.proofs.PieceTexts.{no_text}
 use Rattle.tz_text.proofs.kept.Entry.empty.Goals as goal
