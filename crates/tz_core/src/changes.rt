@@ -1,12 +1,13 @@
 //! The registers that a step changed, and the stores that it made, as a report has them.
 
-ghost use Rattle.std.specs.Prelude.{◌≡◌, ◌≤◌, ◌<◌, ◌+◌, ◌++◌, true, []};
+ghost use Rattle.std.specs.Prelude.{◌≡◌, ◌≤◌, ◌<◌, ◌+◌, ◌++◌, ◌≢◌, true, false, [], drop};
 ghost use Rattle.arrayvec.specs.ArrayVec.{array_vec_len};
+ghost use Rattle.tz_regs.specs.Special.{apsr_word};
 ghost use Rattle.tz_sem.specs.Ended.{changed, registers_changed, changes_of};
 
 use arrayvec::ArrayVec;
 use tz_model::{Change, Store};
-use tz_regs::{Before, Core};
+use tz_regs::{Apsr, Before, Core};
 
 /// The registers that differ after a step.
 pub type Changes = ArrayVec<Change, 16>;
@@ -25,17 +26,46 @@ fn tell(changes: &mut Changes, name: u8, old: u32, new: u32)
     }
 }
 
-/// Whether R0 to R12 are all as they were, which most branches and stores leave them. It compares them without
-/// a branch for each.
+/// Whether four registers, from one on, are as they were. It compares them without a branch for each.
+#[inline(always)]
 #[tactic(auto, unfolding(tz_sem::specs::Ended::registers_changed))]
-fn all_kept(before: &[u32; 13], after: &[u32; 13]) -> bool
-    ensures { result ≡ true → registers_changed 0 before.now after.now ≡ [] }
+fn four_kept(before: &[u32; 13], after: &[u32; 13], from: usize) -> bool
+    requires { from + 4 ≤ 13 }
+    ensures { result ≡ true → registers_changed (from + 4) (drop (from + 4) before.now) (drop (from + 4) after.now) ≡ registers_changed from (drop from before.now) (drop from after.now) }
 {
     let mut kept = true;
-    for k in 0..13usize {
+    for k in from..from + 4 {
         kept = kept & (before[k] == after[k]);
     }
     kept
+}
+
+/// Tells four registers, from one on, where they differ.
+#[inline(always)]
+#[tactic(auto, unfolding(tz_sem::specs::Ended::registers_changed))]
+fn tell_each(changes: &mut Changes, before: &[u32; 13], after: &[u32; 13], from: u8)
+    requires within { from + 4 ≤ 13 }
+    requires room { array_vec_len changes.old ≤ from }
+    ensures items { changes.new.items ++ registers_changed (from + 4) (drop (from + 4) before.now) (drop (from + 4) after.now) ≡ changes.old.items ++ registers_changed from (drop from before.now) (drop from after.now) }
+    ensures len { array_vec_len changes.new ≤ from + 4 }
+{
+    for k in from..from + 4 {
+        let i = usize::from(k);
+        tell(changes, k, before[i], after[i]);
+    }
+}
+
+/// The same. Most instructions change one register of the core, so most fours are passed over.
+#[inline(always)]
+fn tell_four(changes: &mut Changes, before: &[u32; 13], after: &[u32; 13], from: u8)
+    requires within { from + 4 ≤ 13 }
+    requires room { array_vec_len changes.old ≤ from }
+    ensures items { changes.new.items ++ registers_changed (from + 4) (drop (from + 4) before.now) (drop (from + 4) after.now) ≡ changes.old.items ++ registers_changed from (drop from before.now) (drop from after.now) }
+    ensures len { array_vec_len changes.new ≤ from + 4 }
+{
+    if !four_kept(before, after, usize::from(from)) {
+        tell_each(changes, before, after, from);
+    }
 }
 
 /// Tells R0 to R12 where they differ.
@@ -44,21 +74,35 @@ fn tell_general(changes: &mut Changes, before: &[u32; 13], after: &[u32; 13])
     ensures items { changes.new.items ≡ registers_changed 0 before.now after.now }
     ensures len { array_vec_len changes.new ≤ 13 }
 {
-    if !all_kept(before, after) {
-        tell_each(changes, before, after);
-    }
+    tell_four(changes, before, after, 0);
+    tell_four(changes, before, after, 4);
+    tell_four(changes, before, after, 8);
+    tell(changes, 12, before[12], after[12]);
 }
 
-/// Tells R0 to R12 where they differ.
-#[tactic(auto, unfolding(tz_sem::specs::Ended::registers_changed))]
-fn tell_each(changes: &mut Changes, before: &[u32; 13], after: &[u32; 13])
-    requires { array_vec_len changes.old ≡ 0 }
-    ensures items { changes.new.items ≡ registers_changed 0 before.now after.now }
-    ensures len { array_vec_len changes.new ≤ 13 }
+/// Whether the flags are all as they were, as most steps leave them. It compares them without a branch for each.
+fn flags_kept(before: &Apsr, after: &Apsr) -> bool
+    ensures kept { result ≡ true → apsr_word before.now ≡ apsr_word after.now }
+    ensures differ { result ≡ false → apsr_word before.now ≢ apsr_word after.now }
 {
-    for k in 0..13u8 {
-        let i = usize::from(k);
-        tell(changes, k, before[i], after[i]);
+    (before.n == after.n)
+        & (before.z == after.z)
+        & (before.c == after.c)
+        & (before.v == after.v)
+        & (before.q == after.q)
+}
+
+/// Tells APSR where it differs. Of flags that were kept no word is made.
+fn tell_flags(changes: &mut Changes, before: &Apsr, after: &Apsr)
+    requires { array_vec_len changes.old < 16 }
+    ensures items { changes.new.items ≡ changes.old.items ++ changed 15 (apsr_word before.now) (apsr_word after.now) }
+    ensures len { array_vec_len changes.new ≤ array_vec_len changes.old + 1 }
+{
+    if !flags_kept(before, after) {
+        changes.push(Change {
+            name: 15,
+            value: after.word(),
+        });
     }
 }
 
@@ -71,5 +115,5 @@ pub fn tell_changes(changes: &mut Changes, before: &Before, core: &Core)
     tell_general(changes, &before.registers.general, &now.general);
     tell(changes, 13, before.sp, core.pointer());
     tell(changes, 14, before.registers.lr, now.lr);
-    tell(changes, 15, before.registers.apsr.word(), now.apsr.word());
+    tell_flags(changes, &before.registers.apsr, &now.apsr);
 }

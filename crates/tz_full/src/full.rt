@@ -19,7 +19,7 @@ use crate::ways::{push_resumed, push_ways};
 use tz_core::Machine;
 use tz_model::{Report, ScriptEvent, Sink, SinkError, View};
 use tz_sem::Account;
-use tz_text::{Line, push_line};
+use tz_text::Lines;
 
 /// The accesses of the instruction, then SG, a call or a return from one.
 #[tactic(auto, unfolding(crate::specs::Full::ran_text))]
@@ -113,7 +113,7 @@ fn put_rest<O: Sink>(
 
 /// Writes the line of a step in view `all` as one put.
 fn put_line<O: Sink>(
-    text: &mut Line,
+    lines: &mut Lines,
     report: &Report,
     step: u32,
     out: &mut O,
@@ -121,26 +121,25 @@ fn put_line<O: Sink>(
     ensures put { Put (O.written out.old) (O.written out.new) (O.space out.old) (O.space out.new) (line All step report.now) result }
     ensures cause { HasCause (O.faults out.old) (O.faults out.new) (result ≡ Err SinkError.Failed) }
 {
-    text.clear();
-    push_line(text, report, step, View::All);
-    out.put(text.as_str().as_bytes())
+    lines.make(report, step, View::All);
+    out.put(lines.bytes())
 }
 
 /// The texts that the lines of steps are made in.
 #[derive(Drop)]
 pub struct Texts {
-    line: Line,
+    lines: Lines,
     text: Text,
 }
 
 impl Texts {
     /// Texts with nothing in them yet.
     pub fn new() -> Texts
-        ensures line { result.line.bytes ≡ [] }
+        ensures lines { result.lines ≡ [] }
         ensures text { result.text.bytes ≡ [] }
     {
         Texts {
-            line: Line::new(),
+            lines: Lines::new(),
             text: Text::new(),
         }
     }
@@ -181,7 +180,7 @@ pub fn put_step<O: Sink>(
     ensures put { Put (O.written out.old) (O.written out.new) (O.space out.old) (O.space out.new) (line All step report.now ++ full account.now due.now report.now machine.now) result }
     ensures cause { HasCause (O.faults out.old) (O.faults out.new) (result ≡ Err SinkError.Failed) }
 {
-    if let Err(error) = put_line(&mut texts.line, report, step, out) {
+    if let Err(error) = put_line(&mut texts.lines, report, step, out) {
         return Err(error);
     }
     put_under(&mut texts.text, account, due, report, machine, out)

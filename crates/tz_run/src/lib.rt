@@ -26,7 +26,7 @@ use tz_core::Machine;
 use tz_model::{Report, Sink, SinkError, View};
 use tz_ready::Steps;
 use tz_resume::know_state;
-use tz_text::{Line, push_line};
+use tz_text::Lines;
 
 /// Runs `steps` steps and writes a line for each, numbered from 0. At each step its events of the script
 /// are due. Of two of them, of which one preempts Secure code and the other takes its frames back as they were
@@ -79,7 +79,7 @@ pub fn make_steps(machine: &mut Machine, script: &Script, steps: u32)
 
 /// Writes the line of a step as one put. The text is what it is made in.
 fn put_line<O: Sink>(
-    text: &mut Line,
+    lines: &mut Lines,
     report: &Report,
     step: u32,
     view: View,
@@ -88,9 +88,8 @@ fn put_line<O: Sink>(
     ensures put { Put (O.written out.old) (O.written out.new) (O.space out.old) (O.space out.new) (line view step report.now) result }
     ensures cause { HasCause (O.faults out.old) (O.faults out.new) (result ≡ Err SinkError.Failed) }
 {
-    text.clear();
-    push_line(text, report, step, view);
-    out.put(text.as_str().as_bytes())
+    lines.make(report, step, view);
+    out.put(lines.bytes())
 }
 
 /// The machine's state has what types say of it.
@@ -121,12 +120,12 @@ fn run_counted<L: Ledger, O: Sink>(
 {
     let mut looks = Steps::<L>::start(blank);
     let mut report = Report::new();
-    let mut text = Line::new();
+    let mut lines = Lines::new();
     for step in first..first + steps {
         let due = script.due(step, &mut looks);
         know_typed(machine);
         machine.step_into(due, &mut report);
-        if let Err(error) = put_line(&mut text, &report, step, view, out) {
+        if let Err(error) = put_line(&mut lines, &report, step, view, out) {
             return Err(error);
         }
     }

@@ -13,3 +13,8 @@ pub mod Spelling
 pub mod TextCases
 pub mod TextForms
 pub mod TextGroups
+pub mod HexDigits
+pub mod NamePieces
+pub mod Numbers
+pub mod Pieces
+pub mod PieceTexts

@@ -4,8 +4,8 @@ use Rattle.tz_table.specs.declared.decoded.Decoded.{Decoded}
 use Rattle.tz_table.specs.declared.decoded.Decoded.TheVariants.{One, NoCoprocessor, Undefined}
 use Rattle.tz_table.specs.declared.units.Code.{Code}
 use Rattle.tz_table.specs.declared.units.Width.TheVariants.{Narrow, Wide}
-use Rattle.tz_model.specs.Codes.{second_of}
-use Rattle.tz_syntax.specs.Digits.{hex_half}
+use Rattle.tz_model.specs.Codes.{meaning_of, second_of}
+use Rattle.tz_syntax.specs.Digits.{hex_half, hex_word}
 use Rattle.tz_syntax.specs.Text.{text_of}
 
 abbrev pub second_text : Option ℕ → List ℕ
@@ -30,3 +30,7 @@ meaning_text pc code (One insn width) = text_of insn width pc
 meaning_text pc code NoCoprocessor = wide_text code
 meaning_text pc code (Undefined Wide) = wide_text code
 meaning_text pc code (Undefined Narrow) = narrow_text code
+
+-- what a line shows of the instruction with a code at an address
+abbrev pub ran_text : ℕ → Code → List ℕ
+ran_text pc code = codes "N " ++ hex_word pc ++ codes " " ++ code_text code ++ codes " " ++ meaning_text pc code (meaning_of code)

@@ -1,7 +1,10 @@
 pub mod Instruction
 pub mod Line
 pub mod Fronts
+pub mod Kept
 pub mod Maximal
+pub mod Number
 pub mod Rests
+pub mod Room
 pub mod Runs
 pub mod Text

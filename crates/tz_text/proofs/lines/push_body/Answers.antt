@@ -15,8 +15,8 @@ returns-else-is_hidden-clause-bytes c = first_of (assumption, search (tests, rul
 pub returns-else-is_hidden-clause-len : goal.returns-else-is_hidden-clause-len
 returns-else-is_hidden-clause-len c = first_of (assumption, search (tests, rules), grind (arith, common_steps), grind (arith, elements))
 
-pub returns-after-report-clause-bytes : goal.returns-after-report-clause-bytes
-returns-after-report-clause-bytes c = first_of (assumption, search (tests, rules), grind (arith, common_steps), grind (arith, elements))
+pub returns-in-All-clause-bytes : goal.returns-in-All-clause-bytes
+returns-in-All-clause-bytes c = first_of (assumption, search (tests, rules), grind (arith, common_steps), grind (arith, elements))
 
-pub returns-after-report-clause-len : goal.returns-after-report-clause-len
-returns-after-report-clause-len c = first_of (assumption, search (tests, rules), grind (arith, common_steps), grind (arith, elements))
+pub returns-in-All-clause-len : goal.returns-in-All-clause-len
+returns-in-All-clause-len c = first_of (assumption, search (tests, rules), grind (arith, common_steps), grind (arith, elements))
