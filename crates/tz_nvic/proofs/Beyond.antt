@@ -3,8 +3,6 @@ use Rattle.std.proofs.Common.{◌≡◌, ◌⊎◌, inl, inr, ℕ, zero, suc, �
 use Rattle.std.specs.Prelude.{nat_lt}
 use Rattle.std.proofs.lemmas.Bool.Decides.{nat_tests}
 use Rattle.tz_state.specs.Slots.{ExceptionsValue, is_place}
-use Rattle.tz_state.specs.Least.{least_below}
-use Rattle.tz_state.specs.Priority.{is_ready, rank_of, chosen_place}
 use Rattle.tz_state.specs.Execution.{is_active, active_below, raw_priority}
 use Rattle.tz_nvic.specs.ActiveSlots.{active_slots_below, active_slots}
 
@@ -25,15 +23,8 @@ stays test f same m none (suc n) h = elim (last_or_more m n h) [
   | inr l ↦ same n (none n l) ∙ stays test f same m none n l
 ]
 
-not_ready : (e : ExceptionsValue) (j : ℕ) → e.interrupts + 32 ≤ j → is_ready e j ≡ false
-not_ready e j h = rw (beyond e j h) refl
-
 not_active : (e : ExceptionsValue) (j : ℕ) → e.interrupts + 32 ≤ j → is_active e j ≡ false
 not_active e j h = rw (beyond e j h) refl
-
-same_least : (ready : ℕ → Bool) (rank : ℕ → ℕ) (n : ℕ) → ready n ≡ false → least_below ready rank (suc n) ≡ least_below ready rank n
-unfolding least_below
-same_least ready rank n h = rw h refl
 
 same_priority : (e : ExceptionsValue) (n : ℕ) → is_active e n ≡ false → active_below e (suc n) ≡ active_below e n
 unfolding active_below
@@ -42,10 +33,6 @@ same_priority e n h = rw h refl
 same_slots : (e : ExceptionsValue) (n : ℕ) → is_active e n ≡ false → active_slots_below e (suc n) ≡ active_slots_below e n
 unfolding active_slots_below
 same_slots e n h = rw h refl
-
-pub chosen_below : (e : ExceptionsValue) → e.interrupts ≤ 240 → chosen_place e ≡ least_below (is_ready e) (rank_of e) (e.interrupts + 32)
-chosen_below e h =
-    stays (is_ready e) (least_below (is_ready e) (rank_of e)) (same_least (is_ready e) (rank_of e)) (e.interrupts + 32) (not_ready e) 272 (omega arith)
 
 pub raw_below : (e : ExceptionsValue) → e.interrupts ≤ 240 → raw_priority e ≡ active_below e (e.interrupts + 32)
 raw_below e h = stays (is_active e) (active_below e) (same_priority e) (e.interrupts + 32) (not_active e) 272 (omega arith)

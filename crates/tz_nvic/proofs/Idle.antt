@@ -1,5 +1,5 @@
 -- Slots that are idle from a place on: what a write leaves, and what a copy need not have.
-use Rattle.std.proofs.Common.{◌≡◌, ℕ, ◌+◌, ◌-◌, ◌<◌, ◌≤◌, List, ◌++◌, length, take, drop, set, replicate, max, ap, sym, ◌∙◌, subst, arith}
+use Rattle.std.proofs.Common.{◌≡◌, ◌⊎◌, inl, inr, ℕ, ◌+◌, ◌-◌, ◌<◌, ◌≤◌, List, ◌++◌, length, take, drop, set, replicate, max, ap, sym, ◌∙◌, subst, arith}
 use Rattle.std.proofs.Math.Nat.{le-max_left, le-max_right}
 use Rattle.std.proofs.Math.Seq.{take-append_seam}
 use Rattle.std.proofs.lemmas.List.{drop-drop, drop-set-lt, drop-replicate, take-append-drop}
@@ -17,13 +17,22 @@ idle_later n i slots h later =
     subst (λ c. drop c slots ≡ replicate (places - c) idle) (let e : n + (i - n) ≡ i = omega arith in e) (idle_more n (i - n) slots h)
 
 -- a slot before them is written
-pub idle_behind : (n i : ℕ) (slots : List SlotState) (x : SlotState) → i < n → AreIdleFrom n slots → AreIdleFrom n (set slots i x)
+idle_behind : (n i : ℕ) (slots : List SlotState) (x : SlotState) → i < n → AreIdleFrom n slots → AreIdleFrom n (set slots i x)
 idle_behind n i slots x before h = (h.0, drop-set-lt n slots i x before ∙ h.1)
 
 -- one of them is written
-pub idle_after : (n i : ℕ) (slots : List SlotState) (x : SlotState) → n ≤ i → i < places → AreIdleFrom n slots → AreIdleFrom (i + 1) (set slots i x)
+idle_after : (n i : ℕ) (slots : List SlotState) (x : SlotState) → n ≤ i → i < places → AreIdleFrom n slots → AreIdleFrom (i + 1) (set slots i x)
 idle_after n i slots x among fits h =
     (omega arith, drop-set-lt (i + 1) slots i x (omega arith) ∙ idle_later n (i + 1) slots h (omega arith))
+
+-- any slot is written
+pub idle_written : (n i : ℕ) (slots : List SlotState) (x : SlotState) → i < places → AreIdleFrom n slots → AreIdleFrom (max n (i + 1)) (set slots i x)
+idle_written n i slots x fits h = elim (below_or_not i n) [
+  | inl b ↦ subst (λ m. AreIdleFrom m (set slots i x)) (let e : n ≡ max n (i + 1) = omega arith in e) (idle_behind n i slots x b h)
+  | inr b ↦ subst (λ m. AreIdleFrom m (set slots i x)) (let e : i + 1 ≡ max n (i + 1) = omega arith in e) (idle_after n i slots x b fits h)
+] where
+  below_or_not : (i n : ℕ) → (i < n) ⊎ (n ≤ i)
+  below_or_not i n = grind arith
 
 -- what a copy leaves of as many slots, where those that are idle in both stay
 pub copied : (n m k count : ℕ) (slots others new : List SlotState) → AreIdleFrom n slots → AreIdleFrom m others → k ≡ max n m → length others ≡ count

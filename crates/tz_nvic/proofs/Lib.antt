@@ -5,3 +5,6 @@ pub mod ActiveSlots
 pub mod Timers
 pub mod Beyond
 pub mod Idle
+pub mod Relinked
+pub mod Order
+pub mod Leading

@@ -1,3 +1,5 @@
 pub mod ActiveSlots
+pub mod Choice
 pub mod Known
+pub mod Lists
 pub mod Viewed

@@ -3,6 +3,7 @@ use Rattle.std.specs.Prelude.{◌≡◌, ℕ, ◌-◌, ◌≤◌, List, length, 
 use Rattle.tz_state.specs.declared.slot.SlotState.{SlotState}
 use Rattle.tz_state.specs.Slots.{ExceptionsValue, idle, places}
 use Rattle.tz_nvic.specs.Known.{IsKnown}
+use Rattle.tz_nvic.specs.Lists.{AreLinked}
 use Rattle.tz_nvic.specs.declared.exceptions.Exceptions.TheInside.{Inside}
 
 -- all but what is known of them
@@ -23,7 +24,7 @@ value_of e =
 abbrev pub AreIdleFrom : ℕ → List SlotState → Type 0
 AreIdleFrom i slots = (i ≤ places) × (drop i slots ≡ replicate (places - i) idle)
 
--- each slot has a place, numbers are in range, what is known is so, and what is idle is
+-- each slot has a place, numbers are in range, what is known is so, what is idle is, and what is ready is linked
 abbrev pub Holds : Inside → Type 0
 Holds e =
     (length e.slots.items ≡ 272)
@@ -32,3 +33,4 @@ Holds e =
     × (e.prigroup_ns ≤ 7)
     × IfSome e.known (λ k. IsKnown (value_of e) k)
     × AreIdleFrom e.idle_from e.slots.items
+    × AreLinked (value_of e) e.ready

@@ -21,6 +21,7 @@ impl Exceptions {
     {
         let end = self.idle_from.max(other.idle_from);
         copy_below(&mut self.slots, &other.slots, end);
+        self.ready.copy_from(&other.ready, end);
         self.idle_from = other.idle_from;
         self.interrupts = other.interrupts;
         self.prigroup_s = other.prigroup_s;

@@ -14,7 +14,8 @@ use crate::place::{
 use std::alloc::{AllocError, Global};
 use std::marker::Model;
 use tz_model::{Side, Slot};
-use tz_state::exception::{BUS_FAULT, FIRST_INTERRUPT, HARD_FAULT, NMI};
+use tz_ready::Ready;
+use tz_state::exception::{FIRST_INTERRUPT, HARD_FAULT, NMI};
 use tz_state::{SlotState, Timer};
 
 /// The exceptions of a core.
@@ -30,6 +31,8 @@ pub struct Exceptions {
     pub(crate) timer_ns: Timer,
     /// All slots from this place on are as a reset leaves them.
     pub(crate) idle_from: usize,
+    /// The slots that are pending and enabled, but those of fixed priority, in lists by priority and side.
+    pub(crate) ready: Ready,
     /// What a look at all slots finds, until something is written that it depends on.
     pub(crate) known: Option<Known>,
 }
@@ -85,6 +88,7 @@ impl Exceptions {
             timer_s: NO_TIMER,
             timer_ns: NO_TIMER,
             idle_from: 0,
+            ready: Ready::new(),
             known: None,
         })
     }
@@ -154,11 +158,11 @@ impl Exceptions {
         requires { index < 272 }
         ensures { self.new ≡ with_slot self.old index state }
     {
+        let queue = self.queue_by(index, &state);
         self.known = None;
         self.slots[index] = state;
-        if self.idle_from <= index {
-            self.idle_from = index + 1;
-        }
+        self.idle_from = self.idle_from.max(index + 1);
+        self.ready.put(index as u16, queue);
     }
 
     /// Sets a slot pending. The slot exists.
@@ -309,16 +313,7 @@ impl Exceptions {
         requires { index < 272 }
         ensures { result ≡ side_at self.now index }
     {
-        if index < FIRST_INTERRUPT_PLACE {
-            let number = index as u16 / 2;
-            if index % 2 == 1 || ((number == NMI || number == BUS_FAULT) && self.bfhfnmins) {
-                Side::NonSecure
-            } else {
-                Side::Secure
-            }
-        } else {
-            self.slots[index].target
-        }
+        self.side_by(index, &self.slots[index])
     }
 
     /// The slot at a place.

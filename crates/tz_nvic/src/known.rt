@@ -31,7 +31,7 @@ impl Exceptions {
     /// Looks at the slots.
     fn look<L: Ledger>(&self, steps: &mut Steps<L>) -> Known
         ensures is { IsKnown self.now result }
-        ensures looks { steps.new ≤ steps.old + 272 }
+        ensures looks { steps.new ≤ steps.old + 24 }
     {
         Known {
             chosen: self.chosen_place(steps),
@@ -46,7 +46,7 @@ impl Exceptions {
     /// answer without a look.
     pub fn settle<L: Ledger>(&mut self, steps: &mut Steps<L>)
         ensures same { self.new ≡ self.old }
-        ensures looks { steps.new ≤ steps.old + 272 }
+        ensures looks { steps.new ≤ steps.old + 24 }
     {
         if self.known.is_none() {
             let known = self.look(steps);
@@ -59,7 +59,7 @@ impl Exceptions {
         ensures is { result ≡ chosen_place self.now }
         ensures few { IfSome result (λ i. i < 272) }
         ensures place { IfSome result (λ i. is_place self.now i ≡ true) }
-        ensures looks { steps.new ≤ steps.old + 272 }
+        ensures looks { steps.new ≤ steps.old + 24 }
     {
         match &self.known {
             Some(known) => known.chosen,
@@ -79,11 +79,11 @@ impl Exceptions {
 
     /// The exception that comes first (DDI0553, `PendingExceptionDetails`): of those that are pending and
     /// enabled, that of the least group priority, then subpriority, then number, and of one number the Secure
-    /// one. None exactly where nothing is pending and enabled. It looks at each slot at most once.
+    /// one. None exactly where nothing is pending and enabled. It takes at most 24 looks, however many slots there are.
     pub fn chosen<L: Ledger>(&self, steps: &mut Steps<L>) -> Option<Slot>
         ensures is { result ≡ chosen self.now }
         ensures exists { IfSome result (λ slot. exists self.now slot ≡ true) }
-        ensures looks { steps.new ≤ steps.old + 272 }
+        ensures looks { steps.new ≤ steps.old + 24 }
     {
         match self.first_place(steps) {
             None => None,

@@ -13,6 +13,7 @@ mod due;
 mod exceptions;
 mod known;
 mod laws;
+mod lists;
 mod place;
 mod priority;
 mod side;

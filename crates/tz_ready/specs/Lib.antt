@@ -1,0 +1,4 @@
+pub mod Copies
+pub mod Levels
+pub mod Links
+pub mod Threads

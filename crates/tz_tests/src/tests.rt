@@ -13,6 +13,7 @@ mod jobs;
 mod lines;
 mod operations;
 mod pieces;
+mod ready;
 mod rows;
 mod slots;
 mod tokens;
