@@ -1,3 +1,4 @@
 pub mod Blocks
 pub mod OpenBytes
 pub mod Undoing
+pub mod LookUps

@@ -4,10 +4,11 @@ ghost use Rattle.std.specs.Prelude.{◌≡◌, IfOk, MatchResult, OnOk, OnErr, I
 ghost use Rattle.tz_mem.specs.Values.{IsRefusal};
 ghost use Rattle.tz_state.specs.Access.{is_mapped, is_writable};
 ghost use Rattle.tz_state.specs.Memory.{every, value_at, with_value, with_byte, with_bytes};
-ghost use Rattle.tz_state.specs.State.{map_in, mpu_of, with_memory};
+ghost use Rattle.tz_state.specs.State.{mpu_of, with_memory};
 ghost use Rattle.tz_state.specs.UnitRegisters.{reset_bus};
 ghost use Rattle.tz_state.specs.Zeros.{zero_memory};
 
+use crate::look_up::LookUps;
 use std::alloc::{AllocError, Global};
 use std::marker::Model;
 use tz_mem::{Memory, NotMapped, Refused};
@@ -16,7 +17,8 @@ use tz_mpu::Mpu;
 use tz_sau::Sau;
 use tz_state::Exclusive;
 
-/// Memory with what guards it.
+/// Memory with what guards it; beside that, which is no part of any state, what the units said last of blocks of 32
+/// bytes. It is kept while their registers stay.
 #[derive(Drop)]
 pub struct Bus {
     pub(crate) board: Board,
@@ -25,6 +27,7 @@ pub struct Bus {
     pub(crate) mpu_s: Mpu,
     pub(crate) mpu_ns: Mpu,
     pub(crate) monitor: Option<Exclusive>,
+    pub(crate) kept: LookUps,
 }
 
 impl Model for Bus {
@@ -34,6 +37,7 @@ impl Model for Bus {
     ghost use Rattle.std.specs.Ordering.{nat_cmp};
     ghost use Rattle.tz_model.specs.Board.{IsBoard};
     ghost use Rattle.tz_state.specs.State as state;
+    ghost use Rattle.tz_access.specs.LookUps.{AreSeen, guards_by};
 
     ghost Value = { state.Bus };
 
@@ -52,7 +56,8 @@ impl Model for Bus {
         (b.memory.regions ≡ b.board.regions)
         × (b.sau.regions ≡ b.board.regions)
         × (b.mpu_s.profile ≡ b.board.profile)
-        × (b.mpu_ns.profile ≡ b.board.profile) };
+        × (b.mpu_ns.profile ≡ b.board.profile)
+        × AreSeen (guards_by b.board b.sau.sau b.mpu_s.mpu b.mpu_ns.mpu) b.kept.places };
 }
 
 impl Bus {
@@ -72,6 +77,7 @@ impl Bus {
             mpu_s: Mpu::new(board.mpu_secure, board.profile),
             mpu_ns: Mpu::new(board.mpu_nonsecure, board.profile),
             monitor: None,
+            kept: LookUps::new(),
             board: copy,
         })
     }
@@ -133,7 +139,8 @@ impl Bus {
 
     /// The SAU, with the board's regions.
     pub fn sau(&self) -> &Sau
-        ensures { result.now ≡ map_in self.now }
+        ensures regions { result.now.regions ≡ self.now.board.regions }
+        ensures sau { result.now.sau ≡ self.now.sau }
     {
         &self.sau
     }

@@ -9,6 +9,7 @@ ghost use Rattle.tz_access.specs.Checks.{is_system, place_verdict};
 ghost use Rattle.tz_access.specs.Written.{before_stores, noted_count};
 
 use crate::bus::Bus;
+use crate::looking::Passes;
 use crate::place::Place;
 use crate::span::{is_one_block, last_of};
 use crate::units::is_private;
@@ -74,7 +75,7 @@ impl Bus {
 
     /// Whether the MPU lets an access have each byte.
     #[tactic(auto, using(crate::proofs::Blocks::every_by_ends), unfolding(tz_state::specs::Access::is_let))]
-    fn is_let(&self, request: &Request) -> bool
+    pub(crate) fn is_let(&self, request: &Request) -> bool
         ensures { result ≡ is_let self.now request.now }
     {
         let last = last_of(request.size, request.addr);
@@ -93,19 +94,21 @@ impl Bus {
 
     /// All checks of an access but the map's.
     #[tactic(auto, unfolding(tz_state::specs::Access::verdict))]
-    fn guard(&self, request: &Request) -> Result<Place, Fault>
-        ensures { MatchResult result
-            (λ place. (verdict self.now request.now ≡ place_verdict place self.now request.now) × (is_system place ≡ is_private request.now.addr))
-            (λ fault. verdict self.now request.now ≡ Some fault) }
+    fn guard(&mut self, request: &Request) -> Result<Place, Fault>
+        ensures verdict { MatchResult result
+            (λ place. (verdict self.old request.now ≡ place_verdict place self.old request.now) × (is_system place ≡ is_private request.now.addr))
+            (λ fault. verdict self.old request.now ≡ Some fault) }
+        ensures kept { self.new ≡ self.old }
     {
         let addr = request.addr;
         if is_crooked(request.size, addr, request.must_align) {
             return Err(Fault::Unaligned);
         }
-        if !self.may_touch(request.side, request.size, addr) {
+        let Passes { touches, is_let } = self.passes(request);
+        if !touches {
             return Err(Fault::Violation(addr));
         }
-        if !self.is_let(request) {
+        if !is_let {
             return Err(Fault::DataAccess(addr, request.side));
         }
         if !is_private(addr) {
@@ -147,16 +150,17 @@ impl Bus {
     ///
     /// UNALIGNED, AUVIOL, DACCVIOL or PRECISERR, the first check that fails.
     pub fn load(
-        &self,
+        &mut self,
         asker: &Asker,
         size: Size,
         addr: u32,
         must_align: bool,
         user: bool,
     ) -> Result<Option<u32>, Fault>
-        ensures { MatchResult result
-            (λ found. (verdict self.now (request_by asker.now Read size addr must_align user) ≡ None) × (found ≡ (if is_private addr then None else Some (value_at self.now.memory size addr))))
-            (λ fault. verdict self.now (request_by asker.now Read size addr must_align user) ≡ Some fault) }
+        ensures answer { MatchResult result
+            (λ found. (verdict self.old (request_by asker.now Read size addr must_align user) ≡ None) × (found ≡ (if is_private addr then None else Some (value_at self.old.memory size addr))))
+            (λ fault. verdict self.old (request_by asker.now Read size addr must_align user) ≡ Some fault) }
+        ensures kept { self.new ≡ self.old }
     {
         let request = request_by(asker, Kind::Read, size, addr, must_align, user);
         match self.guard(&request)? {

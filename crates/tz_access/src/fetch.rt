@@ -1,15 +1,19 @@
 //! Fetches (DDI0553, `FetchInstr`).
 
-ghost use Rattle.std.specs.Prelude.{◌≡◌, ◌+◌, true, MatchOption, MatchResult, None, Some};
-ghost use Rattle.tz_table.specs.declared.units.Side.TheVariants.{Secure, NonSecure};
+ghost use Rattle.std.specs.Prelude.{◌≡◌, ◌+◌, true, false, MatchOption, MatchResult, None, Some};
 ghost use Rattle.tz_model.specs.Words.{wrap};
 ghost use Rattle.tz_state.specs.Attribution.{fetch_attribution};
 ghost use Rattle.tz_state.specs.Fetch.{is_own_byte, is_own_fetch, is_runnable, wrong_side, lets_run, own_fetch, is_entry as is_entry_at, gateway_fetch, is_entry_fault, fetch, needs_second, narrow, wide};
-ghost use Rattle.tz_state.specs.State.{map_in};
+ghost use Rattle.tz_state.specs.declared.request.Kind.TheVariants as kinds;
+ghost use Rattle.tz_state.specs.Protection.{permits};
+ghost use Rattle.tz_state.specs.State.{map_in, mpu_of};
+ghost use Rattle.tz_access.specs.LookUps.{who_fetches};
 ghost use Rattle.tz_access.specs.Checks.{IsByBlocks, is_own};
 
 use crate::bus::Bus;
+use crate::look_up::Who;
 use crate::span::is_one_block;
+use tz_model::address_map::PRIVATE_FIRST;
 use tz_model::{Code, Fault, FetchAnswer, Fetched, RegionSide, Side};
 use tz_state::Fetcher;
 
@@ -66,6 +70,18 @@ fn is_entry_fault(answer: &Result<Fetched, Fault>) -> bool
     matches!(answer, Err(Fault::EntryPoint))
 }
 
+/// Who asks for a byte that is fetched.
+fn who_fetches(fetcher: &Fetcher) -> Who
+    ensures { result ≡ who_fetches fetcher.now }
+{
+    Who {
+        fetch: true,
+        side: fetcher.side,
+        privileged: fetcher.privileged,
+        negative: fetcher.negative,
+    }
+}
+
 impl Bus {
     /// Fetches are of a side by blocks.
     fn know_own(&self, side: Side)
@@ -89,10 +105,18 @@ impl Bus {
         requires { attributed ≡ fetch_attribution (map_in self.now) side addr }
         ensures { result ≡ is_own_fetch (map_in self.now) side addr }
     {
+        is_own(side, attributed) && self.is_own_last(side, addr)
+    }
+
+    /// Whether both bytes of a halfword are of the side that fetches it, where its first is.
+    #[tactic(auto, unfolding(tz_state::specs::Fetch::is_own_fetch))]
+    fn is_own_last(&self, side: Side, addr: u32) -> bool
+        requires { is_own_byte (map_in self.now) side addr ≡ true }
+        ensures { result ≡ is_own_fetch (map_in self.now) side addr }
+    {
         self.know_own(side);
         let last = addr.wrapping_add(1);
-        is_own(side, attributed)
-            && (is_one_block(addr, last) || is_own(side, self.sau.fetch_attribution(side, last)))
+        is_one_block(addr, last) || is_own(side, self.sau.fetch_attribution(side, last))
     }
 
     /// Whether the second halfword at PC is of the side that fetches it, where the first is.
@@ -113,6 +137,25 @@ impl Bus {
         let last = addr.wrapping_add(1);
         self.lets_run(side, privileged, negative, addr)
             && (is_one_block(addr, last) || self.lets_run(side, privileged, negative, last))
+    }
+
+    /// Whether the MPU of the side that fetches lets code run at both bytes of the halfword at PC, by what it
+    /// permits at the first.
+    #[tactic(auto, unfolding(tz_state::specs::Fetch::is_runnable))]
+    fn is_runnable_rest(&self, fetcher: &Fetcher, pc: u32, permitted: bool) -> bool
+        requires { permitted ≡ permits self.now.board.profile (mpu_of fetcher.now.side self.now) pc kinds.Fetch fetcher.now.privileged fetcher.now.negative }
+        ensures { result ≡ is_runnable self.now fetcher.now.side fetcher.now.privileged fetcher.now.negative pc }
+    {
+        let Fetcher {
+            side,
+            privileged,
+            negative,
+            ..
+        } = *fetcher;
+        let last = pc.wrapping_add(1);
+        permitted
+            && pc < PRIVATE_FIRST
+            && (is_one_block(pc, last) || self.lets_run(side, privileged, negative, last))
     }
 
     /// Whether the MPU lets code run at the second halfword at PC, where it does at the first.
@@ -136,10 +179,12 @@ impl Bus {
             || self.sau.fetch_attribution(Side::NonSecure, next) == RegionSide::Nsc
     }
 
-    /// The instruction at PC, where its first halfword is of the side that fetches it.
+    /// The instruction at PC, where its first halfword is of the side that fetches it, by what the MPU of that side
+    /// permits at PC.
     #[tactic(auto, unfolding(tz_state::specs::Fetch::own_fetch, tz_state::specs::Fetch::half_verdict))]
-    fn own_fetch(&self, fetcher: &Fetcher, pc: u32) -> Result<Fetched, Fault>
-        requires { is_own_fetch (map_in self.now) fetcher.now.side pc ≡ true }
+    fn own_fetch(&self, fetcher: &Fetcher, pc: u32, permitted: bool) -> Result<Fetched, Fault>
+        requires own { is_own_fetch (map_in self.now) fetcher.now.side pc ≡ true }
+        requires permitted { permitted ≡ permits self.now.board.profile (mpu_of fetcher.now.side self.now) pc kinds.Fetch fetcher.now.privileged fetcher.now.negative }
         ensures { result ≡ own_fetch self.now fetcher.now pc }
     {
         let Fetcher {
@@ -148,7 +193,7 @@ impl Bus {
             negative,
             ..
         } = *fetcher;
-        if !self.is_runnable(side, privileged, negative, pc) {
+        if !self.is_runnable_rest(fetcher, pc, permitted) {
             return Err(Fault::Exec(side));
         }
         let (first, second) = match self.memory.read_code(pc) {
@@ -197,42 +242,67 @@ impl Bus {
         }
     }
 
-    /// The instruction at PC for Non-secure code.
+    /// The answer where the first halfword at PC is of the side that fetches it.
     #[tactic(auto, unfolding(tz_state::specs::Fetch::fetch))]
-    fn nonsecure_fetch(&self, fetcher: &Fetcher, pc: u32) -> FetchAnswer
-        requires { fetcher.now.side ≡ NonSecure }
+    fn answer_own(&self, fetcher: &Fetcher, pc: u32, permitted: bool) -> FetchAnswer
+        requires own { is_own_fetch (map_in self.now) fetcher.now.side pc ≡ true }
+        requires permitted { permitted ≡ permits self.now.board.profile (mpu_of fetcher.now.side self.now) pc kinds.Fetch fetcher.now.privileged fetcher.now.negative }
         ensures { result ≡ fetch self.now fetcher.now pc }
     {
-        let attributed = self.sau.fetch_attribution(Side::NonSecure, pc);
-        if self.is_own_rest(Side::NonSecure, pc, attributed) {
-            let answer = self.own_fetch(fetcher, pc);
-            return FetchAnswer {
-                touched: is_entry_fault(&answer),
-                answer,
-            };
-        }
+        let answer = self.own_fetch(fetcher, pc, permitted);
         FetchAnswer {
-            touched: true,
-            answer: self.gateway_fetch(fetcher, pc, attributed == RegionSide::Nsc),
+            touched: match fetcher.side {
+                Side::Secure => true,
+                Side::NonSecure => is_entry_fault(&answer),
+            },
+            answer,
         }
     }
 
-    /// The instruction at PC, or its fault, and whether the fetch met Secure memory.
+    /// The answer where the first halfword at PC isn't: SG is all that may stand there, for Non-secure code.
     #[tactic(auto, unfolding(tz_state::specs::Fetch::fetch, tz_state::specs::Fetch::own_fetch, tz_state::specs::Fetch::half_verdict))]
-    pub fn fetch_told(&self, pc: u32, fetcher: &Fetcher) -> FetchAnswer
+    fn answer_foreign(&self, fetcher: &Fetcher, pc: u32, attributed: RegionSide) -> FetchAnswer
+        requires foreign { is_own_fetch (map_in self.now) fetcher.now.side pc ≡ false }
+        requires attributed { attributed ≡ fetch_attribution (map_in self.now) fetcher.now.side pc }
         ensures { result ≡ fetch self.now fetcher.now pc }
     {
-        match fetcher.side {
-            Side::NonSecure => self.nonsecure_fetch(fetcher, pc),
-            Side::Secure => FetchAnswer {
-                touched: true,
-                answer: if self.is_own_fetch(Side::Secure, pc) {
-                    self.own_fetch(fetcher, pc)
-                } else {
-                    Err(Fault::Transition)
-                },
+        FetchAnswer {
+            touched: true,
+            answer: match fetcher.side {
+                Side::Secure => Err(Fault::Transition),
+                Side::NonSecure => self.gateway_fetch(fetcher, pc, attributed == RegionSide::Nsc),
             },
         }
+    }
+
+    /// The answer where nothing is kept of the block at PC. What the units say of it is kept then, unless it is the
+    /// other side's.
+    #[tactic(auto, unfolding(tz_state::specs::Fetch::is_own_fetch))]
+    fn fetch_anew(&mut self, fetcher: &Fetcher, pc: u32, who: Who) -> FetchAnswer
+        requires { who ≡ who_fetches fetcher.now }
+        ensures answer { result ≡ fetch self.old fetcher.now pc }
+        ensures kept { self.new ≡ self.old }
+    {
+        let attributed = self.sau.fetch_attribution(fetcher.side, pc);
+        if !self.is_own_rest(fetcher.side, pc, attributed) {
+            return self.answer_foreign(fetcher, pc, attributed);
+        }
+        let found = self.learn(pc, who, true);
+        self.answer_own(fetcher, pc, found.permitted.execute)
+    }
+
+    /// The instruction at PC, or its fault, and whether the fetch met Secure memory.
+    pub fn fetch_told(&mut self, pc: u32, fetcher: &Fetcher) -> FetchAnswer
+        ensures answer { result ≡ fetch self.old fetcher.now pc }
+        ensures kept { self.new ≡ self.old }
+    {
+        let who = who_fetches(fetcher);
+        if let Some(found) = self.find(pc, who) {
+            if found.admitted && self.is_own_last(fetcher.side, pc) {
+                return self.answer_own(fetcher, pc, found.permitted.execute);
+            }
+        }
+        self.fetch_anew(fetcher, pc, who)
     }
 
     /// The instruction at PC for code of a side, as tests ask for it. `secure_privileged` says that Secure code would be

@@ -35,12 +35,13 @@ pub struct BusFrames<'a> {
 }
 
 /// The word of a vector table at an address.
-fn vector_word(bus: &Bus, side: Side, addr: u32) -> Result<u32, Fault>
-    ensures { MatchResult result
-        (λ word. (vector_verdict bus.now side addr ≡ None) × (word ≡ word_at bus.now.memory addr))
-        (λ fault. vector_verdict bus.now side addr ≡ Some fault) }
+fn vector_word(bus: &mut Bus, side: Side, addr: u32, negative: bool) -> Result<u32, Fault>
+    ensures answer { MatchResult result
+        (λ word. (vector_verdict bus.old side addr ≡ None) × (word ≡ word_at bus.old.memory addr))
+        (λ fault. vector_verdict bus.old side addr ≡ Some fault) }
+    ensures kept { bus.new ≡ bus.old }
 {
-    if !bus.may_touch(side, Size::Word, addr) {
+    if !bus.touches(side, Size::Word, addr, negative) {
         return Err(Fault::Violation(addr));
     }
     match bus.read(addr, Size::Word) {
@@ -79,10 +80,11 @@ fn of_side(side: Side, s: u32, ns: u32) -> u32
 }
 
 /// A word of a frame, which no private space has.
-fn load_word(bus: &Bus, asker: &Asker, addr: u32) -> Result<u32, Fault>
-    ensures { MatchResult result
-        (λ word. (in_map_alone addr (verdict bus.now (request_by asker.now Read Word addr always_aligned as_running)) ≡ None) × (word ≡ word_at bus.now.memory addr))
-        (λ fault. in_map_alone addr (verdict bus.now (request_by asker.now Read Word addr always_aligned as_running)) ≡ Some fault) }
+fn load_word(bus: &mut Bus, asker: &Asker, addr: u32) -> Result<u32, Fault>
+    ensures answer { MatchResult result
+        (λ word. (in_map_alone addr (verdict bus.old (request_by asker.now Read Word addr always_aligned as_running)) ≡ None) × (word ≡ word_at bus.old.memory addr))
+        (λ fault. in_map_alone addr (verdict bus.old (request_by asker.now Read Word addr always_aligned as_running)) ≡ Some fault) }
+    ensures kept { bus.new ≡ bus.old }
 {
     match bus.load(asker, Size::Word, addr, ALWAYS_ALIGNED, AS_RUNNING) {
         Ok(Some(word)) => Ok(word),
@@ -140,7 +142,7 @@ impl Frames for BusFrames<'_> {
 
     fn vector(&mut self, number: u16, side: Side) -> Result<u32, Fault> {
         let vtor = of_side(side, self.vtor_s, self.vtor_ns);
-        vector_word(self.bus, side, vector_at(vtor, number))
+        vector_word(self.bus, side, vector_at(vtor, number), self.negative)
     }
 
     fn secure_load(&mut self, addr: u32) -> Result<u32, Fault> {

@@ -65,6 +65,8 @@ impl Bus {
         self.mpu_s.copy_registers(&units.mpu_s);
         self.mpu_ns.copy_registers(&units.mpu_ns);
         self.monitor = units.monitor;
-        // Look-ups that are kept of the SAU and of the MPUs are to be emptied here.
+        let attribution = self.sau.take_changed();
+        let protection = self.mpu_s.take_changed() | self.mpu_ns.take_changed();
+        self.kept.empty_where(attribution | protection);
     }
 }

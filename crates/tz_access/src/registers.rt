@@ -30,6 +30,7 @@ impl Bus {
         ensures { self.new ≡ record self.old { sau = with_sau_value self.old.sau register value } }
     {
         self.sau.set(register, value);
+        self.kept.empty_where(self.sau.take_changed());
     }
 
     /// The value of a register of the MPU of a side.
@@ -44,8 +45,14 @@ impl Bus {
         ensures { self.new ≡ with_mpu self.old side (with_mpu_value self.old.board.profile (mpu_of side self.old) register value) }
     {
         match side {
-            Side::Secure => self.mpu_s.set(register, value),
-            Side::NonSecure => self.mpu_ns.set(register, value),
+            Side::Secure => {
+                self.mpu_s.set(register, value);
+                self.kept.empty_where(self.mpu_s.take_changed());
+            }
+            Side::NonSecure => {
+                self.mpu_ns.set(register, value);
+                self.kept.empty_where(self.mpu_ns.take_changed());
+            }
         }
     }
 
@@ -67,10 +74,17 @@ impl Bus {
     {
         if is_of_sau(addr) {
             self.sau.write(addr, value);
+            self.kept.empty_where(self.sau.take_changed());
         } else {
             match side {
-                Side::Secure => self.mpu_s.write(addr, value),
-                Side::NonSecure => self.mpu_ns.write(addr, value),
+                Side::Secure => {
+                    self.mpu_s.write(addr, value);
+                    self.kept.empty_where(self.mpu_s.take_changed());
+                }
+                Side::NonSecure => {
+                    self.mpu_ns.write(addr, value);
+                    self.kept.empty_where(self.mpu_ns.take_changed());
+                }
             }
         }
     }

@@ -10,3 +10,4 @@ mod permission;
 mod register;
 
 pub use mpu::{Mpu, MpuFault};
+pub use permission::Permitted;

@@ -1,14 +1,17 @@
 //! One MPU.
 
-ghost use Rattle.std.specs.Prelude.{◌≡◌, ◌≤◌, ◌<◌, ◌&&◌, None, Some, MatchOption, MatchResult, length, replicate, slice_set};
+ghost use Rattle.std.specs.Prelude.{◌≡◌, ◌≤◌, ◌<◌, ◌&&◌, None, Some, MatchOption, MatchResult, false, length, replicate, slice_set};
 ghost use Rattle.tz_state.specs.Difference.{mpu_differs};
-ghost use Rattle.tz_state.specs.Protection.{permission, permission_by, mpu_region, is_mpu_on, has_privileged_default, default_permits};
+ghost use Rattle.tz_state.specs.declared.request.Kind.TheVariants.{Read, Write, Fetch};
+ghost use Rattle.tz_state.specs.Protection.{permits, permission, permission_by, mpu_region, is_mpu_on, has_privileged_default, default_permits};
 ghost use Rattle.tz_state.specs.Regions.{no_bounds, holding};
-ghost use Rattle.tz_state.specs.UnitRegisters.{bounds_at, selected, mpu_register, mpu_value, mpu_read, with_mpu_value, mpu_written, rlar_bits, reset_mpu};
-ghost use Rattle.tz_mpu.specs.Units.{with_registers};
+ghost use Rattle.tz_state.specs.UnitRegisters.{bounds_at, selected, mpu_register, mpu_value, mpu_read, with_mpu_value, rlar_bits, reset_mpu};
+ghost use Rattle.tz_mpu.specs.Units.{with_registers, with_written};
 
 use crate::holders::{Holders, find_holders};
-use crate::permission::{default_permits, region_permits};
+use crate::permission::{
+    Permitted, default_permits, nothing, permitted_by_default, permitted_by_region, region_permits,
+};
 use crate::register::register_at;
 use arrayvec::ArrayVec;
 use std::marker::Model;
@@ -22,7 +25,8 @@ use tz_state::{Bounds, Kind, MpuRegister};
 #[error("the MPU refuses the access")]
 pub struct MpuFault;
 
-/// The MPU of a state: CTRL, RNR, both MAIRs and RBAR and RLAR of each region.
+/// The MPU of a state: CTRL, RNR, both MAIRs and RBAR and RLAR of each region; and whether one was written since
+/// that was last asked.
 #[derive(Drop)]
 pub struct Mpu {
     profile: Profile,
@@ -31,6 +35,7 @@ pub struct Mpu {
     mair0: u32,
     mair1: u32,
     regions: ArrayVec<Bounds, 16>,
+    changed: bool,
 }
 
 impl Model for Mpu {
@@ -41,6 +46,7 @@ impl Model for Mpu {
     ghost view = { λ m. record {
       profile = m.profile;
       mpu = record { ctrl = m.ctrl; rnr = m.rnr; mair0 = m.mair0; mair1 = m.mair1; regions = m.regions.items };
+      changed = m.changed;
     } };
 }
 
@@ -83,7 +89,7 @@ impl Mpu {
     #[tactic(auto, unfolding(tz_state::specs::UnitRegisters::reset_mpu))]
     pub fn new(regions: u8, profile: Profile) -> Mpu
         requires { regions ≤ 16 }
-        ensures { result ≡ record { profile = profile; mpu = reset_mpu regions } }
+        ensures { result ≡ record { profile = profile; mpu = reset_mpu regions; changed = false } }
     {
         Mpu {
             profile,
@@ -92,6 +98,7 @@ impl Mpu {
             mair0: 0,
             mair1: 0,
             regions: unset(regions),
+            changed: false,
         }
     }
 
@@ -157,6 +164,30 @@ impl Mpu {
             return Ok(None);
         }
         Err(MpuFault)
+    }
+
+    /// All that the MPU permits at a byte, as `check` tells it of each kind of access: the regions are looked
+    /// through once.
+    #[tactic(auto, unfolding(tz_state::specs::Protection::permission))]
+    pub fn permitted(&self, addr: u32, privileged: bool, negative: bool) -> Permitted
+        ensures read { result.read ≡ permits self.now.profile self.now.mpu addr Read privileged negative }
+        ensures write { result.write ≡ permits self.now.profile self.now.mpu addr Write privileged negative }
+        ensures execute { result.execute ≡ permits self.now.profile self.now.mpu addr Fetch privileged negative }
+    {
+        if !self.is_on(negative) {
+            return permitted_by_default(addr);
+        }
+        match find_holders(&self.regions, addr) {
+            Holders::Nothing => {
+                if privileged && self.ctrl / MPU_CTRL_PRIVDEFENA % 2 == 1 {
+                    permitted_by_default(addr)
+                } else {
+                    nothing()
+                }
+            }
+            Holders::One(_, bounds) => permitted_by_region(self.profile, &bounds, privileged),
+            Holders::Several => nothing(),
+        }
     }
 
     /// The one enabled region that holds an address, where the MPU is on; what TT tells of it.
@@ -231,12 +262,23 @@ impl Mpu {
 
     /// Replaces the registers of the region that RNR and an alias select, if there is one.
     fn replace_selected(&mut self, alias: u8, bounds: Bounds)
-        ensures { self.new ≡ with_registers self.old (record self.old.mpu { regions = slice_set self.old.mpu.regions (selected self.old.mpu alias) bounds }) }
+        ensures { self.new ≡ record self.old { mpu = record self.old.mpu { regions = slice_set self.old.mpu.regions (selected self.old.mpu alias) bounds } } }
     {
         let index = self.selected(alias);
         if index < self.regions.len() {
             self.regions[index] = bounds;
         }
+    }
+
+    /// Whether a register was written since this was last asked, or since the MPU was made: by its name, at its
+    /// address, or as those of another MPU.
+    pub fn take_changed(&mut self) -> bool
+        ensures told { result ≡ self.old.changed }
+        ensures taken { self.new ≡ record self.old { changed = false } }
+    {
+        let changed = self.changed;
+        self.changed = false;
+        changed
     }
 
     /// Writes a register by its name: each keeps the bits that it has, TYPE none.
@@ -265,11 +307,12 @@ impl Mpu {
             MpuRegister::Mair0 => self.mair0 = value,
             MpuRegister::Mair1 => self.mair1 = value,
         }
+        self.changed = true;
     }
 
     /// Writes the register at an address, if there is one: each keeps the bits that it has, TYPE none.
     pub fn write(&mut self, addr: u32, value: u32)
-        ensures { self.new ≡ with_registers self.old (mpu_written self.old.profile self.old.mpu (mpu_register addr) value) }
+        ensures { self.new ≡ with_written self.old (mpu_register addr) value }
     {
         if let Some(register) = register_at(addr) {
             self.set(register, value);
@@ -285,6 +328,7 @@ impl Mpu {
         self.mair0 = other.mair0;
         self.mair1 = other.mair1;
         copy_bounds(&mut self.regions, &other.regions);
+        self.changed = true;
     }
 
     /// Whether the registers of two MPUs differ.

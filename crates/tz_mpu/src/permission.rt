@@ -1,12 +1,20 @@
 //! What a region and the default map permit.
 
-ghost use Rattle.std.specs.Prelude.{◌≡◌};
+ghost use Rattle.std.specs.Prelude.{◌≡◌, true, false};
 ghost use Rattle.tz_state.specs.Protection.{is_executable, default_permits, may_read, may_write, has_pxn, may_run, region_permits};
 
 use tz_model::Profile;
 use tz_model::address_map::{DEVICE_FIRST, PERIPHERAL_FIRST, PERIPHERAL_LAST};
 use tz_state::unit_bits::{MPU_RBAR_AP_0, MPU_RBAR_AP_1, MPU_RLAR_PXN};
 use tz_state::{Bounds, Kind};
+
+/// What is permitted at an address.
+#[derive(Clone, Copy)]
+pub struct Permitted {
+    pub read: bool,
+    pub write: bool,
+    pub execute: bool,
+}
 
 /// Whether the default map lets code run at an address.
 fn is_executable(addr: u32) -> bool
@@ -67,5 +75,38 @@ pub fn region_permits(profile: Profile, bounds: &Bounds, kind: Kind, privileged:
         Kind::Read => may_read(bounds, privileged),
         Kind::Write => may_write(bounds, privileged),
         Kind::Fetch => may_run(profile, bounds, privileged),
+    }
+}
+
+/// Where nothing is permitted.
+pub fn nothing() -> Permitted
+    ensures { result ≡ record { read = false; write = false; execute = false } }
+{
+    Permitted {
+        read: false,
+        write: false,
+        execute: false,
+    }
+}
+
+/// All that the default map permits at an address.
+pub fn permitted_by_default(addr: u32) -> Permitted
+    ensures { result ≡ record { read = true; write = true; execute = is_executable addr } }
+{
+    Permitted {
+        read: true,
+        write: true,
+        execute: is_executable(addr),
+    }
+}
+
+/// All that a region permits.
+pub fn permitted_by_region(profile: Profile, bounds: &Bounds, privileged: bool) -> Permitted
+    ensures { result ≡ record { read = may_read bounds.now privileged; write = may_write bounds.now privileged; execute = may_run profile bounds.now privileged } }
+{
+    Permitted {
+        read: may_read(bounds, privileged),
+        write: may_write(bounds, privileged),
+        execute: may_run(profile, bounds, privileged),
     }
 }

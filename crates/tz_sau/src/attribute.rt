@@ -2,8 +2,9 @@
 
 ghost use Rattle.std.specs.Prelude.{◌≡◌, ◌≤◌, length};
 ghost use Rattle.tz_model.specs.Board.{within, is_callable};
-ghost use Rattle.tz_state.specs.Attribution.{MapState, more_secure, own_side, side_by_regions, is_exempt, side_told, has_fixed_attribution, attributed, attribution, data_attribution, fetch_attribution, mapped_side, sau_side, sau_region};
+ghost use Rattle.tz_state.specs.Attribution.{more_secure, own_side, side_by_regions, is_exempt, side_told, has_fixed_attribution, attributed, attribution, data_attribution, fetch_attribution, mapped_side, sau_side, sau_region};
 ghost use Rattle.tz_state.specs.Regions.{the_only};
+ghost use Rattle.tz_sau.specs.Unit.{map_by};
 
 use crate::idau::{IdauWord, idau_word};
 use crate::scan::{Holders, find_holders};
@@ -134,7 +135,7 @@ impl Sau {
     /// The more secure of the SAU's word and the board's. The SAU isn't asked where the board says Secure.
     #[tactic(auto, using(crate::proofs::Secured::secure_stays), unfolding(tz_state::specs::Attribution::mapped_side))]
     fn mapped_side(&self, addr: u32) -> RegionSide
-        ensures { result ≡ mapped_side self.now addr }
+        ensures { result ≡ mapped_side (map_by self.now) addr }
     {
         match self.idau_word(addr).side {
             RegionSide::Secure => RegionSide::Secure,
@@ -145,7 +146,7 @@ impl Sau {
     /// The attribution of an address as data, for code of a side.
     #[tactic(auto, unfolding(tz_state::specs::Attribution::data_attribution))]
     pub fn data_attribution(&self, side: Side, addr: u32) -> RegionSide
-        ensures { result ≡ data_attribution self.now side addr }
+        ensures { result ≡ data_attribution (map_by self.now) side addr }
     {
         if is_exempt(addr) {
             own_side(side)
@@ -157,7 +158,7 @@ impl Sau {
     /// The attribution of an address as code, for code of a side.
     #[tactic(auto, unfolding(tz_state::specs::Attribution::fetch_attribution))]
     pub fn fetch_attribution(&self, side: Side, addr: u32) -> RegionSide
-        ensures { result ≡ fetch_attribution self.now side addr }
+        ensures { result ≡ fetch_attribution (map_by self.now) side addr }
     {
         if addr >= SECURE_CODE_FIRST {
             RegionSide::Secure
@@ -171,7 +172,7 @@ impl Sau {
     /// The whole word on an address, as code or as data, for code of a side.
     #[tactic(auto, unfolding(tz_state::specs::Attribution::attribution, tz_state::specs::Attribution::mapped_side, tz_state::specs::Attribution::data_attribution, tz_state::specs::Attribution::fetch_attribution))]
     pub fn attribute(&self, addr: u32, fetch: bool, side: Side) -> Attribute
-        ensures { result ≡ attribution self.now fetch side addr }
+        ensures { result ≡ attribution (map_by self.now) fetch side addr }
     {
         let fixed = has_fixed_attribution(fetch, addr);
         let sau = self.sau_word(addr);

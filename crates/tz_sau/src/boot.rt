@@ -1,6 +1,6 @@
 //! The SAU as the board starts it.
 
-ghost use Rattle.std.specs.Prelude.{◌≡◌, ◌≤◌, ◌-◌, ◌++◌, length, map, replicate, take};
+ghost use Rattle.std.specs.Prelude.{◌≡◌, ◌≤◌, ◌-◌, ◌++◌, false, length, map, replicate, take};
 ghost use Rattle.tz_state.specs.Regions.{no_bounds};
 ghost use Rattle.tz_state.specs.UnitRegisters.{bounds_of, reset_sau};
 
@@ -54,12 +54,12 @@ fn kept(regions: &[Region]) -> [Region; 32]
 }
 
 impl Sau {
-    ghost use Rattle.tz_state.specs.Attribution.{MapState};
+    ghost use Rattle.tz_sau.specs.Unit.{SauValue};
 
     /// The SAU as a board starts it: on exactly where the board starts it with a region at least.
     #[tactic(auto, unfolding(tz_state::specs::UnitRegisters::reset_sau))]
     pub fn new(board: &Board) -> Sau
-        ensures { result ≡ record { regions = board.now.regions; sau = reset_sau board.now.sau_regions board.now.sau } }
+        ensures { result ≡ record { regions = board.now.regions; sau = reset_sau board.now.sau_regions board.now.sau; changed = false } }
     {
         Sau {
             regions: kept(&board.regions),
@@ -67,6 +67,7 @@ impl Sau {
             bounds: first_bounds(board.sau_regions, &board.sau),
             ctrl: if board.sau.is_empty() { 0 } else { 1 },
             rnr: 0,
+            changed: false,
         }
     }
 }

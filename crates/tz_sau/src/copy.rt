@@ -1,6 +1,7 @@
 //! The SAU's registers as they were, or as another's are. No memory is taken.
 
 ghost use Rattle.std.specs.Prelude.{◌≡◌};
+ghost use Rattle.tz_sau.specs.Unit.{with_registers};
 
 use crate::unit::Sau;
 use arrayvec::ArrayVec;
@@ -21,10 +22,11 @@ fn copy_bounds(bounds: &mut ArrayVec<Bounds, 8>, other: &ArrayVec<Bounds, 8>)
 impl Sau {
     /// Makes the registers as those of another SAU are. The board's regions stay.
     pub fn copy_registers(&mut self, other: &Sau)
-        ensures { self.new ≡ record self.old { sau = other.now.sau } }
+        ensures { self.new ≡ with_registers self.old other.now.sau }
     {
         copy_bounds(&mut self.bounds, &other.bounds);
         self.ctrl = other.ctrl;
         self.rnr = other.rnr;
+        self.changed = true;
     }
 }

@@ -1,7 +1,8 @@
 //! The SAU's registers by their addresses (DDI0553, chapter D1.2).
 
 ghost use Rattle.std.specs.Prelude.{◌≡◌, MatchOption, ◌≤◌, ◌<◌, length, slice_set};
-ghost use Rattle.tz_state.specs.UnitRegisters.{bounds_at, sau_register, sau_value, with_sau_value, sau_read, sau_written};
+ghost use Rattle.tz_state.specs.UnitRegisters.{bounds_at, sau_register, sau_value, with_sau_value, sau_read};
+ghost use Rattle.tz_sau.specs.Unit.{with_registers, with_written};
 
 use crate::unit::Sau;
 use tz_state::{Bounds, SauRegister};
@@ -21,8 +22,6 @@ fn register_at(addr: u32) -> Option<SauRegister>
 }
 
 impl Sau {
-    ghost use Rattle.tz_state.specs.Attribution.{MapState};
-
     /// RBAR and RLAR of a region by its number; none where there is no such region.
     pub fn region(&self, index: u8) -> Option<(u32, u32)>
         ensures { MatchOption result (length self.now.sau.regions ≤ index)
@@ -78,7 +77,7 @@ impl Sau {
     /// Writes a register by its name: each keeps the bits that it has, TYPE none. RBAR and RLAR take no write
     /// where RNR names no region.
     pub fn set(&mut self, register: SauRegister, value: u32)
-        ensures { self.new ≡ record self.old { sau = with_sau_value self.old.sau register value } }
+        ensures { self.new ≡ with_registers self.old (with_sau_value self.old.sau register value) }
     {
         match register {
             SauRegister::Ctrl => self.ctrl = value % 4,
@@ -99,11 +98,12 @@ impl Sau {
                 });
             }
         }
+        self.changed = true;
     }
 
     /// Writes the register at an address; one that isn't there takes no write.
     pub fn write(&mut self, addr: u32, value: u32)
-        ensures { self.new ≡ record self.old { sau = sau_written self.old.sau (sau_register addr) value } }
+        ensures { self.new ≡ with_written self.old (sau_register addr) value }
     {
         if let Some(register) = register_at(addr) {
             self.set(register, value);

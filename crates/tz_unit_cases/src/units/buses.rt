@@ -52,7 +52,7 @@ enum Step {
     Frame(FrameStep),
 }
 
-static STEPS: [(&str, Step); 26] = [
+static STEPS: [(&str, Step); 27] = [
     ("write", Step::Plain(PlainStep::Write)),
     ("read", Step::Plain(PlainStep::Read)),
     ("place", Step::Plain(PlainStep::Place)),
@@ -68,6 +68,7 @@ static STEPS: [(&str, Step); 26] = [
     ("sau_region", Step::Unit(UnitStep::SauRegion)),
     ("mpu_region", Step::Unit(UnitStep::MpuRegion)),
     ("attribute", Step::Unit(UnitStep::Attribute)),
+    ("kept", Step::Unit(UnitStep::Kept)),
     ("target", Step::Unit(UnitStep::Target)),
     ("check", Step::Access(AccessStep::Check)),
     ("store", Step::Access(AccessStep::Store)),

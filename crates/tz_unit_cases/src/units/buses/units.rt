@@ -3,7 +3,7 @@
 use crate::units::asked::Asked;
 use crate::units::faults::{tell_index, tell_region};
 use tz_access::Bus;
-use tz_state::Kind;
+use tz_state::{Attribute, Kind};
 use tz_testing::{Case, side_word};
 
 /// RNR of the SAU; RBAR and RLAR stand behind it.
@@ -20,16 +20,42 @@ fn set_region(bus: &mut Bus, rnr: u32, asked: &Asked, case: &mut Case<'_>) {
     case.tell("set")
 }
 
-/// Tells the side of an address for a read or a fetch of a side, whether it is callable, and the numbers of the regions
-/// of the SAU and of the board.
-fn tell_attribute(bus: &Bus, asked: &Asked, case: &mut Case<'_>) {
-    let fetch = asked.kind == Kind::Fetch;
-    let word = bus.sau().attribute(asked.numbers[0], fetch, asked.side);
+/// Tells a side, whether its memory is callable, and the numbers of the regions of the SAU and of the board.
+fn tell_word(case: &mut Case<'_>, word: &Attribute) {
     case.tell(side_word(word.side));
     case.tell(if word.callable { " callable " } else { " " });
     tell_index(case, word.sregion, "none");
     case.tell(" ");
     tell_index(case, word.iregion, "none")
+}
+
+/// The attribution of an address for a read or a fetch of a side.
+fn tell_attribute(bus: &Bus, asked: &Asked, case: &mut Case<'_>) {
+    let fetch = asked.kind == Kind::Fetch;
+    tell_word(
+        case,
+        &bus.sau().attribute(asked.numbers[0], fetch, asked.side),
+    )
+}
+
+/// The look-up that is kept at a place: its block, who asked, its attribution, and what is permitted.
+fn tell_kept(bus: &Bus, index: u32, case: &mut Case<'_>) {
+    let Some(kept) = bus.kept(index as usize) else {
+        return case.tell("none");
+    };
+    case.tell_hex(kept.block);
+    case.tell(if kept.fetch { " code " } else { " data " });
+    case.tell(side_word(kept.side));
+    case.tell(if kept.privileged {
+        " privileged"
+    } else {
+        " user"
+    });
+    case.tell(if kept.negative { " negative " } else { " " });
+    tell_word(case, &kept.attribute);
+    case.tell(if kept.read { " r" } else { " -" });
+    case.tell(if kept.write { "w" } else { "-" });
+    case.tell(if kept.execute { "x" } else { "-" })
 }
 
 /// A step of the SAU and of the MPUs.
@@ -41,12 +67,13 @@ pub enum UnitStep {
     SauRegion,
     MpuRegion,
     Attribute,
+    Kept,
     Target,
 }
 
 /// Takes a step: `set REGISTER NUMBER` and `get REGISTER` of a side; `sau REGION RBAR RLAR`, and `mpu` of a side;
-/// `sau_region REGION`, and `mpu_region` of a side, RBAR and RLAR of it; `attribute ADDRESS` of a side; and `target
-/// ADDRESS` of a side, the word of TT.
+/// `sau_region REGION`, and `mpu_region` of a side, RBAR and RLAR of it; `attribute ADDRESS` of a side; `kept PLACE`,
+/// the look-up that is kept there; and `target ADDRESS` of a side, the word of TT.
 pub fn step(bus: &mut Bus, step: &UnitStep, asked: &Asked, case: &mut Case<'_>) {
     let [first, second, ..] = asked.numbers;
     let side = asked.side;
@@ -67,6 +94,7 @@ pub fn step(bus: &mut Bus, step: &UnitStep, asked: &Asked, case: &mut Case<'_>) 
             tell_region(case, bus.mpu(side).region(region))
         }
         (UnitStep::Attribute, 1) => tell_attribute(bus, asked, case),
+        (UnitStep::Kept, 1) => tell_kept(bus, first, case),
         (UnitStep::Target, 1) => case.tell_hex(bus.test_target(
             first,
             side,

@@ -8,9 +8,9 @@ pub returns-then-is_crooked : goal.returns-then-is_crooked
 unfolding verdict
 returns-then-is_crooked c = first_of (assumption, search (tests, rules), grind (arith, common_steps), grind (arith, elements))
 
-pub returns-then-not-may_touch : goal.returns-then-not-may_touch
+pub returns-then-not-touches : goal.returns-then-not-touches
 unfolding verdict
-returns-then-not-may_touch c = first_of (assumption, search (tests, rules), grind (arith, common_steps), grind (arith, elements))
+returns-then-not-touches c = first_of (assumption, search (tests, rules), grind (arith, common_steps), grind (arith, elements))
 
 pub returns-then-not-is_let : goal.returns-then-not-is_let
 unfolding verdict

@@ -5,9 +5,9 @@ use Rattle.tz_state.specs.Fetch.{half_verdict}
 use Rattle.tz_access.proofs.bus.Bus.own_fetch.Goals as goal
 
 -- What the tactics try, by name: a body that is refused is then told without a search for what to offer.
-pub returns-then-not-is_runnable : goal.returns-then-not-is_runnable
+pub returns-then-not-is_runnable_rest : goal.returns-then-not-is_runnable_rest
 unfolding own_fetch half_verdict
-returns-then-not-is_runnable c = first_of (assumption, search (tests, rules), grind (arith, common_steps), grind (arith, elements))
+returns-then-not-is_runnable_rest c = first_of (assumption, search (tests, rules), grind (arith, common_steps), grind (arith, elements))
 
 pub returns-in-Err : goal.returns-in-Err
 unfolding own_fetch half_verdict

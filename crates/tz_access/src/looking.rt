@@ -1,0 +1,185 @@
+//! Look-ups by blocks: what attribution and an MPU say of a byte is asked of them once for its block, and then told
+//! from what is kept, as long as no register of theirs is written.
+
+ghost use Rattle.std.specs.Prelude.{◌≡◌, ◌/◌, ◌%◌, ◌≤◌, IfSome, None, true, false};
+ghost use Rattle.tz_table.specs.declared.units.Side.TheVariants.{Secure};
+ghost use Rattle.tz_state.specs.Access.{may_touch, is_let};
+ghost use Rattle.tz_state.specs.State.{map_in, mpu_of};
+ghost use Rattle.tz_access.specs.Kept.{IsKept};
+ghost use Rattle.tz_access.specs.LookUps.{Tells, admits, admits_data, guards_of};
+
+use crate::bus::Bus;
+use crate::look_up::{LookUp, Who, permits};
+use crate::span::{is_one_block, last_of};
+use tz_model::address_map::PRIVATE_FIRST;
+use tz_model::{Side, Size};
+use tz_state::{Attribute, Request};
+
+/// A look-up that is kept: what attribution and the MPU of a side say of a block of 32 bytes, to who asks for it.
+#[derive(Clone, Copy)]
+pub struct Kept {
+    /// The address of each of its bytes, divided by 32.
+    pub block: u32,
+    /// As code, or as data.
+    pub fetch: bool,
+    pub side: Side,
+    pub privileged: bool,
+    /// The execution priority is below 0.
+    pub negative: bool,
+    pub attribute: Attribute,
+    pub read: bool,
+    pub write: bool,
+    pub execute: bool,
+}
+
+/// What attribution and protection say of an access.
+#[derive(Clone, Copy)]
+pub(crate) struct Passes {
+    pub(crate) touches: bool,
+    pub(crate) is_let: bool,
+}
+
+impl Bus {
+    /// The look-up that is kept at a place, of which there are 16. That of a block is the one of its number, modulo
+    /// 16. Nothing is kept of it where nobody asked, where another look-up came there, or where a register of the
+    /// SAU or of an MPU has been written since.
+    pub fn kept(&self, index: usize) -> Option<Kept>
+        ensures past { 16 ≤ index → result ≡ None }
+        ensures kept { IfSome result (λ k. IsKept self.now index k) }
+    {
+        let LookUp {
+            block,
+            who,
+            permitted,
+            ..
+        } = self.kept.at(index)?;
+        Some(Kept {
+            block,
+            fetch: who.fetch,
+            side: who.side,
+            privileged: who.privileged,
+            negative: who.negative,
+            attribute: self.sau.attribute(block * 32, who.fetch, who.side),
+            read: permitted.read,
+            write: permitted.write,
+            execute: permitted.execute,
+        })
+    }
+
+    /// What is kept of the block of a byte, for who asks.
+    pub(crate) fn find(&self, addr: u32, who: Who) -> Option<LookUp>
+        ensures { IfSome result (λ k. Tells (guards_of self.now) who addr k) }
+    {
+        self.kept.find(addr / 32, who)
+    }
+
+    /// Keeps what the units say of the block of a byte, of which attribution has been asked.
+    pub(crate) fn learn(&mut self, addr: u32, who: Who, admitted: bool) -> LookUp
+        requires { admitted ≡ admits (guards_of self.old) who addr }
+        ensures told { Tells (guards_of self.old) who addr result }
+        ensures kept { self.new ≡ self.old }
+    {
+        self.know_regions();
+        let permitted = self
+            .mpu(who.side)
+            .permitted(addr, who.privileged, who.negative);
+        let look_up = LookUp {
+            block: addr / 32,
+            who,
+            admitted,
+            permitted,
+        };
+        self.kept.keep(look_up);
+        look_up
+    }
+
+    /// Whether attribution lets code of a side have a byte as data.
+    fn admits_data(&self, side: Side, addr: u32) -> bool
+        ensures { result ≡ admits_data side (map_in self.now) addr }
+    {
+        match side {
+            Side::Secure => true,
+            Side::NonSecure => self.is_open(addr),
+        }
+    }
+
+    /// What the units say of a byte as data.
+    pub(crate) fn look_up(&mut self, addr: u32, who: Who) -> LookUp
+        requires { who.fetch ≡ false }
+        ensures told { Tells (guards_of self.old) who addr result }
+        ensures kept { self.new ≡ self.old }
+    {
+        match self.find(addr, who) {
+            Some(found) => found,
+            None => {
+                let admitted = self.admits_data(who.side, addr);
+                self.learn(addr, who, admitted)
+            }
+        }
+    }
+
+    /// What attribution and protection say of an access.
+    #[tactic(auto, using(crate::proofs::LookUps::touch_in_block, crate::proofs::LookUps::let_in_block))]
+    pub(crate) fn passes(&mut self, request: &Request) -> Passes
+        ensures touches { result.touches ≡ may_touch (map_in self.old) request.now.side request.now.size request.now.addr }
+        ensures is_let { result.is_let ≡ is_let self.old request.now }
+        ensures kept { self.new ≡ self.old }
+    {
+        let Request {
+            addr,
+            size,
+            kind,
+            side,
+            privileged,
+            negative,
+            ..
+        } = *request;
+        if addr < PRIVATE_FIRST && is_one_block(addr, last_of(size, addr)) {
+            self.know_regions();
+            let found = self.look_up(
+                addr,
+                Who {
+                    fetch: false,
+                    side,
+                    privileged,
+                    negative,
+                },
+            );
+            Passes {
+                touches: found.admitted,
+                is_let: permits(found.permitted, kind),
+            }
+        } else {
+            Passes {
+                touches: self.may_touch(side, size, addr),
+                is_let: self.is_let(request),
+            }
+        }
+    }
+
+    /// Whether attribution lets code of a side access each byte, as `may_touch` tells it.
+    #[tactic(auto, using(crate::proofs::LookUps::touch_in_block))]
+    pub(crate) fn touches(&mut self, side: Side, size: Size, addr: u32, negative: bool) -> bool
+        ensures touches { result ≡ may_touch (map_in self.old) side size addr }
+        ensures kept { self.new ≡ self.old }
+    {
+        if side == Side::NonSecure
+            && addr < PRIVATE_FIRST
+            && is_one_block(addr, last_of(size, addr))
+        {
+            self.know_regions();
+            let found = self.look_up(
+                addr,
+                Who {
+                    fetch: false,
+                    side,
+                    privileged: true,
+                    negative,
+                },
+            );
+            found.admitted
+        } else {
+            self.may_touch(side, size, addr)
+        }
+    }
+}
