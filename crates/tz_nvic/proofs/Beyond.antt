@@ -1,16 +1,13 @@
--- No slot stands behind the last interrupt, so a look need not go further.
-use Rattle.std.proofs.Common.{◌≡◌, ◌⊎◌, inl, inr, ℕ, zero, suc, ◌+◌, ◌≤◌, Bool, false, refl, ap, ◌∙◌, arith}
-use Rattle.std.specs.Prelude.{nat_lt}
-use Rattle.std.proofs.lemmas.Bool.Decides.{nat_tests}
-use Rattle.tz_state.specs.Slots.{ExceptionsValue, is_place}
+-- An idle slot is neither active nor pending, so a look need not go further than those that aren't.
+use Rattle.std.proofs.Common.{◌≡◌, ◌⊎◌, inl, inr, ℕ, zero, suc, ◌+◌, ◌-◌, ◌≤◌, Bool, true, false, min, refl, ap, ◌∙◌, arith}
+use Rattle.std.specs.Prelude.{◌&&◌, ◌||◌}
+use Rattle.tz_state.specs.Slots.{ExceptionsValue, at, is_place}
+use Rattle.tz_state.specs.Pieces.{any_below}
 use Rattle.tz_state.specs.Execution.{is_active, active_below, raw_priority}
+use Rattle.tz_state.specs.ControlRegisters.{is_interrupt_pending}
 use Rattle.tz_nvic.specs.ActiveSlots.{active_slots_below, active_slots}
-
-beyond : (e : ExceptionsValue) (j : ℕ) → e.interrupts + 32 ≤ j → is_place e j ≡ false
-beyond e j h =
-    let many : nat_lt j 32 ≡ false = grind (arith, nat_tests) in
-    let none : nat_lt j (e.interrupts + 32) ≡ false = grind (arith, nat_tests) in
-    rw (many, none) refl
+use Rattle.tz_nvic.specs.Viewed.{AreIdleFrom}
+use Rattle.tz_nvic.proofs.Idle.{idle_at}
 
 last_or_more : (m n : ℕ) → m ≤ suc n → (m ≡ suc n) ⊎ (m ≤ n)
 last_or_more m n h = grind arith
@@ -23,8 +20,15 @@ stays test f same m none (suc n) h = elim (last_or_more m n h) [
   | inr l ↦ same n (none n l) ∙ stays test f same m none n l
 ]
 
-not_active : (e : ExceptionsValue) (j : ℕ) → e.interrupts + 32 ≤ j → is_active e j ≡ false
-not_active e j h = rw (beyond e j h) refl
+and_false : (t : Bool) → (t && false) ≡ false
+and_false true = refl
+and_false false = refl
+
+not_active : (e : ExceptionsValue) (n : ℕ) → AreIdleFrom n e.slots → (j : ℕ) → n ≤ j → is_active e j ≡ false
+not_active e n h j later = rw (idle_at n j e.slots h later) (and_false (is_place e j))
+
+not_pending : (e : ExceptionsValue) (n : ℕ) → AreIdleFrom n e.slots → (j : ℕ) → n - 32 ≤ j → (at e (32 + j)).pending ≡ false
+not_pending e n h j later = rw (idle_at n (32 + j) e.slots h (omega arith)) refl
 
 same_priority : (e : ExceptionsValue) (n : ℕ) → is_active e n ≡ false → active_below e (suc n) ≡ active_below e n
 unfolding active_below
@@ -34,8 +38,25 @@ same_slots : (e : ExceptionsValue) (n : ℕ) → is_active e n ≡ false → act
 unfolding active_slots_below
 same_slots e n h = rw h refl
 
-pub raw_below : (e : ExceptionsValue) → e.interrupts ≤ 240 → raw_priority e ≡ active_below e (e.interrupts + 32)
-raw_below e h = stays (is_active e) (active_below e) (same_priority e) (e.interrupts + 32) (not_active e) 272 (omega arith)
+or_false : (t : Bool) → (t || false) ≡ t
+or_false true = refl
+or_false false = refl
 
-pub all_active_slots : (e : ExceptionsValue) → e.interrupts ≤ 240 → active_slots e ≡ active_slots_below e (e.interrupts + 32)
-all_active_slots e h = stays (is_active e) (active_slots_below e) (same_slots e) (e.interrupts + 32) (not_active e) 272 (omega arith)
+same_any : (p : ℕ → Bool) (n : ℕ) → p n ≡ false → any_below p (suc n) ≡ any_below p n
+unfolding any_below
+same_any p n h = rw h (or_false (any_below p n))
+
+pub raw_below : (e : ExceptionsValue) (n : ℕ) → AreIdleFrom n e.slots → raw_priority e ≡ active_below e n
+raw_below e n h = stays (is_active e) (active_below e) (same_priority e) n (not_active e n h) 272 h.0
+
+pub all_active_slots : (e : ExceptionsValue) (n : ℕ) → AreIdleFrom n e.slots → active_slots e ≡ active_slots_below e n
+all_active_slots e n h = stays (is_active e) (active_slots_below e) (same_slots e) n (not_active e n h) 272 h.0
+
+least : (n m : ℕ) → (m ≤ n) ⊎ (n ≤ m)
+least n m = grind arith
+
+pub any_pending_below : (e : ExceptionsValue) (n : ℕ) → AreIdleFrom n e.slots → is_interrupt_pending e ≡ any_below (λ i. (at e (32 + i)).pending) (min (n - 32) e.interrupts)
+any_pending_below e n h = elim (least (n - 32) e.interrupts) [
+  | inl all ↦ ap (any_below (λ i. (at e (32 + i)).pending)) (omega arith)
+  | inr some ↦ stays (λ i. (at e (32 + i)).pending) (any_below (λ i. (at e (32 + i)).pending)) (same_any (λ i. (at e (32 + i)).pending)) (n - 32) (not_pending e n h) e.interrupts some ∙ ap (any_below (λ i. (at e (32 + i)).pending)) (let q : n - 32 ≡ min (n - 32) e.interrupts = omega arith in q)
+]

@@ -1,8 +1,8 @@
 -- Slots that are idle from a place on: what a write leaves, and what a copy need not have.
-use Rattle.std.proofs.Common.{◌≡◌, ◌⊎◌, inl, inr, ℕ, ◌+◌, ◌-◌, ◌<◌, ◌≤◌, List, ◌++◌, length, take, drop, set, replicate, max, ap, sym, ◌∙◌, subst, arith}
+use Rattle.std.proofs.Common.{◌≡◌, ◌⊎◌, inl, inr, ℕ, ◌+◌, ◌-◌, ◌<◌, ◌≤◌, List, ◌++◌, length, get_or, take, drop, set, replicate, max, get_or-drop, ap, sym, ◌∙◌, subst, arith}
 use Rattle.std.proofs.Math.Nat.{le-max_left, le-max_right}
 use Rattle.std.proofs.Math.Seq.{take-append_seam}
-use Rattle.std.proofs.lemmas.List.{drop-drop, drop-set-lt, drop-replicate, take-append-drop}
+use Rattle.std.proofs.lemmas.List.{drop-drop, drop-set-lt, drop-replicate, take-append-drop, get_or_past, get_or-replicate, length-replicate}
 use Rattle.tz_state.specs.declared.slot.SlotState.{SlotState}
 use Rattle.tz_state.specs.Slots.{idle, places}
 use Rattle.tz_nvic.specs.Viewed.{AreIdleFrom}
@@ -15,6 +15,18 @@ idle_more n k slots h =
 idle_later : (n i : ℕ) (slots : List SlotState) → AreIdleFrom n slots → n ≤ i → drop i slots ≡ replicate (places - i) idle
 idle_later n i slots h later =
     subst (λ c. drop c slots ≡ replicate (places - c) idle) (let e : n + (i - n) ≡ i = omega arith in e) (idle_more n (i - n) slots h)
+
+below_or_not : (i n : ℕ) → (i < n) ⊎ (n ≤ i)
+below_or_not i n = grind arith
+
+pub all_same : {A : Type 0} (n i : ℕ) (x : A) → get_or (replicate n x) i x ≡ x
+all_same n i x = elim (below_or_not i n) [ inl h ↦ get_or-replicate n i x x h | inr h ↦ get_or_past (replicate n x) i x (omega (arith, length-replicate n x)) ]
+
+-- each of them is idle
+pub idle_at : (n i : ℕ) (slots : List SlotState) → AreIdleFrom n slots → n ≤ i → get_or slots i idle ≡ idle
+idle_at n i slots h later =
+    let e : n + (i - n) ≡ i = omega arith in
+    ap (λ k. get_or slots k idle) (sym e) ∙ sym (get_or-drop n slots (i - n) idle) ∙ ap (λ l. get_or l (i - n) idle) h.1 ∙ all_same (places - n) (i - n) idle
 
 -- a slot before them is written
 idle_behind : (n i : ℕ) (slots : List SlotState) (x : SlotState) → i < n → AreIdleFrom n slots → AreIdleFrom n (set slots i x)
@@ -30,9 +42,7 @@ pub idle_written : (n i : ℕ) (slots : List SlotState) (x : SlotState) → i < 
 idle_written n i slots x fits h = elim (below_or_not i n) [
   | inl b ↦ subst (λ m. AreIdleFrom m (set slots i x)) (let e : n ≡ max n (i + 1) = omega arith in e) (idle_behind n i slots x b h)
   | inr b ↦ subst (λ m. AreIdleFrom m (set slots i x)) (let e : i + 1 ≡ max n (i + 1) = omega arith in e) (idle_after n i slots x b fits h)
-] where
-  below_or_not : (i n : ℕ) → (i < n) ⊎ (n ≤ i)
-  below_or_not i n = grind arith
+]
 
 -- what a copy leaves of as many slots, where those that are idle in both stay
 pub copied : (n m k count : ℕ) (slots others new : List SlotState) → AreIdleFrom n slots → AreIdleFrom m others → k ≡ max n m → length others ≡ count

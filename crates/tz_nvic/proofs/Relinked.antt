@@ -1,13 +1,14 @@
 -- What a write leaves of the ready lists.
-use Rattle.std.proofs.Common.{◌≡◌, ◌≢◌, ◌⊎◌, inl, inr, ℕ, ◌+◌, ◌-◌, ◌<◌, ◌≤◌, Bool, true, false, cond, Option, Some, None, List, length, get_or, set, replicate, refl, ap, sym, ◌∙◌, length-set, get_or-set_same, get_or-set_other, get_or-drop, arith}
+use Rattle.std.proofs.Common.{◌≡◌, ◌≢◌, ◌⊎◌, inl, inr, ℕ, ◌<◌, ◌≤◌, Bool, true, false, cond, Option, Some, None, length, get_or, set, replicate, refl, ap, sym, ◌∙◌, length-set, get_or-set_same, get_or-set_other, arith}
 use Rattle.std.specs.Prelude.{◌&&◌, ◌||◌, not}
-use Rattle.std.proofs.lemmas.List.{get_or_past, get_or-replicate, length-replicate}
+use Rattle.std.proofs.lemmas.List.{length-replicate}
 use Rattle.tz_ready.specs.declared.queue.Queue.{Queue}
 use Rattle.tz_ready.specs.Links.{Linked, queue_of}
 use Rattle.tz_state.specs.declared.slot.SlotState.{SlotState}
 use Rattle.tz_state.specs.Slots.{ExceptionsValue, idle, places, at, is_place, exception_number, is_always_enabled, has_fixed_priority, with_slot}
 use Rattle.tz_nvic.specs.Lists.{side_by, queue_by, queue_at, AreLinked}
 use Rattle.tz_nvic.specs.Viewed.{AreIdleFrom}
+use Rattle.tz_nvic.proofs.Idle.{all_same, idle_at}
 
 same_or_not : (i j : ℕ) → (i ≡ j) ⊎ (i ≢ j)
 same_or_not i j = grind arith
@@ -37,17 +38,6 @@ idle_none e i true always has q = refl
 
 idle_unlinked : (e : ExceptionsValue) (i : ℕ) → at e i ≡ idle → queue_at e i ≡ None
 idle_unlinked e i h = ap (queue_by e i) h ∙ idle_none e i (is_place e i) (is_always_enabled (exception_number i)) (has_fixed_priority (exception_number i)) (record { level = 0; side = side_by e i idle })
-
-below_or_not : (i n : ℕ) → (i < n) ⊎ (n ≤ i)
-below_or_not i n = grind arith
-
-all_same : {A : Type 0} (n i : ℕ) (x : A) → get_or (replicate n x) i x ≡ x
-all_same n i x = elim (below_or_not i n) [ inl h ↦ get_or-replicate n i x x h | inr h ↦ get_or_past (replicate n x) i x (omega (arith, length-replicate n x)) ]
-
-idle_at : (n i : ℕ) (slots : List SlotState) → AreIdleFrom n slots → n ≤ i → get_or slots i idle ≡ idle
-idle_at n i slots h later =
-    let e : n + (i - n) ≡ i = omega arith in
-    ap (λ k. get_or slots k idle) (sym e) ∙ sym (get_or-drop n slots (i - n) idle) ∙ ap (λ l. get_or l (i - n) idle) h.1 ∙ all_same (places - n) (i - n) idle
 
 -- no idle slot is linked
 pub none_from : (e : ExceptionsValue) (l : Linked) (n k : ℕ) → AreIdleFrom n e.slots → n ≤ k → AreLinked e l → (i : ℕ) → k ≤ i → i < places → queue_of l i ≡ None

@@ -67,14 +67,14 @@ impl Exceptions {
         }
     }
 
-    /// The least priority of the active slots, four above the manual's, by a look at each.
+    /// The least priority of the active slots, four above the manual's, by a look at each that isn't idle.
     #[tactic(auto, unfolding(tz_state::specs::Execution::active_below))]
     pub(crate) fn least_active(&self) -> u32
         ensures is { result ≡ raw_priority self.now }
         ensures few { result ≤ 260 }
     {
         let mut least = IDLE_PRIORITY;
-        for index in 0..self.end() {
+        for index in 0..self.idle_from {
             least = self.least_with(index, least);
         }
         least
@@ -92,13 +92,13 @@ impl Exceptions {
         }
     }
 
-    /// The active slots, by a look at each.
+    /// The active slots, by a look at each that isn't idle.
     #[tactic(auto, unfolding(crate::specs::ActiveSlots::active_slots_below))]
     pub(crate) fn active_slots(&self) -> ActiveSlots
         ensures { result ≡ active_slots self.now }
     {
         let mut active = ActiveSlots::Nothing;
-        for index in 0..self.end() {
+        for index in 0..self.idle_from {
             active = self.slots_with(index, active);
         }
         active

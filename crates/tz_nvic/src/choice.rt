@@ -89,13 +89,14 @@ impl Exceptions {
         }
     }
 
-    /// Whether an external interrupt of either side is pending, by a look at each.
+    /// Whether an external interrupt of either side is pending, by a look at each that isn't idle.
     #[tactic(auto, unfolding(tz_state::specs::Pieces::any_below))]
     pub(crate) fn any_pending(&self) -> bool
         ensures { result ≡ is_interrupt_pending self.now }
     {
+        let count = self.idle_from.saturating_sub(FIRST_INTERRUPT_PLACE);
         let mut found = false;
-        for n in 0..self.interrupts as usize {
+        for n in 0..count.min(usize::from(self.interrupts)) {
             found = found || self.slots[FIRST_INTERRUPT_PLACE + n].pending;
         }
         found

@@ -3,7 +3,7 @@
 
 ghost use Rattle.std.specs.Prelude.{◌≡◌, ◌≤◌, ◌<◌, ◌+◌, true, IfOk, IsTrue};
 ghost use Rattle.tz_state.specs.ExceptionNumbers.{first_interrupt};
-ghost use Rattle.tz_state.specs.Slots.{at, first_interrupt_place, exists, is_external, is_place, side_at, slot_at, index_of, is_enabled, with_slot, reset_exceptions};
+ghost use Rattle.tz_state.specs.Slots.{at, exists, is_external, is_place, side_at, slot_at, index_of, is_enabled, with_slot, reset_exceptions};
 ghost use Rattle.tz_state.specs.SlotChanges.{pended, unpended, activated, deactivated, prioritized, switched, targeted};
 
 use crate::known::Known;
@@ -116,14 +116,6 @@ impl Exceptions {
         ensures few { IsTrue result → slot.number < 256 }
     {
         is_system(slot.number) || self.is_external(slot.number)
-    }
-
-    /// The end of the places where slots stand.
-    pub(crate) fn end(&self) -> usize
-        ensures is { result ≡ self.now.interrupts + first_interrupt_place }
-        ensures few { result ≤ 272 }
-    {
-        self.interrupts as usize + FIRST_INTERRUPT_PLACE
     }
 
     /// Whether a slot stands at a place.
