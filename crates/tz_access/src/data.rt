@@ -61,6 +61,7 @@ fn request_by(
 impl Bus {
     /// Whether attribution lets code of a side access each byte.
     #[tactic(auto, unfolding(tz_state::specs::Access::may_touch))]
+    #[inline(never)]
     pub fn may_touch(&self, side: Side, size: Size, addr: u32) -> bool
         ensures { result ≡ may_touch (map_in self.now) side size addr }
     {
@@ -75,6 +76,7 @@ impl Bus {
 
     /// Whether the MPU lets an access have each byte.
     #[tactic(auto, using(crate::proofs::Blocks::every_by_ends), unfolding(tz_state::specs::Access::is_let))]
+    #[inline(never)]
     pub(crate) fn is_let(&self, request: &Request) -> bool
         ensures { result ≡ is_let self.now request.now }
     {
@@ -94,6 +96,7 @@ impl Bus {
 
     /// All checks of an access but the map's.
     #[tactic(auto, unfolding(tz_state::specs::Access::verdict))]
+    #[inline(always)]
     fn guard(&mut self, request: &Request) -> Result<Place, Fault>
         ensures verdict { MatchResult result
             (λ place. (verdict self.old request.now ≡ place_verdict place self.old request.now) × (is_system place ≡ is_private request.now.addr))

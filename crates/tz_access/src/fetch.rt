@@ -182,6 +182,7 @@ impl Bus {
     /// The instruction at PC, where its first halfword is of the side that fetches it, by what the MPU of that side
     /// permits at PC.
     #[tactic(auto, unfolding(tz_state::specs::Fetch::own_fetch, tz_state::specs::Fetch::half_verdict))]
+    #[inline(always)]
     fn own_fetch(&self, fetcher: &Fetcher, pc: u32, permitted: bool) -> Result<Fetched, Fault>
         requires own { is_own_fetch (map_in self.now) fetcher.now.side pc ≡ true }
         requires permitted { permitted ≡ permits self.now.board.profile (mpu_of fetcher.now.side self.now) pc kinds.Fetch fetcher.now.privileged fetcher.now.negative }
@@ -244,6 +245,7 @@ impl Bus {
 
     /// The answer where the first halfword at PC is of the side that fetches it.
     #[tactic(auto, unfolding(tz_state::specs::Fetch::fetch))]
+    #[inline(always)]
     fn answer_own(&self, fetcher: &Fetcher, pc: u32, permitted: bool) -> FetchAnswer
         requires own { is_own_fetch (map_in self.now) fetcher.now.side pc ≡ true }
         requires permitted { permitted ≡ permits self.now.board.profile (mpu_of fetcher.now.side self.now) pc kinds.Fetch fetcher.now.privileged fetcher.now.negative }
@@ -278,6 +280,7 @@ impl Bus {
     /// The answer where nothing is kept of the block at PC. What the units say of it is kept then, unless it is the
     /// other side's.
     #[tactic(auto, unfolding(tz_state::specs::Fetch::is_own_fetch))]
+    #[inline(never)]
     fn fetch_anew(&mut self, fetcher: &Fetcher, pc: u32, who: Who) -> FetchAnswer
         requires { who ≡ who_fetches fetcher.now }
         ensures answer { result ≡ fetch self.old fetcher.now pc }

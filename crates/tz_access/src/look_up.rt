@@ -40,6 +40,7 @@ pub(crate) struct LookUps {
 }
 
 /// Whether an access of a kind is permitted.
+#[inline(always)]
 pub(crate) fn permits(permitted: Permitted, kind: Kind) -> bool
     ensures { result ≡ permitted_by kind permitted }
 {
@@ -51,6 +52,7 @@ pub(crate) fn permits(permitted: Permitted, kind: Kind) -> bool
 }
 
 /// Whether the same asks.
+#[inline(always)]
 fn is_same(one: Who, other: Who) -> bool
     ensures { result ≡ true → one ≡ other }
 {
@@ -91,6 +93,7 @@ impl LookUps {
     }
 
     /// What is kept of a block for who asks.
+    #[inline(always)]
     pub(crate) fn find(&self, block: u32, who: Who) -> Option<LookUp>
         ensures { IfSome result (λ k. (slice_index_or self.now.places (block % 16) None ≡ Some k) × (k.block ≡ block) × (k.who ≡ who)) }
     {

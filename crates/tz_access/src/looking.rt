@@ -67,6 +67,7 @@ impl Bus {
     }
 
     /// What is kept of the block of a byte, for who asks.
+    #[inline(always)]
     pub(crate) fn find(&self, addr: u32, who: Who) -> Option<LookUp>
         ensures { IfSome result (λ k. Tells (guards_of self.now) who addr k) }
     {
@@ -103,7 +104,20 @@ impl Bus {
         }
     }
 
+    /// What the units say of a byte as data, of whose block nothing is kept. It is a call, so that where something is
+    /// kept little is done.
+    #[inline(never)]
+    fn look_up_anew(&mut self, addr: u32, who: Who) -> LookUp
+        requires { who.fetch ≡ false }
+        ensures told { Tells (guards_of self.old) who addr result }
+        ensures kept { self.new ≡ self.old }
+    {
+        let admitted = self.admits_data(who.side, addr);
+        self.learn(addr, who, admitted)
+    }
+
     /// What the units say of a byte as data.
+    #[inline(always)]
     pub(crate) fn look_up(&mut self, addr: u32, who: Who) -> LookUp
         requires { who.fetch ≡ false }
         ensures told { Tells (guards_of self.old) who addr result }
@@ -111,15 +125,13 @@ impl Bus {
     {
         match self.find(addr, who) {
             Some(found) => found,
-            None => {
-                let admitted = self.admits_data(who.side, addr);
-                self.learn(addr, who, admitted)
-            }
+            None => self.look_up_anew(addr, who),
         }
     }
 
     /// What attribution and protection say of an access.
     #[tactic(auto, using(crate::proofs::LookUps::touch_in_block, crate::proofs::LookUps::let_in_block))]
+    #[inline(always)]
     pub(crate) fn passes(&mut self, request: &Request) -> Passes
         ensures touches { result.touches ≡ may_touch (map_in self.old) request.now.side request.now.size request.now.addr }
         ensures is_let { result.is_let ≡ is_let self.old request.now }

@@ -109,6 +109,7 @@ impl Bus {
     }
 
     /// Writes as `write` does, and adds what it overwrote to a list.
+    #[inline(never)]
     fn write_into(
         &mut self,
         addr: u32,
@@ -142,6 +143,7 @@ impl Bus {
     }
 
     /// Writes as `write` does, and notes what it overwrote, where that is wanted.
+    #[inline(always)]
     pub fn write_noted(
         &mut self,
         addr: u32,
