@@ -50,32 +50,37 @@ impl Machine {
         stores: &mut Stores,
         noted: &mut Option<Handling>,
         written: &mut Option<Written>,
-    ) -> Close
+        close: &mut Close,
+    )
         requires unnoted { noted.old ≡ None }
         requires few { noted_count written.old ≤ 16 }
-        ensures does { goes_on self.old.core insn.now self.old course code.now stores.old.items outcome ≡ record { state = self.new; stores = stores.new.items; ending = ending_of result noted.new } }
+        ensures does { goes_on self.old.core insn.now self.old course code.now stores.old.items outcome ≡ record { state = self.new; stores = stores.new.items; ending = ending_of close.new noted.new } }
         ensures back { before_stores written.new self.new.bus.memory ≡ before_stores written.old self.old.bus.memory }
     {
         match outcome {
             Outcome::Next => {
                 self.pass(insn);
-                self.go_next(course, code)
+                self.go_next(course, code, close)
             }
             Outcome::Sleep { event } => {
                 self.pass(insn);
                 self.core.run.sleep = sleep_of(event);
-                self.go_next(course, code)
+                self.go_next(course, code, close)
             }
             Outcome::Jump(to) => {
                 self.pass(insn);
                 self.core.registers.pc = to;
-                ran_by(Cause::Went, course, code)
+                ran_by(close, Cause::Went, course, code)
             }
             Outcome::Exchange { target, ns } => {
                 let before = self.core;
-                self.exchange(insn, &before, course, code, target, ns, noted, written)
+                self.exchange(
+                    insn, &before, course, code, target, ns, noted, written, close,
+                )
             }
-            Outcome::Call(target) => self.call(insn, course, code, target, stores, noted, written),
+            Outcome::Call(target) => self.call(
+                insn, course, code, target, stores, noted, written, close,
+            ),
         }
     }
 
@@ -90,15 +95,16 @@ impl Machine {
         stores: &mut Stores,
         noted: &mut Option<Handling>,
         written: &mut Option<Written>,
-    ) -> Close
+        close: &mut Close,
+    )
         requires unnoted { noted.old ≡ None }
         requires few { noted_count written.old ≤ 16 }
-        ensures does { concludes self.old.core insn.now self.old course code.now stores.old.items outcome ≡ record { state = self.new; stores = stores.new.items; ending = ending_of result noted.new } }
+        ensures does { concludes self.old.core insn.now self.old course code.now stores.old.items outcome ≡ record { state = self.new; stores = stores.new.items; ending = ending_of close.new noted.new } }
         ensures back { before_stores written.new self.new.bus.memory ≡ before_stores written.old self.old.bus.memory }
     {
         match outcome {
-            Ok(outcome) => self.go_on(insn, course, code, outcome, stores, noted, written),
-            Err(fault) => self.fault(course, fault, noted, written),
+            Ok(outcome) => self.go_on(insn, course, code, outcome, stores, noted, written, close),
+            Err(fault) => self.fault(course, fault, noted, written, close),
         }
     }
 
@@ -113,20 +119,23 @@ impl Machine {
         stores: &mut Stores,
         noted: &mut Option<Handling>,
         written: &mut Option<Written>,
-    ) -> Close
+        close: &mut Close,
+    )
         requires negative { course.negative ≡ is_negative_at (priority_in self.old) }
         requires empty { array_vec_len stores.old ≡ 0 }
         requires unnoted { noted.old ≡ None }
         requires few { noted_count written.old ≤ 2 }
-        ensures does { executes self.old.core course code.now insn.now (loads_stores self.old insn.now) ≡ record { state = self.new; stores = stores.new.items; ending = ending_of result noted.new } }
+        ensures does { executes self.old.core course code.now insn.now (loads_stores self.old insn.now) ≡ record { state = self.new; stores = stores.new.items; ending = ending_of close.new noted.new } }
         ensures back { before_stores written.new self.new.bus.memory ≡ before_stores written.old self.old.bus.memory }
     {
         let before = self.core;
         match self.load_store(insn, course.negative, stores, written) {
             Ok(Outcome::Exchange { target, ns }) => {
-                self.exchange(insn, &before, course, code, target, ns, noted, written)
+                self.exchange(
+                    insn, &before, course, code, target, ns, noted, written, close,
+                )
             }
-            outcome => self.conclude(insn, course, code, outcome, stores, noted, written),
+            outcome => self.conclude(insn, course, code, outcome, stores, noted, written, close),
         }
     }
 }

@@ -1,6 +1,6 @@
 //! The end of a step: the way out of Secure state, and the report, built in place.
 
-ghost use Rattle.std.specs.Prelude.{◌≡◌};
+ghost use Rattle.std.specs.Prelude.{◌≡◌, None};
 ghost use Rattle.arrayvec.specs.ArrayVec.{array_vec_len};
 ghost use Rattle.tz_sem.specs.Ended.{kind_of_entry, kind_of, lr_of, kind_without};
 ghost use Rattle.tz_twin.specs.Writing.{changes_handler};
@@ -20,6 +20,23 @@ pub struct Close {
     pub cause: Cause,
     /// The code of the instruction that ran, where one did.
     pub ran: Option<Code>,
+}
+
+/// What a step writes its close over. That is lent to all that may end the step, since a close that each hands back would
+/// be copied on the way.
+pub(crate) const UNCLOSED: Close = Close {
+    touched: false,
+    cause: Cause::Went,
+    ran: None,
+};
+
+/// No instruction ran, and this was done to the side that runs.
+pub(crate) fn ran_nothing(close: &mut Close, touched: bool, cause: Cause)
+    ensures { close.new ≡ record { touched = touched; cause = cause; ran = None } }
+{
+    close.touched = touched;
+    close.cause = cause;
+    close.ran = None;
 }
 
 /// The ending, with what was noted of exceptions.

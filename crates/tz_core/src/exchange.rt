@@ -20,14 +20,12 @@ use tz_regs::Core;
 use tz_sem::{Cause, Course, Handling};
 
 /// An instruction ran, and did this to the side that runs.
-pub(crate) fn ran_by(cause: Cause, course: Course, code: &Code) -> Close
-    ensures { result ≡ record { touched = course.touched; cause = cause; ran = Some code.now } }
+pub(crate) fn ran_by(close: &mut Close, cause: Cause, course: Course, code: &Code)
+    ensures { close.new ≡ record { touched = course.touched; cause = cause; ran = Some code.now } }
 {
-    Close {
-        touched: course.touched,
-        cause,
-        ran: Some(*code),
-    }
+    close.touched = course.touched;
+    close.cause = cause;
+    close.ran = Some(*code);
 }
 
 /// The course of a step that touches Secure state.
@@ -55,30 +53,30 @@ impl Machine {
     ghost use Rattle.tz_core.specs.Closing.{ending_of};
 
     /// BXNS in Secure state.
-    fn branch_ns(&mut self, course: Course, code: &Code, target: u32) -> Close
-        ensures does { branches_ns self.old course code.now target ≡ record { state = self.new; ending = ending_of result None } }
+    fn branch_ns(&mut self, course: Course, code: &Code, target: u32, close: &mut Close)
+        ensures does { branches_ns self.old course code.now target ≡ record { state = self.new; ending = ending_of close.new None } }
         ensures kept { self.new.bus.memory ≡ self.old.bus.memory }
     {
         branch_ns(&mut self.core, target);
         if target % 2 == 0 {
-            ran_by(Cause::Returned, course, code)
+            ran_by(close, Cause::Returned, course, code)
         } else {
-            ran_by(Cause::Went, course, code)
+            ran_by(close, Cause::Went, course, code)
         }
     }
 
     /// Moves to a target of an exchange.
-    fn move_to(&mut self, course: Course, code: &Code, target: u32, ns: bool) -> Close
-        ensures does { moves_to self.old course code.now target ns ≡ record { state = self.new; ending = ending_of result None } }
+    fn move_to(&mut self, course: Course, code: &Code, target: u32, ns: bool, close: &mut Close)
+        ensures does { moves_to self.old course code.now target ns ≡ record { state = self.new; ending = ending_of close.new None } }
         ensures kept { self.new.bus.memory ≡ self.old.bus.memory }
     {
         if ns {
-            return self.branch_ns(course, code, target);
+            return self.branch_ns(course, code, target, close);
         }
         let registers = &mut self.core.registers;
         registers.pc = target / 2 * 2;
         registers.t = target % 2 == 1;
-        ran_by(Cause::Went, course, code)
+        ran_by(close, Cause::Went, course, code)
     }
 
     /// FNC_RETURN by a value; where it faults the core is what it was before the instruction.
@@ -91,22 +89,22 @@ impl Machine {
         value: u32,
         noted: &mut Option<Handling>,
         written: &mut Option<Written>,
-    ) -> Close
+        close: &mut Close,
+    )
         requires unnoted { noted.old ≡ None }
         requires few { noted_count written.old ≤ 16 }
-        ensures does { comes_back before.now self.old course code.now value ≡ record { state = self.new; ending = ending_of result noted.new } }
+        ensures does { comes_back before.now self.old course code.now value ≡ record { state = self.new; ending = ending_of close.new noted.new } }
         ensures back { before_stores written.new self.new.bus.memory ≡ before_stores written.old self.old.bus.memory }
     {
         let mut frames = frames_over(&mut self.bus, &self.core, course.negative, written);
-        let close = match function_return(&mut self.core, &mut frames) {
-            Ok(()) => ran_by(Cause::CameBack, touching(course), code),
+        match function_return(&mut self.core, &mut frames) {
+            Ok(()) => ran_by(close, Cause::CameBack, touching(course), code),
             Err(fault) => {
                 take_back(&mut self.core, before);
-                self.fault(touching(course), fault, noted, written)
+                self.fault(touching(course), fault, noted, written, close)
             }
-        };
+        }
         note_value(noted, value);
-        close
     }
 
     /// Exchanges to a target: BX, BXNS and loads of PC. It is always inlined, as `make_step` is.
@@ -122,20 +120,21 @@ impl Machine {
         ns: bool,
         noted: &mut Option<Handling>,
         written: &mut Option<Written>,
-    ) -> Close
+        close: &mut Close,
+    )
         requires unnoted { noted.old ≡ None }
         requires few { noted_count written.old ≤ 16 }
-        ensures does { exchanged before.now self.old (past insn.now self.old) course code.now target ns ≡ record { state = self.new; ending = ending_of result noted.new } }
+        ensures does { exchanged before.now self.old (past insn.now self.old) course code.now target ns ≡ record { state = self.new; ending = ending_of close.new noted.new } }
         ensures back { before_stores written.new self.new.bus.memory ≡ before_stores written.old self.old.bus.memory }
     {
         if is_fnc_return(target) {
-            return self.come_back(before, course, code, target, noted, written);
+            return self.come_back(before, course, code, target, noted, written, close);
         }
         self.pass(insn);
         if self.core.handler() && is_exc_return(target) {
-            return self.return_by(course, code, target, noted, written);
+            return self.return_by(course, code, target, noted, written, close);
         }
-        self.move_to(course, code, target, ns)
+        self.move_to(course, code, target, ns, close)
     }
 
     /// BLXNS: calls Non-secure code. Its two stores are those of the step.
@@ -149,10 +148,11 @@ impl Machine {
         stores: &mut Stores,
         noted: &mut Option<Handling>,
         written: &mut Option<Written>,
-    ) -> Close
+        close: &mut Close,
+    )
         requires unnoted { noted.old ≡ None }
         requires few { noted_count written.old ≤ 16 }
-        ensures does { calls (past insn.now) self.old course code.now target (wrap (self.old.core.registers.pc + length_of code.now)) ≡ record { state = self.new; stores = stores.new.items; ending = ending_of result noted.new } }
+        ensures does { calls (past insn.now) self.old course code.now target (wrap (self.old.core.registers.pc + length_of code.now)) ≡ record { state = self.new; stores = stores.new.items; ending = ending_of close.new noted.new } }
         ensures back { before_stores written.new self.new.bus.memory ≡ before_stores written.old self.old.bus.memory }
     {
         stores.clear();
@@ -171,9 +171,9 @@ impl Machine {
         match called {
             Ok(()) => {
                 self.pass(insn);
-                ran_by(Cause::Called, course, code)
+                ran_by(close, Cause::Called, course, code)
             }
-            Err(fault) => self.fault(course, fault, noted, written),
+            Err(fault) => self.fault(course, fault, noted, written, close),
         }
     }
 }

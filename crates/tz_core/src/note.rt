@@ -8,6 +8,7 @@ ghost use Rattle.tz_twin.specs.Ways.{TellsWay};
 ghost use Rattle.tz_access.specs.Written.{before_stores, noted_count};
 ghost use Rattle.tz_core.specs.Undo.{note_of, undo_of};
 
+use crate::ending::UNCLOSED;
 use crate::running::Machine;
 use crate::waiting::no_moves;
 use std::alloc::{AllocError, Global};
@@ -99,7 +100,15 @@ impl Machine {
         begin(&mut note.written);
         let mut noted = None;
         let mut moves = no_moves();
-        self.report_step(due, report, &mut noted, &mut note.written, &mut moves);
+        let mut close = UNCLOSED;
+        self.report_step(
+            due,
+            report,
+            &mut noted,
+            &mut note.written,
+            &mut moves,
+            &mut close,
+        );
     }
 
     /// Makes one step as `step` does, and notes what takes it back. It takes no memory.

@@ -12,7 +12,7 @@ ghost use Rattle.tz_access.specs.Written.{before_stores, noted_count};
 
 use crate::changes::Stores;
 use crate::concluding::loads_pc;
-use crate::ending::{Close, Passage, changes_handler, ending_of};
+use crate::ending::{Close, Passage, UNCLOSED, changes_handler, ending_of, ran_nothing};
 use crate::exchange::ran_by;
 use crate::it_rules::{ignores_condition, is_misplaced, is_passed_over};
 use crate::noting::pends_next;
@@ -142,30 +142,30 @@ impl Machine {
     }
 
     /// Goes on to the next instruction.
-    pub(crate) fn go_next(&mut self, course: Course, code: &Code) -> Close
-        ensures does { goes_next self.old course code.now ≡ record { state = self.new; ending = ending_of result None } }
+    pub(crate) fn go_next(&mut self, course: Course, code: &Code, close: &mut Close)
+        ensures does { goes_next self.old course code.now ≡ record { state = self.new; ending = ending_of close.new None } }
         ensures kept { self.new.bus.memory ≡ self.old.bus.memory }
     {
         self.core.registers.pc = next_of(self.core.registers.pc, code);
-        ran_by(Cause::Went, course, code)
+        ran_by(close, Cause::Went, course, code)
     }
 
     /// SG, reached from Non-secure state.
-    fn run_gateway(&mut self, course: Course, code: &Code) -> Close
-        ensures does { runs_gateway self.old course code.now ≡ record { state = self.new; stores = []; ending = ending_of result None } }
+    fn run_gateway(&mut self, course: Course, code: &Code, close: &mut Close)
+        ensures does { runs_gateway self.old course code.now ≡ record { state = self.new; stores = []; ending = ending_of close.new None } }
         ensures kept { self.new.bus.memory ≡ self.old.bus.memory }
     {
         secure_gateway(&mut self.core);
-        ran_by(Cause::Went, course, code)
+        ran_by(close, Cause::Went, course, code)
     }
 
     /// Skips an instruction whose condition fails.
-    fn skip(&mut self, course: Course, code: &Code) -> Close
-        ensures does { skips self.old course code.now ≡ record { state = self.new; stores = []; ending = ending_of result None } }
+    fn skip(&mut self, course: Course, code: &Code, close: &mut Close)
+        ensures does { skips self.old course code.now ≡ record { state = self.new; stores = []; ending = ending_of close.new None } }
         ensures kept { self.new.bus.memory ≡ self.old.bus.memory }
     {
         self.core.registers.advance_it();
-        self.go_next(course, code)
+        self.go_next(course, code, close)
     }
 
     /// Runs an instruction whose place and condition let it run. It is always inlined, as `make_step` is.
@@ -178,19 +178,20 @@ impl Machine {
         stores: &mut Stores,
         noted: &mut Option<Handling>,
         written: &mut Option<Written>,
-    ) -> Close
+        close: &mut Close,
+    )
         requires negative { course.negative ≡ is_negative_at (priority_in self.old) }
         requires empty { array_vec_len stores.old ≡ 0 }
         requires unnoted { noted.old ≡ None }
         requires few { noted_count written.old ≤ 2 }
-        ensures does { executes self.old.core course code.now insn.now (executed self.old insn.now) ≡ record { state = self.new; stores = stores.new.items; ending = ending_of result noted.new } }
+        ensures does { executes self.old.core course code.now insn.now (executed self.old insn.now) ≡ record { state = self.new; stores = stores.new.items; ending = ending_of close.new noted.new } }
         ensures back { before_stores written.new self.new.bus.memory ≡ before_stores written.old self.old.bus.memory }
     {
         if loads_pc(insn) {
-            return self.load_pc(insn, code, course, stores, noted, written);
+            return self.load_pc(insn, code, course, stores, noted, written, close);
         }
         let outcome = self.execute(insn, course.negative, stores, written);
-        self.conclude(insn, course, code, outcome, stores, noted, written)
+        self.conclude(insn, course, code, outcome, stores, noted, written, close)
     }
 
     /// Runs an instruction, unless it may not stand where it does, or its condition fails.
@@ -202,21 +203,22 @@ impl Machine {
         stores: &mut Stores,
         noted: &mut Option<Handling>,
         written: &mut Option<Written>,
-    ) -> Close
+        close: &mut Close,
+    )
         requires negative { course.negative ≡ is_negative_at (priority_in self.old) }
         requires empty { array_vec_len stores.old ≡ 0 }
         requires unnoted { noted.old ≡ None }
         requires few { noted_count written.old ≤ 2 }
-        ensures does { placed self.old course code.now insn.now ≡ record { state = self.new; stores = stores.new.items; ending = ending_of result noted.new } }
+        ensures does { placed self.old course code.now insn.now ≡ record { state = self.new; stores = stores.new.items; ending = ending_of close.new noted.new } }
         ensures back { before_stores written.new self.new.bus.memory ≡ before_stores written.old self.old.bus.memory }
     {
         if is_misplaced(insn, &self.core.registers) {
-            return self.fault(course, Fault::Undef, noted, written);
+            return self.fault(course, Fault::Undef, noted, written, close);
         }
         if is_passed_over(&self.core.registers) && !ignores_condition(self.core.run.side, insn) {
-            return self.skip(course, code);
+            return self.skip(course, code, close);
         }
-        self.run_here(insn, code, course, stores, noted, written)
+        self.run_here(insn, code, course, stores, noted, written, close)
     }
 
     /// Runs the instruction that a code means.
@@ -227,24 +229,25 @@ impl Machine {
         stores: &mut Stores,
         noted: &mut Option<Handling>,
         written: &mut Option<Written>,
-    ) -> Close
+        close: &mut Close,
+    )
         requires negative { course.negative ≡ is_negative_at (priority_in self.old) }
         requires empty { array_vec_len stores.old ≡ 0 }
         requires unnoted { noted.old ≡ None }
         requires few { noted_count written.old ≤ 2 }
-        ensures does { decoded self.old course code.now (meaning_of code.now) ≡ record { state = self.new; stores = stores.new.items; ending = ending_of result noted.new } }
+        ensures does { decoded self.old course code.now (meaning_of code.now) ≡ record { state = self.new; stores = stores.new.items; ending = ending_of close.new noted.new } }
         ensures back { before_stores written.new self.new.bus.memory ≡ before_stores written.old self.old.bus.memory }
     {
         match self.kept.decode(code.first, second_of(code)) {
-            Decoded::One(insn, _) => self.run(&insn, code, course, stores, noted, written),
+            Decoded::One(insn, _) => self.run(&insn, code, course, stores, noted, written, close),
             Decoded::NoCoprocessor => {
                 if is_passed_over(&self.core.registers) {
-                    self.skip(course, code)
+                    self.skip(course, code, close)
                 } else {
-                    self.fault(course, Fault::NoCp, noted, written)
+                    self.fault(course, Fault::NoCp, noted, written, close)
                 }
             }
-            Decoded::Undefined(_) => self.fault(course, Fault::Undef, noted, written),
+            Decoded::Undefined(_) => self.fault(course, Fault::Undef, noted, written, close),
         }
     }
 
@@ -287,16 +290,17 @@ impl Machine {
         &mut self,
         noted: &mut Option<Handling>,
         written: &mut Option<Written>,
-    ) -> Close
+        close: &mut Close,
+    )
         requires unnoted { noted.old ≡ None }
         requires few { noted_count written.old ≤ 2 }
-        ensures does { faulting self.old (course_in self.old (touches_secure self.old.core.run.side self.old)) (unready (touches_secure self.old.core.run.side self.old) self.old.core.run.side) ≡ record { state = self.new; stores = []; ending = ending_of result noted.new } }
+        ensures does { faulting self.old (course_in self.old (touches_secure self.old.core.run.side self.old)) (unready (touches_secure self.old.core.run.side self.old) self.old.core.run.side) ≡ record { state = self.new; stores = []; ending = ending_of close.new noted.new } }
         ensures back { before_stores written.new self.new.bus.memory ≡ before_stores written.old self.old.bus.memory }
     {
         let touched = self.touches_secure();
         let fault = self.unready(touched);
         let course = self.course(touched);
-        self.fault(course, fault, noted, written)
+        self.fault(course, fault, noted, written, close)
     }
 
     /// Runs an instruction; where T is 0 it faults before anything is fetched.
@@ -305,15 +309,16 @@ impl Machine {
         stores: &mut Stores,
         noted: &mut Option<Handling>,
         written: &mut Option<Written>,
-    ) -> Close
+        close: &mut Close,
+    )
         requires empty { array_vec_len stores.old ≡ 0 }
         requires unnoted { noted.old ≡ None }
         requires few { noted_count written.old ≤ 2 }
-        ensures does { instructs self.old ≡ record { state = self.new; stores = stores.new.items; ending = ending_of result noted.new } }
+        ensures does { instructs self.old ≡ record { state = self.new; stores = stores.new.items; ending = ending_of close.new noted.new } }
         ensures back { before_stores written.new self.new.bus.memory ≡ before_stores written.old self.old.bus.memory }
     {
         if !self.core.registers.t {
-            return self.fault_unready(noted, written);
+            return self.fault_unready(noted, written, close);
         }
         let fetcher = self.fetcher();
         let found = self.bus.fetch_told(self.core.registers.pc, &fetcher);
@@ -322,26 +327,22 @@ impl Machine {
             negative: fetcher.negative,
         };
         match found.answer {
-            Err(fault) => self.fault(course, fault, noted, written),
+            Err(fault) => self.fault(course, fault, noted, written, close),
             Ok(fetched) => {
                 if fetched.gateway {
-                    self.run_gateway(course, &fetched.code)
+                    self.run_gateway(course, &fetched.code, close)
                 } else {
-                    self.run_code(&fetched.code, course, stores, noted, written)
+                    self.run_code(&fetched.code, course, stores, noted, written, close)
                 }
             }
         }
     }
 
     /// Sleeps on.
-    fn idle(&self) -> Close
-        ensures { idles self.now ≡ record { state = self.now; stores = []; ending = ending_of result None } }
+    fn idle(&self, close: &mut Close)
+        ensures { idles self.now ≡ record { state = self.now; stores = []; ending = ending_of close.new None } }
     {
-        Close {
-            touched: self.core.run.side == Side::Secure,
-            cause: Cause::Went,
-            ran: None,
-        }
+        ran_nothing(close, self.core.run.side == Side::Secure, Cause::Went);
     }
 
     /// Whether the core goes on; a sleep that ends is over then.
@@ -371,39 +372,46 @@ impl Machine {
         }
     }
 
-    /// Goes on, or sleeps on, by what the core waits for.
+    /// Goes on, or sleeps on, by what the core waits for. It is always inlined, as `make_step` is.
+    #[inline(always)]
     fn go_by_sleep(
         &mut self,
         stores: &mut Stores,
         noted: &mut Option<Handling>,
         written: &mut Option<Written>,
-    ) -> Close
+        close: &mut Close,
+    )
         requires empty { array_vec_len stores.old ≡ 0 }
         requires unnoted { noted.old ≡ None }
         requires few { noted_count written.old ≤ 2 }
-        ensures does { by_sleep self.old.core.run.sleep self.old ≡ record { state = self.new; stores = stores.new.items; ending = ending_of result noted.new } }
+        ensures does { by_sleep self.old.core.run.sleep self.old ≡ record { state = self.new; stores = stores.new.items; ending = ending_of close.new noted.new } }
         ensures back { before_stores written.new self.new.bus.memory ≡ before_stores written.old self.old.bus.memory }
     {
         if self.rouse() {
-            self.instruct(stores, noted, written)
+            self.instruct(stores, noted, written, close)
         } else {
-            self.idle()
+            self.idle(close)
         }
     }
 
     /// Takes the exception that comes first before an instruction, which ends a sleep.
-    fn take(&mut self, noted: &mut Option<Handling>, written: &mut Option<Written>) -> Close
+    fn take(
+        &mut self,
+        noted: &mut Option<Handling>,
+        written: &mut Option<Written>,
+        close: &mut Close,
+    )
         requires few { noted_count written.old ≤ 2 }
-        ensures does { takes_exception self.old ≡ record { state = self.new; stores = []; ending = ending_of result noted.new } }
+        ensures does { takes_exception self.old ≡ record { state = self.new; stores = []; ending = ending_of close.new noted.new } }
         ensures back { before_stores written.new self.new.bus.memory ≡ before_stores written.old self.old.bus.memory }
     {
         let course = self.course(self.core.run.side == Side::Secure);
         let back = self.core.registers.pc;
         self.wake();
-        self.preempt(course, back, noted, written)
+        self.preempt(course, back, noted, written, close)
     }
 
-    /// Makes one step after what it begins with, but for its report: notes the stores, and tells how it ended. Each of
+    /// Makes one step after what it begins with, but for its report: notes the stores, and tells in `close` how it ended. Each of
     /// its two callers has a copy of its own, since what a call hands back and forth would cost each step some 50 instructions.
     #[inline(always)]
     #[tactic(auto, unfolding(tz_sem::specs::Step::ended))]
@@ -412,23 +420,24 @@ impl Machine {
         stores: &mut Stores,
         noted: &mut Option<Handling>,
         written: &mut Option<Written>,
-    ) -> Close
+        close: &mut Close,
+    )
         requires empty { array_vec_len stores.old ≡ 0 }
         requires unnoted { noted.old ≡ None }
         requires few { noted_count written.old ≤ 2 }
-        ensures does { ended self.old ≡ record { state = self.new; stores = stores.new.items; ending = ending_of result noted.new } }
+        ensures does { ended self.old ≡ record { state = self.new; stores = stores.new.items; ending = ending_of close.new noted.new } }
         ensures back { before_stores written.new self.new.bus.memory ≡ before_stores written.old self.old.bus.memory }
     {
         if self.core.run.locked {
-            return self.lock(true);
+            return self.lock(true, close);
         }
         if takes_first_uncounted(&self.core, &mut self.exceptions) {
-            return self.take(noted, written);
+            return self.take(noted, written, close);
         }
-        self.go_by_sleep(stores, noted, written)
+        self.go_by_sleep(stores, noted, written, close)
     }
 
-    /// Makes one step with its report, and tells how it ended.
+    /// Makes one step with its report, and tells in `close` how it ended.
     pub(crate) fn report_step(
         &mut self,
         due: &[ScriptEvent],
@@ -436,22 +445,22 @@ impl Machine {
         noted: &mut Option<Handling>,
         written: &mut Option<Written>,
         moves: &mut Moves,
-    ) -> Close
+        close: &mut Close,
+    )
         requires unnoted { noted.old ≡ None }
         requires unwritten { noted_count written.old ≡ 0 }
         requires unmoved { moves.old ≡ no_moves }
         ensures step { step self.old due.now ≡ record { state = self.new; report = report.new } }
         ensures moves { moves.new ≡ (moves_of (with_exceptions self.old (begun self.old.exceptions due.now))).told }
-        ensures ending { (ended (started self.old due.now)).ending ≡ ending_of result noted.new }
+        ensures ending { (ended (started self.old due.now)).ending ≡ ending_of close.new noted.new }
         ensures back { before_stores written.new self.new.bus.memory ≡ before_stores written.old self.old.bus.memory }
     {
         let before = self.core.before();
         report.changes.clear();
         report.stores.clear();
         self.start(due, written, moves);
-        let close = self.make_step(&mut report.stores, noted, written);
-        self.tell(&before, &close, report);
-        close
+        self.make_step(&mut report.stores, noted, written, close);
+        self.tell(&before, close, report);
     }
 
     /// Makes one step at which these events are due, and tells of it the way out of Secure state, and whether it was
@@ -476,7 +485,8 @@ impl Machine {
         let mut written = None;
         let mut moves = no_moves();
         self.start(due, &mut written, &mut moves);
-        let close = self.make_step(stores, noted, &mut written);
+        let mut close = UNCLOSED;
+        self.make_step(stores, noted, &mut written, &mut close);
         Passage {
             way: self.way(start, &close),
             exceptional: self.core.run.locked || changes_handler(close.cause),
@@ -493,7 +503,15 @@ impl Machine {
         let mut noted = None;
         let mut written = None;
         let mut moves = no_moves();
-        self.report_step(due, report, &mut noted, &mut written, &mut moves);
+        let mut close = UNCLOSED;
+        self.report_step(
+            due,
+            report,
+            &mut noted,
+            &mut written,
+            &mut moves,
+            &mut close,
+        );
     }
 
     /// Makes one step at which these events are due, and tells in `report` what it did, and beside that what neither
@@ -509,7 +527,15 @@ impl Machine {
         let mut noted = None;
         let mut written = None;
         let mut moves = no_moves();
-        let close = self.report_step(due, report, &mut noted, &mut written, &mut moves);
+        let mut close = UNCLOSED;
+        self.report_step(
+            due,
+            report,
+            &mut noted,
+            &mut written,
+            &mut moves,
+            &mut close,
+        );
         Account {
             core,
             ticked_s,

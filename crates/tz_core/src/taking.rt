@@ -6,7 +6,7 @@ ghost use Rattle.tz_table.specs.declared.units.Side.TheVariants.{Secure};
 ghost use Rattle.tz_state.specs.State.{is_privileged_in};
 ghost use Rattle.tz_sem.specs.Taking.{goes_on_at, passed_by};
 
-use crate::ending::Close;
+use crate::ending::{Close, ran_nothing};
 use crate::noting::{by_entry, by_value, note_fault};
 use crate::running::Machine;
 use tz_access::{Bus, BusFrames, Written};
@@ -69,31 +69,23 @@ impl Machine {
     ghost use Rattle.tz_core.specs.Closing.{ending_of};
 
     /// Locks the machine, by a fault or because it was locked.
-    pub(crate) fn lock(&mut self, touched: bool) -> Close
+    pub(crate) fn lock(&mut self, touched: bool, close: &mut Close)
         ensures state { self.new ≡ (locks self.old touched None).state }
         ensures kept { self.new.bus.memory ≡ self.old.bus.memory }
-        ensures close { ending_of result None ≡ (locks self.old touched None).ending }
+        ensures close { ending_of close.new None ≡ (locks self.old touched None).ending }
     {
         self.core.run.locked = true;
-        Close {
-            touched,
-            cause: Cause::Went,
-            ran: None,
-        }
+        ran_nothing(close, touched, Cause::Went);
     }
 
     /// Ends a step in which an exception was taken, which clears the monitor.
-    fn end_taken(&mut self, touched: bool) -> Close
+    fn end_taken(&mut self, touched: bool, close: &mut Close)
         ensures state { self.new ≡ (taken self.old touched None).state }
         ensures kept { self.new.bus.memory ≡ self.old.bus.memory }
-        ensures close { ending_of result None ≡ (taken self.old touched None).ending }
+        ensures close { ending_of close.new None ≡ (taken self.old touched None).ending }
     {
         self.bus.monitor_clear();
-        Close {
-            touched,
-            cause: Cause::Taken,
-            ran: None,
-        }
+        ran_nothing(close, touched, Cause::Taken);
     }
 
     /// Takes the exception that comes first, from the code that runs, which goes on at `back` later.
@@ -104,9 +96,10 @@ impl Machine {
         back: u32,
         noted: &mut Option<Handling>,
         written: &mut Option<Written>,
-    ) -> Close
+        close: &mut Close,
+    )
         requires few { noted_count written.old ≤ 18 }
-        ensures does { preempted self.old course back ≡ record { state = self.new; ending = ending_of result noted.new } }
+        ensures does { preempted self.old course back ≡ record { state = self.new; ending = ending_of close.new noted.new } }
         ensures back { before_stores written.new self.new.bus.memory ≡ before_stores written.old self.old.bus.memory }
     {
         let profile = self.bus.board().profile;
@@ -120,11 +113,11 @@ impl Machine {
         ) {
             Entered::Taken { entry, .. } => {
                 *noted = Some(by_entry(entry));
-                self.end_taken(course.touched | entry.touched)
+                self.end_taken(course.touched | entry.touched, close)
             }
             Entered::Lockup { entry } => {
                 *noted = Some(by_entry(entry));
-                self.lock(course.touched | entry.touched)
+                self.lock(course.touched | entry.touched, close)
             }
         }
     }
@@ -138,35 +131,33 @@ impl Machine {
         fault: Fault,
         noted: &mut Option<Handling>,
         written: &mut Option<Written>,
-    ) -> Close
+        close: &mut Close,
+    )
         requires unnoted { noted.old ≡ None }
         requires few { noted_count written.old ≤ 18 }
-        ensures does { faults self.old course fault ≡ record { state = self.new; ending = ending_of result noted.new } }
+        ensures does { faults self.old course fault ≡ record { state = self.new; ending = ending_of close.new noted.new } }
         ensures back { before_stores written.new self.new.bus.memory ≡ before_stores written.old self.old.bus.memory }
     {
         let back = goes_on_at(fault, self.core.registers.pc);
-        let close = if raise_fault(&mut self.core, &mut self.exceptions, fault) {
-            self.lock(course.touched)
+        if raise_fault(&mut self.core, &mut self.exceptions, fault) {
+            self.lock(course.touched, close)
         } else {
             pass_by(&mut self.core, fault);
-            self.preempt(course, back, noted, written)
-        };
+            self.preempt(course, back, noted, written, close)
+        }
         note_fault(noted, fault);
-        close
     }
 
     /// Ends a step in which an exception returned to the code that it had interrupted, which clears the monitor.
-    fn end_resumed(&mut self, touched: bool, code: &Code) -> Close
+    fn end_resumed(&mut self, touched: bool, code: &Code, close: &mut Close)
         ensures state { self.new ≡ released self.old }
         ensures kept { self.new.bus.memory ≡ self.old.bus.memory }
-        ensures close { result ≡ record { touched = touched; cause = Resumed; ran = Some code.now } }
+        ensures close { close.new ≡ record { touched = touched; cause = Resumed; ran = Some code.now } }
     {
         self.bus.monitor_clear();
-        Close {
-            touched,
-            cause: Cause::Resumed,
-            ran: Some(*code),
-        }
+        close.touched = touched;
+        close.cause = Cause::Resumed;
+        close.ran = Some(*code);
     }
 
     /// Returns from the exception that runs, by a value.
@@ -178,9 +169,10 @@ impl Machine {
         value: u32,
         noted: &mut Option<Handling>,
         written: &mut Option<Written>,
-    ) -> Close
+        close: &mut Close,
+    )
         requires few { noted_count written.old ≤ 18 }
-        ensures does { returns self.old course code.now value ≡ record { state = self.new; ending = ending_of result noted.new } }
+        ensures does { returns self.old course code.now value ≡ record { state = self.new; ending = ending_of close.new noted.new } }
         ensures back { before_stores written.new self.new.bus.memory ≡ before_stores written.old self.old.bus.memory }
     {
         let profile = self.bus.board().profile;
@@ -194,15 +186,15 @@ impl Machine {
         ) {
             Left::Resumed { touched } => {
                 *noted = Some(by_value(value, None, None));
-                self.end_resumed(course.touched | touched, code)
+                self.end_resumed(course.touched | touched, code, close)
             }
             Left::Chained { refused, entry, .. } => {
                 *noted = Some(by_value(value, refused, Some(entry)));
-                self.end_taken(course.touched | entry.touched)
+                self.end_taken(course.touched | entry.touched, close)
             }
             Left::Lockup { refused, entry } => {
                 *noted = Some(by_value(value, refused, Some(entry)));
-                self.lock(course.touched | entry.touched)
+                self.lock(course.touched | entry.touched, close)
             }
         }
     }

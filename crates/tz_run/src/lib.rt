@@ -77,7 +77,7 @@ pub fn make_steps(machine: &mut Machine, script: &Script, steps: u32)
     make_counted::<Brand>(Blank::new(1), machine, script, steps)
 }
 
-/// Writes the line of a step as one put. The text is what it is made in.
+/// Writes the line of a step as one put. The lines are what it is made over.
 fn put_line<O: Sink>(
     lines: &mut Lines,
     report: &Report,

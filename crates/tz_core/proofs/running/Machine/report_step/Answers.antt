@@ -12,7 +12,7 @@ use Rattle.tz_core.proofs.running.Machine.report_step.Goals as goal
 pub returns-clause-step : goal.returns-clause-step
 returns-clause-step c =
     ap (λ (t : State). stepped (before_in c.args.self.now.core) (ended t)) (sym c.start.ensures.does)
-    ∙ ap (λ (e : Ended). stepped (before_in c.args.self.now.core) e) c.make_step-close.ensures.does
-    ∙ ap (λ (s : State). stepped (before_in s.core) (record { state = c.make_step-close.new.self; stores = c.make_step-close.new.stores.items; ending = ending_of c.make_step-close.result c.make_step-close.new.noted })) (sym c.self.view_is)
-    ∙ ap (λ (b : Before). stepped b (record { state = c.make_step-close.new.self; stores = c.make_step-close.new.stores.items; ending = ending_of c.make_step-close.result c.make_step-close.new.noted })) (sym c.before-before.ensures)
-    ∙ ap (λ (r : Report). record { state = c.make_step-close.new.self; report = r }) (sym c.tell.ensures)
+    ∙ ap (λ (e : Ended). stepped (before_in c.args.self.now.core) e) c.make_step.ensures.does
+    ∙ ap (λ (s : State). stepped (before_in s.core) (record { state = c.make_step.new.self; stores = c.make_step.new.stores.items; ending = ending_of c.make_step.new.close c.make_step.new.noted })) (sym c.self.view_is)
+    ∙ ap (λ (b : Before). stepped b (record { state = c.make_step.new.self; stores = c.make_step.new.stores.items; ending = ending_of c.make_step.new.close c.make_step.new.noted })) (sym c.before-before.ensures)
+    ∙ ap (λ (r : Report). record { state = c.make_step.new.self; report = r }) (sym c.tell.ensures)
