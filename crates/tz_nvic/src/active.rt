@@ -44,6 +44,14 @@ impl ActiveSlots {
     }
 }
 
+/// What a look at all slots finds of those that are active.
+#[derive(Clone, Copy)]
+pub(crate) struct Found {
+    /// Their least priority, four above the manual's.
+    pub(crate) least: u32,
+    pub(crate) slots: ActiveSlots,
+}
+
 impl Exceptions {
     /// Whether a slot stands at a place that is active.
     fn is_active(&self, index: usize) -> bool
@@ -53,54 +61,53 @@ impl Exceptions {
         self.slots[index].active && self.is_place(index)
     }
 
-    /// The least priority so far, with the slot at a place where it is active.
-    fn least_with(&self, index: usize, least: u32) -> u32
+    /// What is found with one more place.
+    fn found_with(&self, index: usize, found: Found) -> Found
         requires index { index < 272 }
-        requires few { least ≤ 260 }
-        ensures is { result ≡ (if is_active self.now index then min (priority_of self.now index) least else least) }
-        ensures few { result ≤ 260 }
+        requires few { found.least ≤ 260 }
+        ensures least { result.least ≡ (if is_active self.now index then min (priority_of self.now index) found.least else found.least) }
+        ensures slots { result.slots ≡ (if is_active self.now index then slot_added (exception_number index) found.slots else found.slots) }
+        ensures few { result.least ≤ 260 }
     {
         if self.is_active(index) {
-            self.priority_of(index).min(least)
+            Found {
+                least: self.priority_of(index).min(found.least),
+                slots: found.slots.with(exception_number(index)),
+            }
         } else {
-            least
+            found
         }
     }
 
-    /// The least priority of the active slots, four above the manual's, by a look at each that isn't idle.
-    #[tactic(auto, unfolding(tz_state::specs::Execution::active_below))]
+    /// What is active, by a look at each slot that isn't idle.
+    #[tactic(auto, unfolding(tz_state::specs::Execution::active_below, crate::specs::ActiveSlots::active_slots_below))]
+    pub(crate) fn active_found(&self) -> Found
+        ensures least { result.least ≡ raw_priority self.now }
+        ensures slots { result.slots ≡ active_slots self.now }
+        ensures few { result.least ≤ 260 }
+    {
+        let mut found = Found {
+            least: IDLE_PRIORITY,
+            slots: ActiveSlots::Nothing,
+        };
+        for index in 0..self.idle_from {
+            found = self.found_with(index, found);
+        }
+        found
+    }
+
+    /// The least priority of the active slots, four above the manual's.
     pub(crate) fn least_active(&self) -> u32
         ensures is { result ≡ raw_priority self.now }
         ensures few { result ≤ 260 }
     {
-        let mut least = IDLE_PRIORITY;
-        for index in 0..self.idle_from {
-            least = self.least_with(index, least);
-        }
-        least
+        self.active_found().least
     }
 
-    /// What is known with one more place.
-    fn slots_with(&self, index: usize, active: ActiveSlots) -> ActiveSlots
-        requires { index < 272 }
-        ensures { result ≡ (if is_active self.now index then slot_added (exception_number index) active else active) }
-    {
-        if self.is_active(index) {
-            active.with(exception_number(index))
-        } else {
-            active
-        }
-    }
-
-    /// The active slots, by a look at each that isn't idle.
-    #[tactic(auto, unfolding(crate::specs::ActiveSlots::active_slots_below))]
+    /// The active slots.
     pub(crate) fn active_slots(&self) -> ActiveSlots
         ensures { result ≡ active_slots self.now }
     {
-        let mut active = ActiveSlots::Nothing;
-        for index in 0..self.idle_from {
-            active = self.slots_with(index, active);
-        }
-        active
+        self.active_found().slots
     }
 }

@@ -33,11 +33,12 @@ impl Exceptions {
         ensures is { IsKnown self.now result }
         ensures looks { steps.new ≤ steps.old + 24 }
     {
+        let found = self.active_found();
         Known {
             chosen: self.chosen_place(steps),
-            raw: self.least_active(),
+            raw: found.least,
             interrupt: self.any_pending(),
-            active: self.active_slots(),
+            active: found.slots,
         }
     }
 
