@@ -187,6 +187,10 @@ impl Ready {
         ensures few { steps.new ≤ steps.old + 9 }
         ensures some { steps.old ≤ steps.new }
     {
+        // In most steps nothing is linked, and then no word is read.
+        if self.count == 0 {
+            return None;
+        }
         let start = Queue { level: from, side }.number();
         match self.levels.least_from(start, words_to(side), steps) {
             None => None,
