@@ -5,6 +5,7 @@ use Rattle.tz_state.specs.Slots.{ExceptionsValue, at, is_place}
 use Rattle.tz_state.specs.Pieces.{any_below}
 use Rattle.tz_state.specs.Execution.{is_active, active_below, raw_priority}
 use Rattle.tz_state.specs.ControlRegisters.{is_interrupt_pending}
+use Rattle.tz_nvic.specs.declared.active.ActiveSlots.TheVariants.{Nothing}
 use Rattle.tz_nvic.specs.ActiveSlots.{active_slots_below, active_slots}
 use Rattle.tz_nvic.specs.Viewed.{AreIdleFrom}
 use Rattle.tz_nvic.proofs.Idle.{idle_at}
@@ -60,3 +61,12 @@ any_pending_below e n h = elim (least (n - 32) e.interrupts) [
   | inl all ↦ ap (any_below (λ i. (at e (32 + i)).pending)) (omega arith)
   | inr some ↦ stays (λ i. (at e (32 + i)).pending) (any_below (λ i. (at e (32 + i)).pending)) (same_any (λ i. (at e (32 + i)).pending)) (n - 32) (not_pending e n h) e.interrupts some ∙ ap (any_below (λ i. (at e (32 + i)).pending)) (let q : n - 32 ≡ min (n - 32) e.interrupts = omega arith in q)
 ]
+
+-- where none is active nothing is found
+pub raw_of_none : (e : ExceptionsValue) → ((i : ℕ) → is_active e i ≡ false) → raw_priority e ≡ 260
+unfolding active_below
+raw_of_none e none = stays (is_active e) (active_below e) (same_priority e) 0 (λ j _. none j) 272 (omega arith)
+
+pub slots_of_none : (e : ExceptionsValue) → ((i : ℕ) → is_active e i ≡ false) → active_slots e ≡ Nothing
+unfolding active_slots_below
+slots_of_none e none = stays (is_active e) (active_slots_below e) (same_slots e) 0 (λ j _. none j) 272 (omega arith)

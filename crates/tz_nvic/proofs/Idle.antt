@@ -16,7 +16,7 @@ idle_later : (n i : ℕ) (slots : List SlotState) → AreIdleFrom n slots → n 
 idle_later n i slots h later =
     subst (λ c. drop c slots ≡ replicate (places - c) idle) (let e : n + (i - n) ≡ i = omega arith in e) (idle_more n (i - n) slots h)
 
-below_or_not : (i n : ℕ) → (i < n) ⊎ (n ≤ i)
+pub below_or_not : (i n : ℕ) → (i < n) ⊎ (n ≤ i)
 below_or_not i n = grind arith
 
 pub all_same : {A : Type 0} (n i : ℕ) (x : A) → get_or (replicate n x) i x ≡ x

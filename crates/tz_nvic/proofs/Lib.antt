@@ -5,6 +5,7 @@ pub mod ActiveSlots
 pub mod Timers
 pub mod Beyond
 pub mod Idle
+pub mod Counted
 pub mod Relinked
 pub mod Order
 pub mod Leading

@@ -1,5 +1,6 @@
 -- The exceptions as a value.
 use Rattle.std.specs.Prelude.{◌≡◌, ℕ, ◌-◌, ◌≤◌, List, length, drop, replicate, IfSome}
+use Rattle.std.specs.List.{count_by}
 use Rattle.tz_state.specs.declared.slot.SlotState.{SlotState}
 use Rattle.tz_state.specs.Slots.{ExceptionsValue, idle, places}
 use Rattle.tz_nvic.specs.Known.{IsKnown}
@@ -24,7 +25,8 @@ value_of e =
 abbrev pub AreIdleFrom : ℕ → List SlotState → Type 0
 AreIdleFrom i slots = (i ≤ places) × (drop i slots ≡ replicate (places - i) idle)
 
--- each slot has a place, numbers are in range, what is known is so, what is idle is, and what is ready is linked
+-- each slot has a place, numbers are in range, what is known is so, what is idle is, what is ready is linked, and what is
+-- active is counted
 abbrev pub Holds : Inside → Type 0
 Holds e =
     (length e.slots.items ≡ 272)
@@ -34,3 +36,4 @@ Holds e =
     × IfSome e.known (λ k. IsKnown (value_of e) k)
     × AreIdleFrom e.idle_from e.slots.items
     × AreLinked (value_of e) e.ready
+    × (e.active_count ≡ count_by (λ slot. slot.active) e.slots.items)

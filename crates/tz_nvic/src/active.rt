@@ -79,7 +79,7 @@ impl Exceptions {
         }
     }
 
-    /// What is active, by a look at each slot that isn't idle.
+    /// What is active, by a look at each slot that isn't idle, and at none where none is active.
     #[tactic(auto, unfolding(tz_state::specs::Execution::active_below, crate::specs::ActiveSlots::active_slots_below))]
     pub(crate) fn active_found(&self) -> Found
         ensures least { result.least ≡ raw_priority self.now }
@@ -90,6 +90,9 @@ impl Exceptions {
             least: IDLE_PRIORITY,
             slots: ActiveSlots::Nothing,
         };
+        if self.active_count == 0 {
+            return found;
+        }
         for index in 0..self.idle_from {
             found = self.found_with(index, found);
         }

@@ -23,6 +23,7 @@ impl Exceptions {
         copy_below(&mut self.slots, &other.slots, end);
         self.ready.copy_from(&other.ready, end);
         self.idle_from = other.idle_from;
+        self.active_count = other.active_count;
         self.interrupts = other.interrupts;
         self.prigroup_s = other.prigroup_s;
         self.prigroup_ns = other.prigroup_ns;

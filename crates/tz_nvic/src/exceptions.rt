@@ -31,6 +31,8 @@ pub struct Exceptions {
     pub(crate) timer_ns: Timer,
     /// All slots from this place on are as a reset leaves them.
     pub(crate) idle_from: usize,
+    /// How many slots are active.
+    pub(crate) active_count: u16,
     /// The slots that are pending and enabled, but those of fixed priority, in lists by priority and side.
     pub(crate) ready: Ready,
     /// What a look at all slots finds, until something is written that it depends on.
@@ -88,6 +90,7 @@ impl Exceptions {
             timer_s: NO_TIMER,
             timer_ns: NO_TIMER,
             idle_from: 0,
+            active_count: 0,
             ready: Ready::new(),
             known: None,
         })
@@ -152,6 +155,8 @@ impl Exceptions {
     {
         let queue = self.queue_by(index, &state);
         self.known = None;
+        self.active_count += u16::from(state.active);
+        self.active_count -= u16::from(self.slots[index].active);
         self.slots[index] = state;
         self.idle_from = self.idle_from.max(index + 1);
         self.ready.put(index as u16, queue);

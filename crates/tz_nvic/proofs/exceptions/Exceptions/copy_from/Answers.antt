@@ -1,5 +1,6 @@
 -- What both leave idle needs no copy.
 use Rattle.std.proofs.Common.{◌≡◌, List, ◌++◌, length, take, drop, IfSome, ap, ◌∙◌, subst, sym, arith}
+use Rattle.std.specs.List.{count_by}
 use Rattle.tz_state.specs.declared.slot.SlotState.{SlotState}
 use Rattle.tz_state.specs.Slots.{ExceptionsValue}
 use Rattle.tz_ready.specs.Links.{Linked}
@@ -36,6 +37,7 @@ invariant_of-self c =
       subst (λ s. IfSome c.other.inside.known (λ k. IsKnown (with_slots c.other.inside s) k)) (sym same) h.4,
       (h.5.0, ap (drop c.other.inside.idle_from) same ∙ h.5.1),
       subst (λ s. AreLinked (with_slots c.other.inside s) c.copy_from.new.self) (sym same) (subst (λ (l : Linked). AreLinked (value_of c.other.inside) l) (sym c.copy_from.ensures) h.6),
+      h.7 ∙ ap (λ l. count_by (λ s. s.active) l) (sym same),
     )
 
 pub returns : goal.returns

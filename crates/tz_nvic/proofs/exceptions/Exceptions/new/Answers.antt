@@ -1,4 +1,5 @@
 use Rattle.std.proofs.Common.{false, length, ap, ◌∙◌, sym, subst, arith}
+use Rattle.std.specs.List.{count_by}
 use Rattle.std.proofs.lemmas.List.{length-replicate}
 use Rattle.tz_ready.specs.Links.{Linked}
 use Rattle.tz_state.specs.Slots.{ExceptionsValue, idle, no_timer}
@@ -29,4 +30,5 @@ invariant_of-result c =
       tt,
       (omega arith, slots),
       subst (λ (l : Linked). AreLinked e l) (sym c.new.ensures) (reset_linked e slots),
+      ap (λ l. count_by (λ s. s.active) l) (sym slots),
     )

@@ -5,6 +5,7 @@ use Rattle.tz_ready.specs.Links.{Linked}
 use Rattle.tz_state.specs.Slots.{ExceptionsValue, with_slot}
 use Rattle.tz_nvic.specs.Lists.{queue_by, AreLinked}
 use Rattle.tz_nvic.specs.Viewed.{value_of, AreIdleFrom}
+use Rattle.tz_nvic.proofs.Counted.{active_written}
 use Rattle.tz_nvic.proofs.Idle.{idle_written}
 use Rattle.tz_nvic.proofs.Relinked.{relinked}
 use Rattle.tz_nvic.proofs.exceptions.Exceptions.put_at.Goals as goal
@@ -21,4 +22,5 @@ invariant_of-self c =
       tt,
       subst (λ n. AreIdleFrom n (set c.self.inside.slots.items c.args.index c.args.state)) (sym c.max-self-inside.ensures) (idle_written c.self.inside.idle_from c.args.index c.self.inside.slots.items c.args.state c.requires h.5),
       subst (λ (l : Linked). AreLinked (with_slot e c.args.index c.args.state) l) (sym is) (relinked e c.self.inside.ready c.args.index c.args.state h.0 c.requires h.6),
+      omega (arith, h.7, c.from.ensures, c.from-2.ensures, active_written c.self.inside.slots.items c.args.index c.args.state c.index.result.now (omega (arith, c.requires, h.0)) c.index.ensures),
     )
