@@ -21,7 +21,7 @@ out_of k a not = grind (arith, nat_tests)
 pub holds_at : (k : BlockValue) (a j : ℕ) → k.base + j ≡ a → j < length k.bytes → (holds k a ≡ true) × (a - k.base ≡ j)
 holds_at k a j e l = grind (arith, nat_tests)
 
-all_of : (k : BlockValue) (a last : ℕ) → a ≤ last → holds_all k a last ≡ true → (k.base + (a - k.base) ≡ a) × (a - k.base + (last - a) < length k.bytes)
+pub all_of : (k : BlockValue) (a last : ℕ) → a ≤ last → holds_all k a last ≡ true → (k.base + (a - k.base) ≡ a) × (a - k.base + (last - a) < length k.bytes)
 all_of k a last l is = grind (arith, nat_tests)
 
 apart_at : (k : BlockValue) (a last b : ℕ) → is_apart k a last ≡ true → a ≤ b → b ≤ last → holds k b ≡ false

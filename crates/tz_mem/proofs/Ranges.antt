@@ -11,9 +11,10 @@ use Rattle.tz_model.specs.declared.board.Region.{Region}
 use Rattle.tz_model.specs.Board.{is_apart, apart_from, are_apart}
 use Rattle.tz_state.specs.Memory.{Memory}
 use Rattle.tz_state.specs.Difference.{byte_differs}
-use Rattle.tz_mem.specs.Blocks.{BlockValue, region_of, holds, IsPlace, memory_of, view_of}
+use Rattle.tz_mem.specs.Blocks as blocks
+use Rattle.tz_mem.specs.Blocks.{BlockValue, region_of, holds, holds_all, IsPlace, IsRun, memory_of, view_of}
 use Rattle.tz_mem.specs.Difference.{some_from, region_at, IsFilled}
-use Rattle.tz_mem.proofs.Places.{byte_of_place, mapped_at}
+use Rattle.tz_mem.proofs.Places.{all_of, byte_of_place, mapped_at}
 use Rattle.tz_mem.proofs.Bytes.{get_memory_of}
 
 -- there is a byte where some region holds the address
@@ -48,6 +49,21 @@ placed (r ∷ ks) (suc i) j k apart l is fit =
     let parts = and_parts (apart_from (region_of r) (map region_of ks)) (are_apart (map region_of ks)) apart in (
       out_of_other r k j (apart_there (region_of r) ks i k parts.0 (omega arith) is) fit,
       placed ks i j k parts.1 (omega arith) is fit,
+    )
+
+-- nor does another hold any of some addresses where one holds all
+out_of_all : (r k : BlockValue) (a last : ℕ) → is_apart (region_of r) (region_of k) ≡ true → a ≤ last → holds_all k a last ≡ true → blocks.is_apart r a last ≡ true
+out_of_all r k a last apart l is = grind (arith, nat_tests)
+
+pub run_there : (ks : List BlockValue) (a last i : ℕ) (k : BlockValue) → are_apart (map region_of ks) ≡ true → i < length ks → k ≡ get_or ks i k → a ≤ last → holds_all k a last ≡ true → IsRun ks a last i (a - k.base)
+run_there [] a last i k apart l is below all = absurd (omega arith)
+run_there (r ∷ ks) a last zero k apart l is below all =
+    let e = all_of k a last below all in
+    subst (λ (x : BlockValue). (x.base + (a - k.base) ≡ a) × (a - k.base + (last - a) < length x.bytes)) is e
+run_there (r ∷ ks) a last (suc i) k apart l is below all =
+    let parts = and_parts (apart_from (region_of r) (map region_of ks)) (are_apart (map region_of ks)) apart in (
+      out_of_all r k a last (apart_there (region_of r) ks i k parts.0 (omega arith) is) below all,
+      run_there ks a last i k parts.1 (omega arith) is below all,
     )
 
 byte_there : (ks : List BlockValue) (i j : ℕ) (k : BlockValue) → are_apart (map region_of ks) ≡ true → i < length ks → k ≡ get_or ks i k → j < length k.bytes → get (memory_of ks) (k.base + j) ≡ slice_get k.bytes j

@@ -7,7 +7,7 @@ use Rattle.tz_table.specs.declared.units.Size.TheVariants.{Byte, Half, Word}
 use Rattle.tz_model.specs.declared.board.Region.{Region}
 use Rattle.tz_model.specs.declared.board.RegionKind.{RegionKind}
 use Rattle.tz_model.specs.declared.board.RegionSide.{RegionSide}
-use Rattle.tz_model.specs.Board.{in_region}
+use Rattle.tz_model.specs.Board.{in_region, are_apart}
 use Rattle.tz_model.specs.Image.{entries_from}
 use Rattle.tz_state.specs.Memory as bytes
 use Rattle.tz_mem.specs.Values.{MemoryValue}
@@ -32,6 +32,10 @@ memory_of ks = from_entries (entries_of ks)
 
 abbrev pub view_of : List BlockValue → MemoryValue
 view_of ks = record { regions = map region_of ks; bytes = memory_of ks }
+
+-- no two blocks share an address
+abbrev pub AreApart : List BlockValue → Type 0
+AreApart ks = are_apart (map region_of ks) ≡ true
 
 -- ---- where a byte stands
 

@@ -41,7 +41,7 @@ impl Block {
     }
 
     /// Whether the block holds all addresses from `addr` to `last`.
-    fn holds_all(&self, addr: u32, last: u32) -> bool
+    pub fn holds_all(&self, addr: u32, last: u32) -> bool
         requires { addr ≤ last }
         ensures { result ≡ holds_all self.now addr last }
     {
@@ -141,6 +141,7 @@ fn put_number(bytes: &mut [u8], offset: usize, size: Size, value: u32)
 /// Where the bytes from `addr` to `last` stand, if the first block that holds any of them holds all: the block,
 /// and the offset of the first.
 #[tactic(auto, unfolding(crate::specs::Blocks::run_in))]
+#[inline(never)]
 pub fn run_of(blocks: &[Block], addr: u32, last: u32) -> Option<(usize, usize)>
     requires { addr ≤ last }
     ensures { result ≡ run_in 0 blocks.now addr last }

@@ -2,7 +2,7 @@
 
 ghost use Rattle.std.specs.Prelude.{◌≡◌, ◌+◌, ◌<◌, length, true, false, MatchOption, map};
 ghost use Rattle.tz_table.specs.declared.units.Size.TheVariants.{Half};
-ghost use Rattle.tz_mem.specs.Blocks.{region_of, memory_of, view_of, number_in};
+ghost use Rattle.tz_mem.specs.Blocks.{AreApart, region_of, memory_of, view_of, number_in};
 ghost use Rattle.tz_mem.specs.Values.{IsCode};
 ghost use Rattle.tz_state.specs.Access.{is_mapped};
 ghost use Rattle.tz_state.specs.Memory.{every, half_at};
@@ -48,11 +48,13 @@ fn code_in(bytes: &[u8], offset: usize) -> (u16, u16)
 
 /// The halfword at an address, if blocks hold it, and the one after it, if they hold that too: in one walk
 /// where a block holds both.
-pub fn code_at(blocks: &[Block], addr: u32) -> Option<(u16, Option<u16>)>
+#[inline(always)]
+pub fn code_at(blocks: &[Block], likely: usize, addr: u32) -> Option<(u16, Option<u16>)>
+    requires { AreApart blocks.now }
     ensures { MatchOption result (every (is_mapped (map region_of blocks.now)) addr Half ≡ false)
         (λ code. IsCode (view_of blocks.now) addr code.0 code.1) }
 {
-    match whole_of(blocks, addr, Size::Word) {
+    match whole_of(blocks, likely, addr, Size::Word) {
         Some((index, offset)) => {
             let block = &blocks[index];
             let pair = code_in(&block.bytes, offset);

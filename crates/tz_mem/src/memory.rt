@@ -21,10 +21,15 @@ use std::alloc::{AllocError, Global};
 use std::marker::Model;
 use tz_model::{Board, Region, Segment, Size};
 
-/// The regions of a board and their bytes.
+/// How many bytes a sixteenth of all addresses has.
+const SIXTEENTH: u32 = 0x1000_0000;
+
+/// The regions of a board and their bytes. Beside them, which is no part of any value, stands for each sixteenth of
+/// the addresses the number of a region that begins in it, if one does: that one likely holds what is asked for there.
 #[derive(Drop)]
 pub struct Memory {
     blocks: Vec<Block>,
+    likely: [usize; 16],
 }
 
 impl Model for Memory {
@@ -37,9 +42,11 @@ impl Model for Memory {
 
     ghost coded = { Prim.hlevel (codes, map.code {R = nat_cmp} coded_ℕ coded_ℕ) };
 
-    ghost use Rattle.tz_mem.specs.Blocks.{view_of};
+    ghost use Rattle.tz_mem.specs.Blocks.{AreApart, view_of};
 
     ghost view = { λ m. view_of m.blocks.items };
+
+    ghost invariant = { λ m. AreApart m.blocks.items };
 }
 
 /// A block of zeros for each region.
@@ -60,6 +67,25 @@ fn zero_blocks(alloc: Global, regions: &[Region]) -> Result<Vec<Block>, AllocErr
     Ok(blocks)
 }
 
+/// The sixteenth of the addresses that an address is in.
+fn sixteenth_of(addr: u32) -> usize
+    ensures { result < 16 }
+{
+    (addr / SIXTEENTH) as usize
+}
+
+/// Of each sixteenth of the addresses the number of the first block that begins in it, or else that of the first.
+fn likely_blocks(blocks: &[Block]) -> [usize; 16] {
+    let mut likely = [0; 16];
+    let count = blocks.len();
+    for index in 0..count {
+        let last = count - 1 - index;
+        let block = &blocks[last];
+        likely[sixteenth_of(block.base)] = last;
+    }
+    likely
+}
+
 impl Memory {
     /// Memory with zeros in all regions of a board.
     ///
@@ -71,7 +97,14 @@ impl Memory {
         ensures { IfOk result (λ m. m ≡ record { regions = board.now.regions; bytes = zero_memory board.now.regions }) }
     {
         let blocks = zero_blocks(alloc, &board.regions)?;
-        Ok(Memory { blocks })
+        let likely = likely_blocks(&blocks);
+        Ok(Memory { blocks, likely })
+    }
+
+    /// The number of the region that likely holds an address.
+    #[inline(always)]
+    fn likely_at(&self, addr: u32) -> usize {
+        self.likely[sixteenth_of(addr)]
     }
 
     /// Puts a byte at an address, whatever the kind of its region.
@@ -100,7 +133,7 @@ impl Memory {
             (λ value. (every (is_mapped self.now.regions) addr size ≡ true) × (value ≡ value_at self.now.bytes size addr))
             (λ _. every (is_mapped self.now.regions) addr size ≡ false) }
     {
-        match value_at(&self.blocks, addr, size) {
+        match value_at(&self.blocks, self.likely_at(addr), addr, size) {
             Some(value) => Ok(value),
             None => Err(NotMapped),
         }
@@ -116,7 +149,7 @@ impl Memory {
         ensures { MatchResult result (λ code. IsCode self.now addr code.0 code.1)
             (λ _. every (is_mapped self.now.regions) addr Half ≡ false) }
     {
-        match code_at(&self.blocks, addr) {
+        match code_at(&self.blocks, self.likely_at(addr), addr) {
             Some(code) => Ok(code),
             None => Err(NotMapped),
         }
@@ -135,7 +168,8 @@ impl Memory {
         ensures cause { IfErr result (λ e. IsRefusal e self.old.regions addr size) }
         ensures kept { OnErr result (self.new ≡ self.old) }
     {
-        write_number(&mut self.blocks, addr, size, value)
+        let likely = self.likely_at(addr);
+        write_number(&mut self.blocks, likely, addr, size, value)
     }
 
     /// Puts the bytes of a segment of an image, in `rom` too. Bytes that no region holds are left out.

@@ -1,10 +1,10 @@
 //! Bytes and numbers among blocks.
 //!
-//! An access asks for the block that holds all of it, in one walk over the blocks. Where there is none, as at the
-//! end of a block that another follows, it goes byte by byte.
+//! An access asks for the block that holds all of it: first whether that which likely does, and else in one walk over
+//! the blocks. Where there is none, as at the end of a block that another follows, it goes byte by byte.
 
 ghost use Rattle.std.specs.Prelude.{◌≡◌, ◌+◌, ◌<◌, ◌^◌, true, false, None, Some, IfSome, IfErr, OnOk, OnErr, MatchOption, MatchResult, map};
-ghost use Rattle.tz_mem.specs.Blocks.{region_of, memory_of, view_of, byte_in, more_of, IsRun};
+ghost use Rattle.tz_mem.specs.Blocks.{AreApart, region_of, memory_of, view_of, byte_in, more_of, IsRun};
 ghost use Rattle.tz_mem.specs.Values.{with_bytes, IsRefusal};
 ghost use Rattle.tz_state.specs.Access.{is_mapped, is_writable, takes_writes};
 ghost use Rattle.tz_state.specs.Memory as map_bytes;
@@ -75,23 +75,36 @@ fn number_by_bytes(blocks: &[Block], addr: u32, size: Size) -> Option<u32>
     }
 }
 
-/// The block that holds all of an access, and the offset of its first byte, if a block does.
-pub fn whole_of(blocks: &[Block], addr: u32, size: Size) -> Option<(usize, usize)>
+/// The block that holds all of an access, and the offset of its first byte, if a block does. It is looked at first
+/// whether that of a number does: where blocks share no byte, no other can then.
+#[inline(always)]
+pub fn whole_of(blocks: &[Block], likely: usize, addr: u32, size: Size) -> Option<(usize, usize)>
+    requires { AreApart blocks.now }
     ensures { IfSome result (λ place. (addr + more_of size < 2 ^ 32)
         × IsRun blocks.now addr (addr + more_of size) place.0 place.1) }
 {
     match addr.checked_add(more_of(size)) {
-        Some(last) => run_of(blocks, addr, last),
+        Some(last) => {
+            if likely < blocks.len() {
+                let block = &blocks[likely];
+                if block.holds_all(addr, last) {
+                    return Some((likely, (addr - block.base) as usize));
+                }
+            }
+            run_of(blocks, addr, last)
+        }
         None => None,
     }
 }
 
 /// The number of a size at an address, its low byte first, if blocks hold all of it.
-pub fn value_at(blocks: &[Block], addr: u32, size: Size) -> Option<u32>
+#[inline(always)]
+pub fn value_at(blocks: &[Block], likely: usize, addr: u32, size: Size) -> Option<u32>
+    requires { AreApart blocks.now }
     ensures { MatchOption result (every (is_mapped (map region_of blocks.now)) addr size ≡ false)
         (λ value. (every (is_mapped (map region_of blocks.now)) addr size ≡ true) × (value ≡ value_at (memory_of blocks.now) size addr)) }
 {
-    match whole_of(blocks, addr, size) {
+    match whole_of(blocks, likely, addr, size) {
         Some((index, offset)) => {
             let block = &blocks[index];
             Some(number_in(&block.bytes, offset, size))
@@ -225,14 +238,22 @@ fn write_by_bytes(blocks: &mut [Block], addr: u32, size: Size, value: u32) -> Re
 }
 
 /// Writes the low part of a number, of a size, at an address, its low byte first.
-pub fn write_number(blocks: &mut [Block], addr: u32, size: Size, value: u32) -> Result<(), Refused>
+#[inline(always)]
+pub fn write_number(
+    blocks: &mut [Block],
+    likely: usize,
+    addr: u32,
+    size: Size,
+    value: u32,
+) -> Result<(), Refused>
+    requires { AreApart blocks.old }
     ensures written { OnOk result (view_of blocks.new ≡ with_bytes (view_of blocks.old) (with_value (memory_of blocks.old) size addr value)) }
     ensures takes { OnOk result (every (is_writable (map region_of blocks.old)) addr size ≡ true) }
     ensures refused { OnErr result (every (is_writable (map region_of blocks.old)) addr size ≡ false) }
     ensures cause { IfErr result (λ e. IsRefusal e (map region_of blocks.old) addr size) }
     ensures kept { OnErr result (view_of blocks.new ≡ view_of blocks.old) }
 {
-    let Some((index, offset)) = whole_of(blocks, addr, size) else {
+    let Some((index, offset)) = whole_of(blocks, likely, addr, size) else {
         return write_by_bytes(blocks, addr, size, value);
     };
     let block = &mut blocks[index];
