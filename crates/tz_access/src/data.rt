@@ -33,7 +33,7 @@ pub fn is_aligned(size: Size, addr: u32) -> bool
 fn is_crooked(size: Size, addr: u32, must_align: bool) -> bool
     ensures { result ≡ is_crooked size addr must_align }
 {
-    (must_align || addr >= PRIVATE_FIRST) && !is_aligned(size, addr)
+    !is_aligned(size, addr) && (must_align || addr >= PRIVATE_FIRST)
 }
 
 /// An access of the code that asks.

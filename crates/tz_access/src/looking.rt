@@ -129,6 +129,18 @@ impl Bus {
         }
     }
 
+    /// What attribution and protection say of an access for which nothing is kept. The access is a copy, so that one
+    /// for which something is kept needn't stand in memory.
+    fn passes_anew(&self, request: Request) -> Passes
+        ensures touches { result.touches ≡ may_touch (map_in self.now) request.side request.size request.addr }
+        ensures is_let { result.is_let ≡ is_let self.now request }
+    {
+        Passes {
+            touches: self.may_touch(request.side, request.size, request.addr),
+            is_let: self.is_let(&request),
+        }
+    }
+
     /// What attribution and protection say of an access.
     #[tactic(auto, using(crate::proofs::LookUps::touch_in_block, crate::proofs::LookUps::let_in_block))]
     #[inline(always)]
@@ -162,10 +174,7 @@ impl Bus {
                 is_let: permits(found.permitted, kind),
             }
         } else {
-            Passes {
-                touches: self.may_touch(side, size, addr),
-                is_let: self.is_let(request),
-            }
+            self.passes_anew(*request)
         }
     }
 
