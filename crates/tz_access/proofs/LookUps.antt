@@ -26,11 +26,36 @@ use Rattle.tz_state.specs.Protection.{permits}
 use Rattle.tz_state.specs.State.{Bus, mpu_of}
 use Rattle.tz_state.specs.Access.{may_touch, is_let, lets, is_private}
 use Rattle.tz_access.specs.Checks.{IsByBlocks, last_of}
+use Rattle.tz_access.specs.Keys.{key_of, who_of}
 use Rattle.tz_access.specs.LookUps.{Guards, admits_by, admits_data, grants, Tells, IsSeen, AreSeen}
 use Rattle.tz_access.proofs.Blocks.{every_by_ends, open_by_blocks, own_by_blocks, lets_by_blocks, permission_blocks}
 
 true_false : true ≡ false → ⊥
 true_false e = grind arith
+
+-- ---- who asks
+
+asked : (fetch : Bool) (side : Side) (privileged negative : Bool) → (let w : Who = record { fetch = fetch; side = side; privileged = privileged; negative = negative } in who_of (key_of w) ≡ w)
+unfolding key_of who_of
+asked true Secure true true = refl
+asked true Secure true false = refl
+asked true Secure false true = refl
+asked true Secure false false = refl
+asked true NonSecure true true = refl
+asked true NonSecure true false = refl
+asked true NonSecure false true = refl
+asked true NonSecure false false = refl
+asked false Secure true true = refl
+asked false Secure true false = refl
+asked false Secure false true = refl
+asked false Secure false false = refl
+asked false NonSecure true true = refl
+asked false NonSecure true false = refl
+asked false NonSecure false true = refl
+asked false NonSecure false false = refl
+
+pub who_by_key : (k : ℕ) (w : Who) → k ≡ key_of w → who_of k ≡ w
+who_by_key k w e = ap who_of e ∙ asked w.fetch w.side w.privileged w.negative
 
 -- ---- one look-up
 
@@ -54,14 +79,14 @@ block_granted g kind who a b e =
     ap is_some (permission_blocks g.profile (of_side who.side g.mpu_s g.mpu_ns) a b kind who.privileged who.negative e)
 
 -- what is said of one byte is said of its block
-pub seen_block : (g : Guards) (k : LookUp) (a : ℕ) → are_regions g.map.regions ≡ true → a < 2 ^ 32 → k.block ≡ a / 32 → Tells g k.who a k → IsSeen g k
+pub seen_block : (g : Guards) (k : LookUp) (a : ℕ) → are_regions g.map.regions ≡ true → a < 2 ^ 32 → k.block ≡ a / 32 → Tells g (who_of k.key) a k → IsSeen g k
 seen_block g k a is small block tells = record {
   block = omega (arith, small, block);
   tells = λ b e. (
-    tells.0 ∙ block_admitted k.who.fetch g.map k.who.side a b is (sym (e ∙ block)),
-    tells.1 ∙ block_granted g Read k.who a b (sym (e ∙ block)),
-    tells.2 ∙ block_granted g Write k.who a b (sym (e ∙ block)),
-    tells.3 ∙ block_granted g Fetch k.who a b (sym (e ∙ block)),
+    tells.0 ∙ block_admitted (who_of k.key).fetch g.map (who_of k.key).side a b is (sym (e ∙ block)),
+    tells.1 ∙ block_granted g Read (who_of k.key) a b (sym (e ∙ block)),
+    tells.2 ∙ block_granted g Write (who_of k.key) a b (sym (e ∙ block)),
+    tells.3 ∙ block_granted g Fetch (who_of k.key) a b (sym (e ∙ block)),
   );
 }
 

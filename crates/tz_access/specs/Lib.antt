@@ -5,3 +5,4 @@ pub mod Units
 pub mod Permitted
 pub mod LookUps
 pub mod Kept
+pub mod Keys

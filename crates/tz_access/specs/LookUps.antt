@@ -15,6 +15,7 @@ use Rattle.tz_state.specs.Fetch.{is_own_byte}
 use Rattle.tz_state.specs.State.{Bus}
 use Rattle.tz_access.specs.declared.look_up.Who.{Who}
 use Rattle.tz_access.specs.declared.look_up.LookUp.{LookUp}
+use Rattle.tz_access.specs.Keys.{who_of}
 
 -- what guards memory: what decides the attribution of an address, and both MPUs with the profile whose rules they
 -- follow
@@ -61,7 +62,7 @@ Tells g who a k =
 -- a look-up tells what the definitions say of each byte of its block
 pub record IsSeen (g : Guards) (k : LookUp) : Type 0 where
   pub block : k.block < 2 ^ 27
-  pub tells : (a : ℕ) → a / 32 ≡ k.block → Tells g k.who a k
+  pub tells : (a : ℕ) → a / 32 ≡ k.block → Tells g (who_of k.key) a k
 
 -- each look-up that is kept does, and stands at the place of its block
 pub record AreSeen (g : Guards) (places : List (Option LookUp)) : Type 0 where

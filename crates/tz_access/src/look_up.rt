@@ -2,6 +2,7 @@
 //! place.
 
 ghost use Rattle.std.specs.Prelude.{◌≡◌, ◌%◌, ◌<◌, ◌≤◌, true, false, None, Some, Option, IfSome, replicate, slice_index_or, slice_set};
+ghost use Rattle.tz_access.specs.Keys.{bit_if, is_nonsecure, side_if, key_of, who_of};
 ghost use Rattle.tz_access.specs.Permitted.{permitted_by};
 
 use tz_model::Side;
@@ -26,7 +27,8 @@ pub(crate) struct Who {
 pub(crate) struct LookUp {
     /// The address of each of its bytes, divided by 32.
     pub(crate) block: u32,
-    pub(crate) who: Who,
+    /// Who asks, as one number.
+    pub(crate) key: u8,
     /// Attribution lets who asks have the block.
     pub(crate) admitted: bool,
     /// What the MPU of the side that asks permits.
@@ -51,15 +53,60 @@ pub(crate) fn permits(permitted: Permitted, kind: Kind) -> bool
     }
 }
 
-/// Whether the same asks.
+/// A flag as a bit of a number.
 #[inline(always)]
-fn is_same(one: Who, other: Who) -> bool
-    ensures { result ≡ true → one ≡ other }
+fn bit_if(on: bool, bit: u8) -> u8
+    ensures value { result ≡ bit_if on bit }
+    ensures fits { result ≤ bit }
 {
-    one.fetch == other.fetch
-        && one.side == other.side
-        && one.privileged == other.privileged
-        && one.negative == other.negative
+    if on { bit } else { 0 }
+}
+
+/// Whether a side is Non-secure.
+#[inline(always)]
+fn is_nonsecure(side: Side) -> bool
+    ensures { result ≡ is_nonsecure side }
+{
+    match side {
+        Side::Secure => false,
+        Side::NonSecure => true,
+    }
+}
+
+/// The side that is Non-secure, or the one that isn't.
+fn side_if(nonsecure: bool) -> Side
+    ensures { result ≡ side_if nonsecure }
+{
+    if nonsecure {
+        Side::NonSecure
+    } else {
+        Side::Secure
+    }
+}
+
+/// Who asks, as one number, so that one comparison tells whether the same asks.
+#[tactic(auto, unfolding(crate::specs::Keys::key_of))]
+#[inline(always)]
+pub(crate) fn key_of(who: Who) -> u8
+    ensures { result ≡ key_of who }
+{
+    bit_if(who.fetch, 1)
+        + bit_if(is_nonsecure(who.side), 2)
+        + bit_if(who.privileged, 4)
+        + bit_if(who.negative, 8)
+}
+
+/// Who asks, by the number of that.
+#[tactic(auto, unfolding(crate::specs::Keys::who_of))]
+pub(crate) fn who_of(key: u8) -> Who
+    ensures { result ≡ who_of key }
+{
+    Who {
+        fetch: key % 2 == 1,
+        side: side_if(key / 2 % 2 == 1),
+        privileged: key / 4 % 2 == 1,
+        negative: key / 8 % 2 == 1,
+    }
 }
 
 /// The place of a block.
@@ -93,14 +140,15 @@ impl LookUps {
     }
 
     /// What is kept of a block for who asks.
+    #[tactic(auto, using(crate::proofs::LookUps::who_by_key))]
     #[inline(always)]
     pub(crate) fn find(&self, block: u32, who: Who) -> Option<LookUp>
-        ensures { IfSome result (λ k. (slice_index_or self.now.places (block % 16) None ≡ Some k) × (k.block ≡ block) × (k.who ≡ who)) }
+        ensures { IfSome result (λ k. (slice_index_or self.now.places (block % 16) None ≡ Some k) × (k.block ≡ block) × (who_of k.key ≡ who)) }
     {
         match self.places[place_of(block)] {
             None => None,
             Some(found) => {
-                if found.block == block && is_same(found.who, who) {
+                if found.block == block && found.key == key_of(who) {
                     Some(found)
                 } else {
                     None

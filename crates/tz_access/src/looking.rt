@@ -9,7 +9,7 @@ ghost use Rattle.tz_access.specs.Kept.{IsKept};
 ghost use Rattle.tz_access.specs.LookUps.{Tells, admits, admits_data, guards_of};
 
 use crate::bus::Bus;
-use crate::look_up::{LookUp, Who, permits};
+use crate::look_up::{LookUp, Who, key_of, permits, who_of};
 use crate::span::{is_one_block, last_of};
 use tz_model::address_map::PRIVATE_FIRST;
 use tz_model::{Side, Size};
@@ -49,10 +49,11 @@ impl Bus {
     {
         let LookUp {
             block,
-            who,
+            key,
             permitted,
             ..
         } = self.kept.at(index)?;
+        let who = who_of(key);
         Some(Kept {
             block,
             fetch: who.fetch,
@@ -84,9 +85,10 @@ impl Bus {
         let permitted = self
             .mpu(who.side)
             .permitted(addr, who.privileged, who.negative);
+        let key = key_of(who);
         let look_up = LookUp {
             block: addr / 32,
-            who,
+            key,
             admitted,
             permitted,
         };
