@@ -75,10 +75,26 @@ fn number_by_bytes(blocks: &[Block], addr: u32, size: Size) -> Option<u32>
     }
 }
 
-/// The block that holds all of an access, and the offset of its first byte, if a block does. It is looked at first
-/// whether that of a number does: where blocks share no byte, no other can then.
+/// The block that holds all of an access, and the offset of its first byte, if a block does.
+pub fn whole_of(blocks: &[Block], addr: u32, size: Size) -> Option<(usize, usize)>
+    ensures { IfSome result (λ place. (addr + more_of size < 2 ^ 32)
+        × IsRun blocks.now addr (addr + more_of size) place.0 place.1) }
+{
+    match addr.checked_add(more_of(size)) {
+        Some(last) => run_of(blocks, addr, last),
+        None => None,
+    }
+}
+
+/// The block of this number, and the offset of an access in it, if it holds all of it: where blocks share no byte, no
+/// other does then.
 #[inline(always)]
-pub fn whole_of(blocks: &[Block], likely: usize, addr: u32, size: Size) -> Option<(usize, usize)>
+pub fn likely_whole(
+    blocks: &[Block],
+    likely: usize,
+    addr: u32,
+    size: Size,
+) -> Option<(usize, usize)>
     requires { AreApart blocks.now }
     ensures { IfSome result (λ place. (addr + more_of size < 2 ^ 32)
         × IsRun blocks.now addr (addr + more_of size) place.0 place.1) }
@@ -91,9 +107,24 @@ pub fn whole_of(blocks: &[Block], likely: usize, addr: u32, size: Size) -> Optio
                     return Some((likely, (addr - block.base) as usize));
                 }
             }
-            run_of(blocks, addr, last)
+            None
         }
         None => None,
+    }
+}
+
+/// The number of a size at an address, its low byte first, if blocks hold all of it, by a walk over them.
+#[inline(never)]
+fn value_by_walk(blocks: &[Block], addr: u32, size: Size) -> Option<u32>
+    ensures { MatchOption result (every (is_mapped (map region_of blocks.now)) addr size ≡ false)
+        (λ value. (every (is_mapped (map region_of blocks.now)) addr size ≡ true) × (value ≡ value_at (memory_of blocks.now) size addr)) }
+{
+    match whole_of(blocks, addr, size) {
+        Some((index, offset)) => {
+            let block = &blocks[index];
+            Some(number_in(&block.bytes, offset, size))
+        }
+        None => number_by_bytes(blocks, addr, size),
     }
 }
 
@@ -104,12 +135,12 @@ pub fn value_at(blocks: &[Block], likely: usize, addr: u32, size: Size) -> Optio
     ensures { MatchOption result (every (is_mapped (map region_of blocks.now)) addr size ≡ false)
         (λ value. (every (is_mapped (map region_of blocks.now)) addr size ≡ true) × (value ≡ value_at (memory_of blocks.now) size addr)) }
 {
-    match whole_of(blocks, likely, addr, size) {
+    match likely_whole(blocks, likely, addr, size) {
         Some((index, offset)) => {
             let block = &blocks[index];
             Some(number_in(&block.bytes, offset, size))
         }
-        None => number_by_bytes(blocks, addr, size),
+        None => value_by_walk(blocks, addr, size),
     }
 }
 
@@ -237,6 +268,26 @@ fn write_by_bytes(blocks: &mut [Block], addr: u32, size: Size, value: u32) -> Re
     Ok(())
 }
 
+/// Writes the low part of a number, of a size, at an address, its low byte first, by a walk over the blocks.
+#[inline(never)]
+fn write_by_walk(blocks: &mut [Block], addr: u32, size: Size, value: u32) -> Result<(), Refused>
+    ensures written { OnOk result (view_of blocks.new ≡ with_bytes (view_of blocks.old) (with_value (memory_of blocks.old) size addr value)) }
+    ensures takes { OnOk result (every (is_writable (map region_of blocks.old)) addr size ≡ true) }
+    ensures refused { OnErr result (every (is_writable (map region_of blocks.old)) addr size ≡ false) }
+    ensures cause { IfErr result (λ e. IsRefusal e (map region_of blocks.old) addr size) }
+    ensures kept { OnErr result (view_of blocks.new ≡ view_of blocks.old) }
+{
+    let Some((index, offset)) = whole_of(blocks, addr, size) else {
+        return write_by_bytes(blocks, addr, size, value);
+    };
+    let block = &mut blocks[index];
+    if !block.takes_writes() {
+        return Err(Refused::ReadOnly);
+    }
+    block.put(offset, size, value);
+    Ok(())
+}
+
 /// Writes the low part of a number, of a size, at an address, its low byte first.
 #[inline(always)]
 pub fn write_number(
@@ -253,8 +304,8 @@ pub fn write_number(
     ensures cause { IfErr result (λ e. IsRefusal e (map region_of blocks.old) addr size) }
     ensures kept { OnErr result (view_of blocks.new ≡ view_of blocks.old) }
 {
-    let Some((index, offset)) = whole_of(blocks, likely, addr, size) else {
-        return write_by_bytes(blocks, addr, size, value);
+    let Some((index, offset)) = likely_whole(blocks, likely, addr, size) else {
+        return write_by_walk(blocks, addr, size, value);
     };
     let block = &mut blocks[index];
     if !block.takes_writes() {
