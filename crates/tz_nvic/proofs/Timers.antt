@@ -1,13 +1,13 @@
 -- What a look finds doesn't depend on the timers; and a timer that doesn't count changes nothing.
-use Rattle.std.proofs.Common.{◌≡◌, ℕ, zero, suc, false, Option, Some, None, refl, ap, sym, ◌∙◌, arith}
+use Rattle.std.proofs.Common.{◌≡◌, ℕ, ◌<◌, ◌-◌, zero, suc, true, false, Option, Some, None, refl, ap, sym, ◌∙◌, arith}
 use Rattle.std.proofs.lemmas.Grind.{common_steps}
 use Rattle.tz_table.specs.declared.units.Side.{Side}
 use Rattle.tz_table.specs.declared.units.Side.TheVariants.{Secure, NonSecure}
 use Rattle.tz_state.specs.SlotChanges.{with_timer}
-use Rattle.tz_state.specs.Timers.{counts, counted_down, pended_by}
+use Rattle.tz_state.specs.Timers.{counts, counted_down, pended_by, ticked, ticked_ns}
 use Rattle.std.specs.Prelude.{min, if◌then◌else◌, IfSome}
 use Rattle.tz_state.specs.declared.slot.Timer.{Timer}
-use Rattle.tz_state.specs.Slots.{ExceptionsValue, exception_number, timer_of}
+use Rattle.tz_state.specs.Slots.{ExceptionsValue, exception_number, sys_tick_place_s, sys_tick_place_ns, timer_of}
 use Rattle.tz_state.specs.Priority.{rank_of, priority_of, subpriority_of, chosen_place}
 use Rattle.tz_state.specs.Execution.{is_active, active_below}
 use Rattle.tz_nvic.specs.declared.known.Known.{Known}
@@ -59,3 +59,13 @@ known_with_timers e s ns (Some k) h = still_known e s ns k h
 pub uncounted : (e : ExceptionsValue) (side : Side) (i : ℕ) → counts (timer_of e side) ≡ false → e ≡ with_timer (pended_by (timer_of e side) i e) side (counted_down (timer_of e side))
 uncounted e Secure i h = grind (arith, common_steps)
 uncounted e NonSecure i h = grind (arith, common_steps)
+
+-- a timer that counts and doesn't end goes down, and pends nothing
+pub counting : (e : ExceptionsValue) (side : Side) (i : ℕ) → counts (timer_of e side) ≡ true → 1 < (timer_of e side).cvr
+    → with_timer e side (record (timer_of e side) { cvr = (timer_of e side).cvr - 1 }) ≡ with_timer (pended_by (timer_of e side) i e) side (counted_down (timer_of e side))
+counting e Secure i h l = grind (arith, common_steps)
+counting e NonSecure i h l = grind (arith, common_steps)
+
+-- where neither timer counts, a tick changes nothing
+pub none_ticked : (e : ExceptionsValue) → counts e.timer_s ≡ false → counts e.timer_ns ≡ false → e ≡ ticked e
+none_ticked e s ns = uncounted e NonSecure sys_tick_place_ns ns ∙ ap ticked_ns (uncounted e Secure sys_tick_place_s s)

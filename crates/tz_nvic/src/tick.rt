@@ -68,25 +68,57 @@ impl Exceptions {
         }
     }
 
-    /// Counts the SysTick of a side, whose slot has this place.
-    #[tactic(auto, using(crate::proofs::Timers::uncounted))]
+    /// Counts the SysTick of a side, whose slot has this place, whatever its count is. Few steps come here.
+    #[inline(never)]
+    fn turn_side(&mut self, side: Side, index: usize)
+        requires { index < 272 }
+        ensures { self.new ≡ with_timer (pended_by (timer_of self.old side) index self.old) side (counted_down (timer_of self.old side)) }
+    {
+        let timer = self.timer(side);
+        self.pend_by(&timer, index);
+        self.put_timer(side, counted_down(&timer));
+    }
+
+    /// Counts the SysTick of a side, whose slot has this place. Where its count is above 1 that alone changes.
+    #[inline(always)]
+    #[tactic(auto, using(crate::proofs::Timers::uncounted, crate::proofs::Timers::counting))]
     fn tick_side(&mut self, side: Side, index: usize)
         requires { index < 272 }
         ensures { self.new ≡ with_timer (pended_by (timer_of self.old side) index self.old) side (counted_down (timer_of self.old side)) }
     {
         let timer = self.timer(side);
         if counts(&timer) {
-            self.pend_by(&timer, index);
-            self.put_timer(side, counted_down(&timer));
+            if timer.cvr > 1 {
+                let down = Timer {
+                    csr: timer.csr,
+                    rvr: timer.rvr,
+                    cvr: timer.cvr - 1,
+                };
+                self.put_timer(side, down);
+            } else {
+                self.turn_side(side, index);
+            }
         }
     }
 
-    /// Counts each enabled SysTick once. From 0 it begins anew at SYST_RVR; a count from 1 to 0 sets COUNTFLAG
-    /// and, with TICKINT, SysTick of its side pending.
-    pub fn tick(&mut self)
+    /// Counts each enabled SysTick once.
+    #[inline(never)]
+    fn tick_both(&mut self)
         ensures { self.new ≡ ticked self.old }
     {
         self.tick_side(Side::Secure, SYS_TICK_PLACE_S);
         self.tick_side(Side::NonSecure, SYS_TICK_PLACE_NS);
+    }
+
+    /// Counts each enabled SysTick once. From 0 it begins anew at SYST_RVR; a count from 1 to 0 sets COUNTFLAG
+    /// and, with TICKINT, SysTick of its side pending. It is always inlined, since in most steps no timer counts.
+    #[inline(always)]
+    #[tactic(auto, using(crate::proofs::Timers::none_ticked))]
+    pub fn tick(&mut self)
+        ensures { self.new ≡ ticked self.old }
+    {
+        if counts(&self.timer_s) || counts(&self.timer_ns) {
+            self.tick_both();
+        }
     }
 }
