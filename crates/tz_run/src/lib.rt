@@ -13,10 +13,12 @@ ghost use Rattle.tz_text.specs.Line.{line};
 ghost use Rattle.tz_twin.specs.Trace.{text_from};
 ghost use Rattle.tz_run.specs.Events.{events_of};
 
+mod due;
 mod images;
 mod job;
 mod tally;
 
+use due::due_at_step;
 pub use job::{Job, make_job};
 use std::marker::Brand;
 use std::sync::ledger::{Blank, Ledger};
@@ -121,8 +123,9 @@ fn run_counted<L: Ledger, O: Sink>(
     let mut looks = Steps::<L>::start(blank);
     let mut report = Report::new();
     let mut lines = Lines::new();
+    let mut next = 0;
     for step in first..first + steps {
-        let due = script.due(step, &mut looks);
+        let due = due_at_step(script, &mut next, step, &mut looks);
         know_typed(machine);
         machine.step_into(due, &mut report);
         if let Err(error) = put_line(&mut lines, &report, step, view, out) {
@@ -141,8 +144,9 @@ fn make_counted<L: Ledger>(blank: Blank, machine: &mut Machine, script: &Script,
 {
     let mut looks = Steps::<L>::start(blank);
     let mut report = Report::new();
+    let mut next = 0;
     for step in 0..steps {
-        let due = script.due(step, &mut looks);
+        let due = due_at_step(script, &mut next, step, &mut looks);
         machine.step_into(due, &mut report);
     }
 }

@@ -6,6 +6,7 @@ ghost use Rattle.tz_text.specs.Line.{is_hidden};
 ghost use Rattle.tz_run.specs.Events.{events_of};
 ghost use Rattle.tz_run.specs.Tallies.{shows_taken, shows_ran, tally_of};
 
+use crate::due::due_at_step;
 use std::marker::Brand;
 use std::sync::ledger::{Blank, Ledger};
 use tz_board::Script;
@@ -85,8 +86,9 @@ fn tally_counted<L: Ledger>(
         taken: 0,
         ran: 0,
     };
+    let mut next = 0;
     for step in 0..steps {
-        let due = script.due(step, &mut looks);
+        let due = due_at_step(script, &mut next, step, &mut looks);
         machine.step_into(due, &mut report);
         tally = with_step(tally, &report);
     }
