@@ -137,7 +137,12 @@ impl Machine {
     {
         match *insn {
             Insn::IfThen { .. } => {}
-            _ => self.core.registers.advance_it(),
+            _ => {
+                // Outside of IT blocks, where most code is, one test is less than what moves it on.
+                if self.core.registers.it != 0 {
+                    self.core.registers.advance_it();
+                }
+            }
         }
     }
 
@@ -345,7 +350,8 @@ impl Machine {
         ran_nothing(close, self.core.run.side == Side::Secure, Cause::Went);
     }
 
-    /// Whether the core goes on; a sleep that ends is over then.
+    /// Whether the core goes on; a sleep that ends is over then. It is always inlined, since most steps find no sleep.
+    #[inline(always)]
     fn rouse(&mut self) -> bool
         ensures does { by_sleep self.old.core.run.sleep self.old ≡ if result then instructs self.new else idles self.new }
         ensures kept { self.new.bus.memory ≡ self.old.bus.memory }

@@ -109,6 +109,7 @@ impl Machine {
     }
 
     /// Whether an exception ends a sleep, which a PRIMASK doesn't hinder.
+    #[inline(never)]
     pub(crate) fn is_woken(&self) -> bool
         ensures { result ≡ is_woken self.now }
     {
