@@ -487,7 +487,10 @@ impl Machine {
     {
         let start = self.core.running_side();
         stores.clear();
-        *noted = None;
+        // Few steps note anything, and to blank it takes more than to look.
+        if noted.is_some() {
+            *noted = None;
+        }
         let mut written = None;
         let mut moves = no_moves();
         self.start(due, &mut written, &mut moves);
