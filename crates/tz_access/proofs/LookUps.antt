@@ -1,9 +1,10 @@
 -- Look-ups are what the definitions say: those of a block that are made of one of its bytes, and all places after
 -- one more is kept.
-use Rattle.std.proofs.Common.{◌≡◌, ℕ, zero, suc, ◌/◌, ◌%◌, ◌^◌, ◌<◌, ◌⊎◌, inl, inr, ⊎_elim, Bool, true, false, ◌&&◌, ◌||◌, List, [], ◌∷◌, Option, None, Some, set, get_or, replicate, refl, sym, ap, ◌∙◌, subst, arith}
-use Rattle.std.specs.Prelude.{slice_set}
+use Rattle.std.proofs.Common.{◌≡◌, ℕ, zero, suc, ◌≤◌, ◌/◌, ◌%◌, ◌^◌, ◌<◌, ◌⊎◌, inl, inr, ⊎_elim, Bool, true, false, ◌&&◌, ◌||◌, List, [], ◌∷◌, Option, None, Some, length, set, get_or, replicate, refl, sym, ap, ◌∙◌, subst, arith}
+use Rattle.std.specs.Prelude.{IfSome, MatchOption, slice_index_or, slice_set}
 use Rattle.std.specs.Option.{is_some}
 use Rattle.std.proofs.lemmas.Bool.Decides.{nat_tests}
+use Rattle.std.proofs.lemmas.List.{get_or_past}
 use Rattle.tz_table.specs.declared.units.Side.{Side}
 use Rattle.tz_table.specs.declared.units.Side.TheVariants.{Secure, NonSecure}
 use Rattle.tz_model.specs.Board.{are_regions}
@@ -19,6 +20,7 @@ use Rattle.tz_mpu.specs.Units as mpus
 use Rattle.tz_mpu.specs.Units.{MpuValue}
 use Rattle.tz_access.specs.declared.look_up.Who.{Who}
 use Rattle.tz_access.specs.declared.look_up.LookUp.{LookUp}
+use Rattle.tz_access.specs.declared.look_up.LookUps.{LookUps}
 use Rattle.tz_table.specs.declared.units.Size.{Size}
 use Rattle.tz_state.specs.declared.request.Request.{Request}
 use Rattle.tz_state.specs.Memory.{every}
@@ -27,6 +29,7 @@ use Rattle.tz_state.specs.State.{Bus, mpu_of}
 use Rattle.tz_state.specs.Access.{may_touch, is_let, lets, is_private}
 use Rattle.tz_access.specs.Checks.{IsByBlocks, last_of}
 use Rattle.tz_access.specs.Keys.{key_of, who_of}
+use Rattle.tz_access.specs.Places.{none_kept, places_for, or_else, kept_at, with_look_up, who_accesses, IsHeld, Holds}
 use Rattle.tz_access.specs.LookUps.{Guards, admits_by, admits_data, grants, Tells, IsSeen, AreSeen}
 use Rattle.tz_access.proofs.Blocks.{every_by_ends, open_by_blocks, own_by_blocks, lets_by_blocks, permission_blocks}
 
@@ -123,12 +126,28 @@ same_at o zero index = refl
 same_at o (suc n) zero = refl
 same_at o (suc n) (suc index) = same_at o n index
 
+-- what is kept, of blocks as data and as code
+abbrev BothSeen : Guards → LookUps → Type 0
+BothSeen g kept = AreSeen g kept.data_places × AreSeen g kept.code_places
+
+data_same : (k l : LookUps) → k ≡ l → k.data_places ≡ l.data_places
+data_same k l e = ap (λ (m : LookUps). m.data_places) e
+
+code_same : (k l : LookUps) → k ≡ l → k.code_places ≡ l.code_places
+code_same k l e = ap (λ (m : LookUps). m.code_places) e
+
+same_seen : (g : Guards) (places after : List (Option LookUp)) → after ≡ places → AreSeen g places → AreSeen g after
+same_seen g places after e are = subst (λ (ps : List (Option LookUp)). AreSeen g ps) (sym e) are
+
 -- where nothing is kept
-none_seen : (g : Guards) (places : List (Option LookUp)) → places ≡ replicate 16 None → AreSeen g places
-none_seen g places e = record {
+nothing_seen : (g : Guards) (places : List (Option LookUp)) → places ≡ replicate 16 None → AreSeen g places
+nothing_seen g places e = record {
   place = λ index k at. absurd (none_is_some k (sym (same_at None 16 index) ∙ ap (λ (ps : List (Option LookUp)). get_or ps index None) (sym e) ∙ at));
   seen = λ index k at. absurd (none_is_some k (sym (same_at None 16 index) ∙ ap (λ (ps : List (Option LookUp)). get_or ps index None) (sym e) ∙ at));
 }
+
+pub none_seen : (g : Guards) (kept : LookUps) → kept ≡ none_kept → BothSeen g kept
+none_seen g kept e = (nothing_seen g kept.data_places (data_same kept none_kept e), nothing_seen g kept.code_places (code_same kept none_kept e))
 
 -- what stands at a place after a write is what was written, there, or what stood there
 at_set : (places : List (Option LookUp)) (i j : ℕ) (k e : LookUp) → get_or (set places i (Some k)) j None ≡ Some e → ((j ≡ i) × (k ≡ e)) ⊎ (get_or places j None ≡ Some e)
@@ -139,8 +158,8 @@ at_set (p ∷ ps) (suc i) zero k e at = inr at
 at_set (p ∷ ps) (suc i) (suc j) k e at = ⊎_elim (λ same. inl (ap suc same.0, same.1)) (λ old. inr old) (at_set ps i j k e at)
 
 -- one more is kept
-pub more_seen : (g : Guards) (places after : List (Option LookUp)) (k : LookUp) → after ≡ slice_set places (k.block % 16) (Some k) → AreSeen g places → IsSeen g k → AreSeen g after
-more_seen g places after k e are is = record {
+one_more_seen : (g : Guards) (places after : List (Option LookUp)) (k : LookUp) → after ≡ slice_set places (k.block % 16) (Some k) → AreSeen g places → IsSeen g k → AreSeen g after
+one_more_seen g places after k e are is = record {
   place = λ index other at.
       ⊎_elim (λ same. ap (λ (l : LookUp). l.block % 16) (sym same.1) ∙ sym same.0) (λ old. are.place index other old)
       (at_set places (k.block % 16) index k other (ap (λ (ps : List (Option LookUp)). get_or ps index None) (sym e) ∙ at));
@@ -149,11 +168,47 @@ more_seen g places after k e are is = record {
       (at_set places (k.block % 16) index k other (ap (λ (ps : List (Option LookUp)). get_or ps index None) (sym e) ∙ at));
 }
 
+pub more_seen : (g : Guards) (fetch : Bool) (kept after : LookUps) (k : LookUp) → after ≡ with_look_up fetch kept k → AreSeen g kept.data_places → AreSeen g kept.code_places → IsSeen g k → BothSeen g after
+more_seen g true kept after k e of_data of_code is =
+    (same_seen g kept.data_places after.data_places (data_same after (with_look_up true kept k) e) of_data, one_more_seen g kept.code_places after.code_places k (code_same after (with_look_up true kept k) e) of_code is)
+more_seen g false kept after k e of_data of_code is =
+    (one_more_seen g kept.data_places after.data_places k (data_same after (with_look_up false kept k) e) of_data is, same_seen g kept.code_places after.code_places (code_same after (with_look_up false kept k) e) of_code)
+
 -- registers of a unit may have been written: where that is told, nothing is kept any more
-pub changed_seen : (g h : Guards) (changed : Bool) (places after : List (Option LookUp)) → (changed ≡ false → g ≡ h) → (changed ≡ true → after ≡ replicate 16 None) → (changed ≡ false → after ≡ places) → AreSeen g places → AreSeen h after
-changed_seen g h true places after same emptied left are = none_seen h after (emptied refl)
-changed_seen g h false places after same emptied left are =
-    subst (λ (i : Guards). AreSeen i after) (same refl) (subst (λ (ps : List (Option LookUp)). AreSeen g ps) (sym (left refl)) are)
+pub changed_seen : (g h : Guards) (changed : Bool) (kept after : LookUps) → (changed ≡ false → g ≡ h) → (changed ≡ true → after ≡ none_kept) → (changed ≡ false → after ≡ kept) → AreSeen g kept.data_places → AreSeen g kept.code_places → BothSeen h after
+changed_seen g h true kept after same emptied left of_data of_code = none_seen h after (emptied refl)
+changed_seen g h false kept after same emptied left of_data of_code =
+    subst (λ (i : Guards). BothSeen i after) (same refl)
+    (same_seen g kept.data_places after.data_places (data_same after kept (left refl)) of_data, same_seen g kept.code_places after.code_places (code_same after kept (left refl)) of_code)
+
+-- what is found among the places of blocks as code, or as data
+pub found_seen : (g : Guards) (kept : LookUps) (fetch : Bool) (index : ℕ) (k : LookUp) → AreSeen g kept.data_places → AreSeen g kept.code_places → slice_index_or (places_for fetch kept) index None ≡ Some k → IsSeen g k
+found_seen g kept true index k of_data of_code at = of_code.seen index k at
+found_seen g kept false index k of_data of_code at = of_data.seen index k at
+
+pub found_tells : (g : Guards) (kept : LookUps) (who : Who) (a : ℕ) (found : Option LookUp) → AreSeen g kept.data_places → AreSeen g kept.code_places → IfSome found (λ k. IsHeld kept who (a / 32) k) → IfSome found (λ k. Tells g who a k)
+found_tells g kept who a None of_data of_code is = tt
+found_tells g kept who a (Some k) of_data of_code is =
+    subst (λ (w : Who). Tells g w a k) is.2 ((found_seen g kept who.fetch (a / 32 % 16) k of_data of_code is.0).tells a (sym is.1))
+
+-- what is told of a place is of one of its blocks, and was seen
+pub told_seen : (g : Guards) (kept : LookUps) (index : ℕ) (k : LookUp) → AreSeen g kept.data_places → AreSeen g kept.code_places → kept_at kept index ≡ Some k → (k.block % 16 ≡ index) × IsSeen g k
+told_seen g kept index k of_data of_code at = by (slice_index_or kept.data_places index None) refl at where
+  by : (o : Option LookUp) → slice_index_or kept.data_places index None ≡ o → or_else o (slice_index_or kept.code_places index None) ≡ Some k → (k.block % 16 ≡ index) × IsSeen g k
+  by None e f = (of_code.place index k f, of_code.seen index k f)
+  by (Some x) e f = (of_data.place index k (e ∙ f), of_data.seen index k (e ∙ f))
+
+-- there are 16 places
+pub none_past : (kept : LookUps) (index : ℕ) → length kept.data_places ≡ 16 → length kept.code_places ≡ 16 → 16 ≤ index → kept_at kept index ≡ None
+none_past kept index many as_many past =
+    ap (λ (o : Option LookUp). or_else o (slice_index_or kept.code_places index None)) (get_or_past kept.data_places index None (omega arith))
+    ∙ get_or_past kept.code_places index None (omega arith)
+
+-- the look-up of an access, found as data
+pub holds_held : (kept : LookUps) (q : Request) (one : LookUp) → IsHeld kept (who_accesses q) (q.addr / 32) one → Holds kept q
+holds_held kept q one is = record {
+  held = subst (λ (o : Option LookUp). MatchOption o ⊥ (λ (l : LookUp). (l.block ≡ q.addr / 32) × (who_of l.key ≡ who_accesses q))) (sym is.0) (is.1, is.2);
+}
 
 -- ---- a write at an address, after which it is asked whether a register was written: what isn't told as written stays
 

@@ -1,8 +1,10 @@
-pub mod Registers
 pub mod Checks
-pub mod Written
-pub mod Units
-pub mod Permitted
-pub mod LookUps
 pub mod Kept
 pub mod Keys
+pub mod LookUps
+pub mod Permitted
+pub mod Places
+pub mod Registers
+pub mod Seen
+pub mod Units
+pub mod Written

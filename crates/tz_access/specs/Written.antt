@@ -1,5 +1,5 @@
 -- What stores overwrote, and memory as it was before them.
-use Rattle.std.specs.Prelude.{ℕ, ◌-◌, List, [], ◌∷◌, Option, Some, None}
+use Rattle.std.specs.Prelude.{ℕ, List, [], ◌∷◌, Option, Some, None}
 use Rattle.arrayvec.specs.ArrayVec.{ArrayVec, array_vec_len}
 use Rattle.tz_state.specs.Memory.{Memory, with_value}
 use Rattle.tz_access.specs.declared.written.Was.{Was}

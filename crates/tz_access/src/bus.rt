@@ -35,21 +35,23 @@ impl Model for Bus {
     ghost use Rattle.std.specs.Coded.{codes, coded_ℕ};
     ghost use Rattle.std.specs.FinMap as map;
     ghost use Rattle.std.specs.Ordering.{nat_cmp};
-    ghost use Rattle.tz_model.specs.Board.{IsBoard};
-    ghost use Rattle.tz_state.specs.State as state;
     ghost use Rattle.tz_access.specs.LookUps.{AreSeen, guards_by};
+    ghost use Rattle.tz_access.specs.Seen.{BusValue};
 
-    ghost Value = { state.Bus };
+    ghost Value = { BusValue };
 
     ghost coded = { Prim.hlevel (codes, map.code {R = nat_cmp} coded_ℕ coded_ℕ) };
 
     ghost view = { λ b. record {
-      sau = b.sau.sau;
-      mpu_s = b.mpu_s.mpu;
-      mpu_ns = b.mpu_ns.mpu;
-      monitor = b.monitor;
-      memory = b.memory.bytes;
-      board = b.board;
+      state = record {
+        sau = b.sau.sau;
+        mpu_s = b.mpu_s.mpu;
+        mpu_ns = b.mpu_ns.mpu;
+        monitor = b.monitor;
+        memory = b.memory.bytes;
+        board = b.board;
+      };
+      kept = b.kept;
     } };
 
     ghost invariant = { λ b.
@@ -57,7 +59,8 @@ impl Model for Bus {
         × (b.sau.regions ≡ b.board.regions)
         × (b.mpu_s.profile ≡ b.board.profile)
         × (b.mpu_ns.profile ≡ b.board.profile)
-        × AreSeen (guards_by b.board b.sau.sau b.mpu_s.mpu b.mpu_ns.mpu) b.kept.places };
+        × AreSeen (guards_by b.board b.sau.sau b.mpu_s.mpu b.mpu_ns.mpu) b.kept.data_places
+        × AreSeen (guards_by b.board b.sau.sau b.mpu_s.mpu b.mpu_ns.mpu) b.kept.code_places };
 }
 
 impl Bus {
@@ -67,7 +70,7 @@ impl Bus {
     ///
     /// `AllocError` where memory runs out.
     pub fn new(alloc: Global, board: &Board) -> Result<Bus, AllocError>
-        ensures { IfOk result (λ b. b ≡ reset_bus board.now (zero_memory board.now.regions)) }
+        ensures { IfOk result (λ b. b.state ≡ reset_bus board.now (zero_memory board.now.regions)) }
     {
         let memory = Memory::new(alloc, board)?;
         let copy = board.duplicate(alloc)?;
@@ -89,8 +92,8 @@ impl Bus {
     /// `NotMapped` where no region holds some byte of it.
     pub fn read(&self, addr: u32, size: Size) -> Result<u32, NotMapped>
         ensures { MatchResult result
-            (λ value. (every (is_mapped self.now.board.regions) addr size ≡ true) × (value ≡ value_at self.now.memory size addr))
-            (λ _. every (is_mapped self.now.board.regions) addr size ≡ false) }
+            (λ value. (every (is_mapped self.now.state.board.regions) addr size ≡ true) × (value ≡ value_at self.now.state.memory size addr))
+            (λ _. every (is_mapped self.now.state.board.regions) addr size ≡ false) }
     {
         self.memory.read(addr, size)
     }
@@ -101,12 +104,13 @@ impl Bus {
     ///
     /// `NotMapped` where no region holds some byte, `ReadOnly` where regions hold all bytes and that of some
     /// byte is `rom`; nothing changes then.
+    #[inline(always)]
     pub fn write(&mut self, addr: u32, size: Size, value: u32) -> Result<(), Refused>
-        ensures written { OnOk result (self.new ≡ with_memory self.old (with_value self.old.memory size addr value)) }
-        ensures takes { OnOk result (every (is_writable self.old.board.regions) addr size ≡ true) }
-        ensures refused { OnErr result (every (is_writable self.old.board.regions) addr size ≡ false) }
-        ensures cause { IfErr result (λ e. IsRefusal e self.old.board.regions addr size) }
-        ensures kept { OnErr result (self.new ≡ self.old) }
+        ensures written { OnOk result (self.new.state ≡ with_memory self.old.state (with_value self.old.state.memory size addr value)) }
+        ensures takes { OnOk result (every (is_writable self.old.state.board.regions) addr size ≡ true) }
+        ensures refused { OnErr result (every (is_writable self.old.state.board.regions) addr size ≡ false) }
+        ensures cause { IfErr result (λ e. IsRefusal e self.old.state.board.regions addr size) }
+        ensures kept { OnErr result (self.new.state ≡ self.old.state) }
     {
         self.memory.write(addr, size, value)
     }
@@ -118,37 +122,37 @@ impl Bus {
     /// `NotMapped` where no region holds the address; nothing changes then.
     pub fn place(&mut self, addr: u32, byte: u8) -> Result<(), NotMapped>
         ensures { MatchResult result
-            (λ _. (is_mapped self.old.board.regions addr ≡ true) × (self.new ≡ with_memory self.old (with_byte self.old.memory addr byte)))
-            (λ _. (is_mapped self.old.board.regions addr ≡ false) × (self.new ≡ self.old)) }
+            (λ _. (is_mapped self.old.state.board.regions addr ≡ true) × (self.new.state ≡ with_memory self.old.state (with_byte self.old.state.memory addr byte)))
+            (λ _. (is_mapped self.old.state.board.regions addr ≡ false) × (self.new.state ≡ self.old.state)) }
     {
         self.memory.place(addr, byte)
     }
 
     /// Puts the bytes of a segment of an image, in `rom` too. Bytes that no region holds are left out.
     pub fn put_segment(&mut self, segment: &Segment)
-        ensures { self.new ≡ with_memory self.old (with_bytes self.old.memory segment.now.base segment.now.bytes) }
+        ensures { self.new.state ≡ with_memory self.old.state (with_bytes self.old.state.memory segment.now.base segment.now.bytes) }
     {
         self.memory.put_segment(segment);
     }
 
     pub fn board(&self) -> &Board
-        ensures { result.now ≡ self.now.board }
+        ensures { result.now ≡ self.now.state.board }
     {
         &self.board
     }
 
     /// The SAU, with the board's regions.
     pub fn sau(&self) -> &Sau
-        ensures regions { result.now.regions ≡ self.now.board.regions }
-        ensures sau { result.now.sau ≡ self.now.sau }
+        ensures regions { result.now.regions ≡ self.now.state.board.regions }
+        ensures sau { result.now.sau ≡ self.now.state.sau }
     {
         &self.sau
     }
 
     /// The MPU of a side.
     pub fn mpu(&self, side: Side) -> &Mpu
-        ensures profile { result.now.profile ≡ self.now.board.profile }
-        ensures mpu { result.now.mpu ≡ mpu_of side self.now }
+        ensures profile { result.now.profile ≡ self.now.state.board.profile }
+        ensures mpu { result.now.mpu ≡ mpu_of side self.now.state }
     {
         match side {
             Side::Secure => &self.mpu_s,

@@ -1,11 +1,12 @@
 //! Data accesses: alignment, attribution, protection, the map, in this order.
 
-ghost use Rattle.std.specs.Prelude.{◌≡◌, ◌+◌, ◌<◌, ◌≤◌, MatchResult, None, Some, if◌then◌else◌};
+ghost use Rattle.std.specs.Prelude.{◌≡◌, ◌+◌, ◌/◌, ◌<◌, ◌≤◌, MatchResult, None, Some, true, false, if◌then◌else◌};
 ghost use Rattle.tz_state.specs.declared.request.Kind.TheVariants.{Read, Write};
 ghost use Rattle.tz_state.specs.Memory.{every, value_at, with_value};
 ghost use Rattle.tz_state.specs.State.{map_in, with_memory};
-ghost use Rattle.tz_state.specs.Access.{is_aligned, is_crooked, may_touch, is_let, lets, is_accessible, is_private, verdict, request_by};
-ghost use Rattle.tz_access.specs.Checks.{is_system, place_verdict};
+ghost use Rattle.tz_state.specs.Access.{is_aligned, is_crooked, may_touch, is_let, is_accessible, is_private, verdict, request_by};
+ghost use Rattle.tz_access.specs.Checks.{is_system, last_of, place_verdict};
+ghost use Rattle.tz_access.specs.Places.{Holds};
 ghost use Rattle.tz_access.specs.Written.{before_stores, noted_count};
 
 use crate::bus::Bus;
@@ -63,7 +64,7 @@ impl Bus {
     #[tactic(auto, unfolding(tz_state::specs::Access::may_touch))]
     #[inline(never)]
     pub fn may_touch(&self, side: Side, size: Size, addr: u32) -> bool
-        ensures { result ≡ may_touch (map_in self.now) side size addr }
+        ensures { result ≡ may_touch (map_in self.now.state) side size addr }
     {
         match side {
             Side::Secure => true,
@@ -78,7 +79,7 @@ impl Bus {
     #[tactic(auto, using(crate::proofs::Blocks::every_by_ends), unfolding(tz_state::specs::Access::is_let))]
     #[inline(never)]
     pub(crate) fn is_let(&self, request: &Request) -> bool
-        ensures { result ≡ is_let self.now request.now }
+        ensures { result ≡ is_let self.now.state request.now }
     {
         let last = last_of(request.size, request.addr);
         self.lets(request, request.addr)
@@ -87,7 +88,7 @@ impl Bus {
 
     /// Whether the map takes each byte of an access.
     fn all_taken(&self, kind: Kind, size: Size, addr: u32) -> bool
-        ensures { result ≡ every (is_accessible self.now.board.regions kind) addr size }
+        ensures { result ≡ every (is_accessible self.now.state.board.regions kind) addr size }
     {
         let last = last_of(size, addr);
         self.is_accessible(kind, addr)
@@ -99,9 +100,10 @@ impl Bus {
     #[inline(always)]
     fn guard(&mut self, request: &Request) -> Result<Place, Fault>
         ensures verdict { MatchResult result
-            (λ place. (verdict self.old request.now ≡ place_verdict place self.old request.now) × (is_system place ≡ is_private request.now.addr))
-            (λ fault. verdict self.old request.now ≡ Some fault) }
-        ensures kept { self.new ≡ self.old }
+            (λ place. (verdict self.old.state request.now ≡ place_verdict place self.old.state request.now) × (is_system place ≡ is_private request.now.addr))
+            (λ fault. verdict self.old.state request.now ≡ Some fault) }
+        ensures holds { request.now.addr < 0xE0000000 → request.now.addr / 32 ≡ last_of request.now.size request.now.addr / 32 → is_crooked request.now.size request.now.addr request.now.must_align ≡ false → Holds self.new.kept request.now }
+        ensures kept { self.new.state ≡ self.old.state }
     {
         let addr = request.addr;
         if is_crooked(request.size, addr, request.must_align) {
@@ -124,16 +126,18 @@ impl Bus {
     }
 
     /// All checks of an access (DDI0553, `MemA`, `MemU`), in their order: alignment, attribution, protection,
-    /// the map. Ok tells where its bytes are. It reads and changes nothing.
+    /// the map. Ok tells where its bytes are. It reads no byte and changes nothing but what is kept: where the bytes
+    /// lie in one block below private space, that is the look-up for this access, unless it is refused as unaligned.
     ///
     /// # Errors
     ///
     /// UNALIGNED, AUVIOL, DACCVIOL or PRECISERR, the first check that fails.
     pub fn check(&mut self, request: &Request) -> Result<Place, Fault>
+        ensures holds { request.now.addr < 0xE0000000 → request.now.addr / 32 ≡ last_of request.now.size request.now.addr / 32 → is_crooked request.now.size request.now.addr request.now.must_align ≡ false → Holds self.new.kept request.now }
         ensures verdict { MatchResult result
-            (λ place. (verdict self.old request.now ≡ None) × (is_system place ≡ is_private request.now.addr))
-            (λ fault. verdict self.old request.now ≡ Some fault) }
-        ensures kept { self.new ≡ self.old }
+            (λ place. (verdict self.old.state request.now ≡ None) × (is_system place ≡ is_private request.now.addr))
+            (λ fault. verdict self.old.state request.now ≡ Some fault) }
+        ensures kept { self.new.state ≡ self.old.state }
     {
         match self.guard(request)? {
             Place::System => Ok(Place::System),
@@ -152,6 +156,7 @@ impl Bus {
     /// # Errors
     ///
     /// UNALIGNED, AUVIOL, DACCVIOL or PRECISERR, the first check that fails.
+    #[inline(always)]
     pub fn load(
         &mut self,
         asker: &Asker,
@@ -161,9 +166,9 @@ impl Bus {
         user: bool,
     ) -> Result<Option<u32>, Fault>
         ensures answer { MatchResult result
-            (λ found. (verdict self.old (request_by asker.now Read size addr must_align user) ≡ None) × (found ≡ (if is_private addr then None else Some (value_at self.old.memory size addr))))
-            (λ fault. verdict self.old (request_by asker.now Read size addr must_align user) ≡ Some fault) }
-        ensures kept { self.new ≡ self.old }
+            (λ found. (verdict self.old.state (request_by asker.now Read size addr must_align user) ≡ None) × (found ≡ (if is_private addr then None else Some (value_at self.old.state.memory size addr))))
+            (λ fault. verdict self.old.state (request_by asker.now Read size addr must_align user) ≡ Some fault) }
+        ensures kept { self.new.state ≡ self.old.state }
     {
         let request = request_by(asker, Kind::Read, size, addr, must_align, user);
         match self.guard(&request)? {
@@ -182,6 +187,7 @@ impl Bus {
     /// # Errors
     ///
     /// UNALIGNED, AUVIOL, DACCVIOL or PRECISERR, the first check that fails.
+    #[inline(always)]
     pub fn store(
         &mut self,
         asker: &Asker,
@@ -194,10 +200,11 @@ impl Bus {
     ) -> Result<Place, Fault>
         requires room { noted_count written.old < 40 }
         ensures answer { MatchResult result
-            (λ place. (verdict self.old (request_by asker.now Write size addr must_align user) ≡ None) × (is_system place ≡ is_private addr) × (self.new ≡ (if is_private addr then self.old else with_memory self.old (with_value self.old.memory size addr value))))
-            (λ fault. (verdict self.old (request_by asker.now Write size addr must_align user) ≡ Some fault) × (self.new ≡ self.old)) }
-        ensures noted { before_stores written.new self.new.memory ≡ before_stores written.old self.old.memory }
+            (λ place. (verdict self.old.state (request_by asker.now Write size addr must_align user) ≡ None) × (is_system place ≡ is_private addr) × (self.new.state ≡ (if is_private addr then self.old.state else with_memory self.old.state (with_value self.old.state.memory size addr value))))
+            (λ fault. (verdict self.old.state (request_by asker.now Write size addr must_align user) ≡ Some fault) × (self.new.state ≡ self.old.state)) }
+        ensures noted { before_stores written.new self.new.state.memory ≡ before_stores written.old self.old.state.memory }
         ensures few { noted_count written.new ≤ noted_count written.old + 1 }
+        ensures unnoted { is_private addr ≡ true → written.new ≡ written.old }
     {
         let request = request_by(asker, Kind::Write, size, addr, must_align, user);
         match self.guard(&request)? {

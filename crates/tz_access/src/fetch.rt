@@ -1,9 +1,9 @@
 //! Fetches (DDI0553, `FetchInstr`).
 
-ghost use Rattle.std.specs.Prelude.{◌≡◌, ◌+◌, true, false, MatchOption, MatchResult, None, Some};
+ghost use Rattle.std.specs.Prelude.{◌≡◌, ◌+◌, true, false};
 ghost use Rattle.tz_model.specs.Words.{wrap};
 ghost use Rattle.tz_state.specs.Attribution.{fetch_attribution};
-ghost use Rattle.tz_state.specs.Fetch.{is_own_byte, is_own_fetch, is_runnable, wrong_side, lets_run, own_fetch, is_entry as is_entry_at, gateway_fetch, is_entry_fault, fetch, needs_second, narrow, wide};
+ghost use Rattle.tz_state.specs.Fetch.{is_own_byte, is_own_fetch, is_runnable, wrong_side, own_fetch, is_entry as is_entry_at, gateway_fetch, is_entry_fault, fetch, narrow, wide};
 ghost use Rattle.tz_state.specs.declared.request.Kind.TheVariants as kinds;
 ghost use Rattle.tz_state.specs.Protection.{permits};
 ghost use Rattle.tz_state.specs.State.{map_in, mpu_of};
@@ -85,7 +85,7 @@ fn who_fetches(fetcher: &Fetcher) -> Who
 impl Bus {
     /// Fetches are of a side by blocks.
     fn know_own(&self, side: Side)
-        ensures { IsByBlocks (is_own_byte (map_in self.now) side) }
+        ensures { IsByBlocks (is_own_byte (map_in self.now.state) side) }
     {
         self.know_regions();
         let _side = side;
@@ -94,7 +94,7 @@ impl Bus {
     /// Whether both bytes of a halfword are of the side that fetches it.
     #[tactic(auto, unfolding(tz_state::specs::Fetch::is_own_fetch))]
     pub fn is_own_fetch(&self, side: Side, addr: u32) -> bool
-        ensures { result ≡ is_own_fetch (map_in self.now) side addr }
+        ensures { result ≡ is_own_fetch (map_in self.now.state) side addr }
     {
         self.is_own_rest(side, addr, self.sau.fetch_attribution(side, addr))
     }
@@ -102,8 +102,8 @@ impl Bus {
     /// Whether both bytes of a halfword are of the side that fetches it, by the attribution of its first.
     #[tactic(auto, unfolding(tz_state::specs::Fetch::is_own_fetch))]
     fn is_own_rest(&self, side: Side, addr: u32, attributed: RegionSide) -> bool
-        requires { attributed ≡ fetch_attribution (map_in self.now) side addr }
-        ensures { result ≡ is_own_fetch (map_in self.now) side addr }
+        requires { attributed ≡ fetch_attribution (map_in self.now.state) side addr }
+        ensures { result ≡ is_own_fetch (map_in self.now.state) side addr }
     {
         is_own(side, attributed) && self.is_own_last(side, addr)
     }
@@ -111,8 +111,8 @@ impl Bus {
     /// Whether both bytes of a halfword are of the side that fetches it, where its first is.
     #[tactic(auto, unfolding(tz_state::specs::Fetch::is_own_fetch))]
     fn is_own_last(&self, side: Side, addr: u32) -> bool
-        requires { is_own_byte (map_in self.now) side addr ≡ true }
-        ensures { result ≡ is_own_fetch (map_in self.now) side addr }
+        requires { is_own_byte (map_in self.now.state) side addr ≡ true }
+        ensures { result ≡ is_own_fetch (map_in self.now.state) side addr }
     {
         self.know_own(side);
         let last = addr.wrapping_add(1);
@@ -122,8 +122,8 @@ impl Bus {
     /// Whether the second halfword at PC is of the side that fetches it, where the first is.
     #[tactic(auto, using(crate::proofs::Blocks::second_in_block), unfolding(tz_state::specs::Fetch::is_own_fetch))]
     fn is_second_own(&self, side: Side, pc: u32) -> bool
-        requires { is_own_fetch (map_in self.now) side pc ≡ true }
-        ensures { result ≡ is_own_fetch (map_in self.now) side (wrap (pc + 2)) }
+        requires { is_own_fetch (map_in self.now.state) side pc ≡ true }
+        ensures { result ≡ is_own_fetch (map_in self.now.state) side (wrap (pc + 2)) }
     {
         self.know_own(side);
         is_one_block(pc, pc.wrapping_add(3)) || self.is_own_fetch(side, pc.wrapping_add(2))
@@ -132,7 +132,7 @@ impl Bus {
     /// Whether the MPU of a side lets code run at both bytes of a halfword.
     #[tactic(auto, unfolding(tz_state::specs::Fetch::is_runnable))]
     fn is_runnable(&self, side: Side, privileged: bool, negative: bool, addr: u32) -> bool
-        ensures { result ≡ is_runnable self.now side privileged negative addr }
+        ensures { result ≡ is_runnable self.now.state side privileged negative addr }
     {
         let last = addr.wrapping_add(1);
         self.lets_run(side, privileged, negative, addr)
@@ -143,8 +143,8 @@ impl Bus {
     /// permits at the first.
     #[tactic(auto, unfolding(tz_state::specs::Fetch::is_runnable))]
     fn is_runnable_rest(&self, fetcher: &Fetcher, pc: u32, permitted: bool) -> bool
-        requires { permitted ≡ permits self.now.board.profile (mpu_of fetcher.now.side self.now) pc kinds.Fetch fetcher.now.privileged fetcher.now.negative }
-        ensures { result ≡ is_runnable self.now fetcher.now.side fetcher.now.privileged fetcher.now.negative pc }
+        requires { permitted ≡ permits self.now.state.board.profile (mpu_of fetcher.now.side self.now.state) pc kinds.Fetch fetcher.now.privileged fetcher.now.negative }
+        ensures { result ≡ is_runnable self.now.state fetcher.now.side fetcher.now.privileged fetcher.now.negative pc }
     {
         let Fetcher {
             side,
@@ -161,8 +161,8 @@ impl Bus {
     /// Whether the MPU lets code run at the second halfword at PC, where it does at the first.
     #[tactic(auto, unfolding(tz_state::specs::Fetch::is_runnable))]
     fn is_second_runnable(&self, side: Side, privileged: bool, negative: bool, pc: u32) -> bool
-        requires { is_runnable self.now side privileged negative pc ≡ true }
-        ensures { result ≡ is_runnable self.now side privileged negative (wrap (pc + 2)) }
+        requires { is_runnable self.now.state side privileged negative pc ≡ true }
+        ensures { result ≡ is_runnable self.now.state side privileged negative (wrap (pc + 2)) }
     {
         is_one_block(pc, pc.wrapping_add(3))
             || self.is_runnable(side, privileged, negative, pc.wrapping_add(2))
@@ -170,8 +170,8 @@ impl Bus {
 
     /// Whether Non-secure code may enter at the second halfword at PC, where it may at the first.
     fn is_second_entry(&self, pc: u32) -> bool
-        requires { is_entry_at (map_in self.now) pc ≡ true }
-        ensures { result ≡ is_entry_at (map_in self.now) (wrap (pc + 2)) }
+        requires { is_entry_at (map_in self.now.state) pc ≡ true }
+        ensures { result ≡ is_entry_at (map_in self.now.state) (wrap (pc + 2)) }
     {
         self.know_regions();
         let next = pc.wrapping_add(2);
@@ -184,9 +184,9 @@ impl Bus {
     #[tactic(auto, unfolding(tz_state::specs::Fetch::own_fetch, tz_state::specs::Fetch::half_verdict))]
     #[inline(always)]
     fn own_fetch(&self, fetcher: &Fetcher, pc: u32, permitted: bool) -> Result<Fetched, Fault>
-        requires own { is_own_fetch (map_in self.now) fetcher.now.side pc ≡ true }
-        requires permitted { permitted ≡ permits self.now.board.profile (mpu_of fetcher.now.side self.now) pc kinds.Fetch fetcher.now.privileged fetcher.now.negative }
-        ensures { result ≡ own_fetch self.now fetcher.now pc }
+        requires own { is_own_fetch (map_in self.now.state) fetcher.now.side pc ≡ true }
+        requires permitted { permitted ≡ permits self.now.state.board.profile (mpu_of fetcher.now.side self.now.state) pc kinds.Fetch fetcher.now.privileged fetcher.now.negative }
+        ensures { result ≡ own_fetch self.now.state fetcher.now pc }
     {
         let Fetcher {
             side,
@@ -220,8 +220,8 @@ impl Bus {
     /// `is_entry` tells it of the first two.
     #[tactic(auto, unfolding(tz_state::specs::Fetch::gateway_fetch))]
     fn gateway_fetch(&self, fetcher: &Fetcher, pc: u32, is_entry: bool) -> Result<Fetched, Fault>
-        requires { is_entry ≡ is_entry_at (map_in self.now) pc }
-        ensures { result ≡ gateway_fetch self.now fetcher.now pc }
+        requires { is_entry ≡ is_entry_at (map_in self.now.state) pc }
+        ensures { result ≡ gateway_fetch self.now.state fetcher.now pc }
     {
         let Fetcher {
             secure_privileged: privileged,
@@ -247,9 +247,9 @@ impl Bus {
     #[tactic(auto, unfolding(tz_state::specs::Fetch::fetch))]
     #[inline(always)]
     fn answer_own(&self, fetcher: &Fetcher, pc: u32, permitted: bool) -> FetchAnswer
-        requires own { is_own_fetch (map_in self.now) fetcher.now.side pc ≡ true }
-        requires permitted { permitted ≡ permits self.now.board.profile (mpu_of fetcher.now.side self.now) pc kinds.Fetch fetcher.now.privileged fetcher.now.negative }
-        ensures { result ≡ fetch self.now fetcher.now pc }
+        requires own { is_own_fetch (map_in self.now.state) fetcher.now.side pc ≡ true }
+        requires permitted { permitted ≡ permits self.now.state.board.profile (mpu_of fetcher.now.side self.now.state) pc kinds.Fetch fetcher.now.privileged fetcher.now.negative }
+        ensures { result ≡ fetch self.now.state fetcher.now pc }
     {
         let answer = self.own_fetch(fetcher, pc, permitted);
         FetchAnswer {
@@ -264,9 +264,9 @@ impl Bus {
     /// The answer where the first halfword at PC isn't: SG is all that may stand there, for Non-secure code.
     #[tactic(auto, unfolding(tz_state::specs::Fetch::fetch, tz_state::specs::Fetch::own_fetch, tz_state::specs::Fetch::half_verdict))]
     fn answer_foreign(&self, fetcher: &Fetcher, pc: u32, attributed: RegionSide) -> FetchAnswer
-        requires foreign { is_own_fetch (map_in self.now) fetcher.now.side pc ≡ false }
-        requires attributed { attributed ≡ fetch_attribution (map_in self.now) fetcher.now.side pc }
-        ensures { result ≡ fetch self.now fetcher.now pc }
+        requires foreign { is_own_fetch (map_in self.now.state) fetcher.now.side pc ≡ false }
+        requires attributed { attributed ≡ fetch_attribution (map_in self.now.state) fetcher.now.side pc }
+        ensures { result ≡ fetch self.now.state fetcher.now pc }
     {
         FetchAnswer {
             touched: true,
@@ -283,8 +283,8 @@ impl Bus {
     #[inline(never)]
     fn fetch_anew(&mut self, fetcher: &Fetcher, pc: u32, who: Who) -> FetchAnswer
         requires { who ≡ who_fetches fetcher.now }
-        ensures answer { result ≡ fetch self.old fetcher.now pc }
-        ensures kept { self.new ≡ self.old }
+        ensures answer { result ≡ fetch self.old.state fetcher.now pc }
+        ensures kept { self.new.state ≡ self.old.state }
     {
         let attributed = self.sau.fetch_attribution(fetcher.side, pc);
         if !self.is_own_rest(fetcher.side, pc, attributed) {
@@ -295,9 +295,10 @@ impl Bus {
     }
 
     /// The instruction at PC, or its fault, and whether the fetch met Secure memory.
+    #[inline(always)]
     pub fn fetch_told(&mut self, pc: u32, fetcher: &Fetcher) -> FetchAnswer
-        ensures answer { result ≡ fetch self.old fetcher.now pc }
-        ensures kept { self.new ≡ self.old }
+        ensures answer { result ≡ fetch self.old.state fetcher.now pc }
+        ensures kept { self.new.state ≡ self.old.state }
     {
         let who = who_fetches(fetcher);
         if let Some(found) = self.find(pc, who) {
@@ -323,8 +324,8 @@ impl Bus {
         secure_privileged: bool,
         negative: bool,
     ) -> Result<Fetched, Fault>
-        ensures answer { result ≡ (fetch self.old (record { side = side; privileged = privileged; secure_privileged = secure_privileged; negative = negative }) pc).answer }
-        ensures kept { self.new ≡ self.old }
+        ensures answer { result ≡ (fetch self.old.state (record { side = side; privileged = privileged; secure_privileged = secure_privileged; negative = negative }) pc).answer }
+        ensures kept { self.new.state ≡ self.old.state }
     {
         let fetcher = Fetcher {
             side,

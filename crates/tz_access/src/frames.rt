@@ -5,7 +5,7 @@ ghost use Rattle.tz_table.specs.declared.units.Size.TheVariants.{Word};
 ghost use Rattle.tz_model.specs.Ports.{always_aligned, as_running};
 ghost use Rattle.tz_model.specs.Words.{wrap};
 ghost use Rattle.tz_regs.specs.Banks.{of_side};
-ghost use Rattle.tz_state.specs.Memory.{every, word_at, with_word};
+ghost use Rattle.tz_state.specs.Memory.{word_at, with_word};
 ghost use Rattle.tz_state.specs.declared.request.Kind.TheVariants.{Read, Write};
 ghost use Rattle.tz_state.specs.Access.{verdict, request_by};
 ghost use Rattle.tz_state.specs.State.{with_memory};
@@ -37,9 +37,9 @@ pub struct BusFrames<'a> {
 /// The word of a vector table at an address.
 fn vector_word(bus: &mut Bus, side: Side, addr: u32, negative: bool) -> Result<u32, Fault>
     ensures answer { MatchResult result
-        (λ word. (vector_verdict bus.old side addr ≡ None) × (word ≡ word_at bus.old.memory addr))
-        (λ fault. vector_verdict bus.old side addr ≡ Some fault) }
-    ensures kept { bus.new ≡ bus.old }
+        (λ word. (vector_verdict bus.old.state side addr ≡ None) × (word ≡ word_at bus.old.state.memory addr))
+        (λ fault. vector_verdict bus.old.state side addr ≡ Some fault) }
+    ensures kept { bus.new.state ≡ bus.old.state }
 {
     if !bus.touches(side, Size::Word, addr, negative) {
         return Err(Fault::Violation(addr));
@@ -82,9 +82,9 @@ fn of_side(side: Side, s: u32, ns: u32) -> u32
 /// A word of a frame, which no private space has.
 fn load_word(bus: &mut Bus, asker: &Asker, addr: u32) -> Result<u32, Fault>
     ensures answer { MatchResult result
-        (λ word. (in_map_alone addr (verdict bus.old (request_by asker.now Read Word addr always_aligned as_running)) ≡ None) × (word ≡ word_at bus.old.memory addr))
-        (λ fault. in_map_alone addr (verdict bus.old (request_by asker.now Read Word addr always_aligned as_running)) ≡ Some fault) }
-    ensures kept { bus.new ≡ bus.old }
+        (λ word. (in_map_alone addr (verdict bus.old.state (request_by asker.now Read Word addr always_aligned as_running)) ≡ None) × (word ≡ word_at bus.old.state.memory addr))
+        (λ fault. in_map_alone addr (verdict bus.old.state (request_by asker.now Read Word addr always_aligned as_running)) ≡ Some fault) }
+    ensures kept { bus.new.state ≡ bus.old.state }
 {
     match bus.load(asker, Size::Word, addr, ALWAYS_ALIGNED, AS_RUNNING) {
         Ok(Some(word)) => Ok(word),
@@ -103,9 +103,9 @@ fn store_word(
 ) -> Result<(), Fault>
     requires room { noted_count written.old < 40 }
     ensures answer { MatchResult result
-        (λ _. (in_map_alone addr (verdict bus.old (request_by asker.now Write Word addr always_aligned as_running)) ≡ None) × (bus.new ≡ with_memory bus.old (with_word bus.old.memory addr value)))
-        (λ fault. (in_map_alone addr (verdict bus.old (request_by asker.now Write Word addr always_aligned as_running)) ≡ Some fault) × (bus.new ≡ bus.old)) }
-    ensures noted { before_stores written.new bus.new.memory ≡ before_stores written.old bus.old.memory }
+        (λ _. (in_map_alone addr (verdict bus.old.state (request_by asker.now Write Word addr always_aligned as_running)) ≡ None) × (bus.new.state ≡ with_memory bus.old.state (with_word bus.old.state.memory addr value)))
+        (λ fault. (in_map_alone addr (verdict bus.old.state (request_by asker.now Write Word addr always_aligned as_running)) ≡ Some fault) × (bus.new.state ≡ bus.old.state)) }
+    ensures noted { before_stores written.new bus.new.state.memory ≡ before_stores written.old bus.old.state.memory }
     ensures few { noted_count written.new ≤ noted_count written.old + 1 }
 {
     match bus.store(
@@ -130,7 +130,7 @@ impl Frames for BusFrames<'_> {
 
     ghost Held = { Framed };
 
-    ghost held = { λ f. record { bus = f.bus.now; vtor_s = f.vtor_s; vtor_ns = f.vtor_ns; secure_privileged = f.secure_privileged; negative = f.negative } };
+    ghost held = { λ f. record { bus = f.bus.now.state; vtor_s = f.vtor_s; vtor_ns = f.vtor_ns; secure_privileged = f.secure_privileged; negative = f.negative } };
 
     ghost answer = { framed };
 
@@ -138,7 +138,7 @@ impl Frames for BusFrames<'_> {
 
     ghost Lent = { ℕ × ℕ × Option Memory };
 
-    ghost lent = { λ f. (f.bus.ghost_name, f.written.ghost_name, before_stores f.written.now f.bus.now.memory) };
+    ghost lent = { λ f. (f.bus.ghost_name, f.written.ghost_name, before_stores f.written.now f.bus.now.state.memory) };
 
     fn vector(&mut self, number: u16, side: Side) -> Result<u32, Fault> {
         let vtor = of_side(side, self.vtor_s, self.vtor_ns);

@@ -1,15 +1,16 @@
-//! Look-ups: what the units say of a block of 32 bytes to who asks, and 16 places that keep them. A block has one
-//! place.
+//! Look-ups: what the units say of a block of 32 bytes to who asks, and the places that keep them: 16 of blocks as data,
+//! and 16 of blocks as code. A block has one place of each.
 
-ghost use Rattle.std.specs.Prelude.{◌≡◌, ◌%◌, ◌<◌, ◌≤◌, true, false, None, Some, Option, IfSome, replicate, slice_index_or, slice_set};
+ghost use Rattle.std.specs.Prelude.{◌≡◌, ◌%◌, ◌<◌, ◌≤◌, true, false, None, Some, IfSome, slice_index_or};
 ghost use Rattle.tz_access.specs.Keys.{bit_if, is_nonsecure, side_if, key_of, who_of};
+ghost use Rattle.tz_access.specs.Places.{none_kept, places_for, kept_at, with_look_up, IsHeld};
 ghost use Rattle.tz_access.specs.Permitted.{permitted_by};
 
 use tz_model::Side;
 use tz_mpu::Permitted;
 use tz_state::Kind;
 
-/// How many places there are.
+/// How many places there are, of data and of code each.
 const PLACES: usize = 16;
 
 /// Who asks for a byte: whether for code to run or for data, the side, its privilege, and whether the execution
@@ -35,10 +36,11 @@ pub(crate) struct LookUp {
     pub(crate) permitted: Permitted,
 }
 
-/// The places.
+/// The places: those of blocks as data, and those of blocks as code, since code stands beside its literals.
 #[derive(Drop)]
 pub(crate) struct LookUps {
-    places: [Option<LookUp>; PLACES],
+    data_places: [Option<LookUp>; PLACES],
+    code_places: [Option<LookUp>; PLACES],
 }
 
 /// Whether an access of a kind is permitted.
@@ -120,22 +122,39 @@ fn place_of(block: u32) -> usize
 impl LookUps {
     /// Places that keep nothing.
     pub(crate) fn new() -> LookUps
-        ensures { result.places ≡ replicate 16 None }
+        ensures { result ≡ none_kept }
     {
         LookUps {
-            places: [None; PLACES],
+            data_places: [None; PLACES],
+            code_places: [None; PLACES],
         }
     }
 
-    /// What is kept at a place.
-    pub(crate) fn at(&self, index: usize) -> Option<LookUp>
-        ensures past { 16 ≤ index → result ≡ None }
-        ensures found { IfSome result (λ k. slice_index_or self.now.places index None ≡ Some k) }
+    /// What is kept at a place, of a block as code or as data.
+    #[inline(always)]
+    fn held(&self, fetch: bool, index: usize) -> Option<LookUp>
+        requires { index < 16 }
+        ensures { result ≡ slice_index_or (places_for fetch self.now) index None }
     {
-        if index < PLACES {
-            self.places[index]
+        if fetch {
+            self.code_places[index]
         } else {
-            None
+            self.data_places[index]
+        }
+    }
+
+    /// What is kept at a place of a block as data, or else as code.
+    #[tactic(auto, using(crate::proofs::LookUps::none_past))]
+    pub(crate) fn at(&self, index: usize) -> Option<LookUp>
+        ensures found { result ≡ kept_at self.now index }
+        ensures past { 16 ≤ index → result ≡ None }
+    {
+        if index >= PLACES {
+            return None;
+        }
+        match self.held(false, index) {
+            Some(found) => Some(found),
+            None => self.held(true, index),
         }
     }
 
@@ -143,9 +162,9 @@ impl LookUps {
     #[tactic(auto, using(crate::proofs::LookUps::who_by_key))]
     #[inline(always)]
     pub(crate) fn find(&self, block: u32, who: Who) -> Option<LookUp>
-        ensures { IfSome result (λ k. (slice_index_or self.now.places (block % 16) None ≡ Some k) × (k.block ≡ block) × (who_of k.key ≡ who)) }
+        ensures { IfSome result (λ k. IsHeld self.now who block k) }
     {
-        match self.places[place_of(block)] {
+        match self.held(who.fetch, place_of(block)) {
             None => None,
             Some(found) => {
                 if found.block == block && found.key == key_of(who) {
@@ -159,18 +178,25 @@ impl LookUps {
 
     /// Keeps nothing more, where what look-ups are made of has changed.
     pub(crate) fn empty_where(&mut self, changed: bool)
-        ensures emptied { changed ≡ true → self.new.places ≡ replicate 16 None }
-        ensures left { changed ≡ false → self.new.places ≡ self.old.places }
+        ensures emptied { changed ≡ true → self.new ≡ none_kept }
+        ensures left { changed ≡ false → self.new ≡ self.old }
     {
         if changed {
-            self.places = [None; PLACES];
+            self.data_places = [None; PLACES];
+            self.code_places = [None; PLACES];
         }
     }
 
-    /// Keeps a look-up at the place of its block, in place of what is there.
-    pub(crate) fn keep(&mut self, look_up: LookUp)
-        ensures { self.new.places ≡ slice_set self.old.places (look_up.block % 16) (Some look_up) }
+    /// Keeps a look-up, of a block as code or as data, at the place of its block, in place of what is there.
+    pub(crate) fn keep(&mut self, look_up: LookUp, fetch: bool)
+        ensures places { self.new ≡ with_look_up fetch self.old look_up }
+        ensures held { slice_index_or (places_for fetch self.new) (look_up.block % 16) None ≡ Some look_up }
     {
-        self.places[place_of(look_up.block)] = Some(look_up);
+        let index = place_of(look_up.block);
+        if fetch {
+            self.code_places[index] = Some(look_up);
+        } else {
+            self.data_places[index] = Some(look_up);
+        }
     }
 }

@@ -1,11 +1,12 @@
 //! Look-ups by blocks: what attribution and an MPU say of a byte is asked of them once for its block, and then told
 //! from what is kept, as long as no register of theirs is written.
 
-ghost use Rattle.std.specs.Prelude.{◌≡◌, ◌/◌, ◌%◌, ◌≤◌, IfSome, None, true, false};
-ghost use Rattle.tz_table.specs.declared.units.Side.TheVariants.{Secure};
+ghost use Rattle.std.specs.Prelude.{◌≡◌, ◌/◌, ◌<◌, ◌≤◌, IfSome, None, false, option_map};
 ghost use Rattle.tz_state.specs.Access.{may_touch, is_let};
-ghost use Rattle.tz_state.specs.State.{map_in, mpu_of};
-ghost use Rattle.tz_access.specs.Kept.{IsKept};
+ghost use Rattle.tz_state.specs.State.{map_in};
+ghost use Rattle.tz_access.specs.Kept.{IsKept, told_of};
+ghost use Rattle.tz_access.specs.Checks.{last_of};
+ghost use Rattle.tz_access.specs.Places.{kept_at, with_look_up, for_data, IsHeld, Holds};
 ghost use Rattle.tz_access.specs.LookUps.{Tells, admits, admits_data, guards_of};
 
 use crate::bus::Bus;
@@ -39,13 +40,27 @@ pub(crate) struct Passes {
     pub(crate) is_let: bool,
 }
 
+/// Who asks for bytes as data.
+#[inline(always)]
+fn for_data(side: Side, privileged: bool, negative: bool) -> Who
+    ensures { result ≡ for_data side privileged negative }
+{
+    Who {
+        fetch: false,
+        side,
+        privileged,
+        negative,
+    }
+}
+
 impl Bus {
-    /// The look-up that is kept at a place, of which there are 16. That of a block is the one of its number, modulo
-    /// 16. Nothing is kept of it where nobody asked, where another look-up came there, or where a register of the
-    /// SAU or of an MPU has been written since.
+    /// The look-up that is kept at a place, of which there are 16: the one of a block as data, or else as code. The
+    /// place of a block is that of its number, modulo 16. Nothing is kept of it where nobody asked, where another
+    /// look-up came there, or where a register of the SAU or of an MPU has been written since.
     pub fn kept(&self, index: usize) -> Option<Kept>
+        ensures kept { result ≡ option_map (told_of self.now.state) (kept_at self.now.kept index) }
         ensures past { 16 ≤ index → result ≡ None }
-        ensures kept { IfSome result (λ k. IsKept self.now index k) }
+        ensures told { IfSome result (λ k. IsKept self.now.state index k) }
     {
         let LookUp {
             block,
@@ -70,16 +85,19 @@ impl Bus {
     /// What is kept of the block of a byte, for who asks.
     #[inline(always)]
     pub(crate) fn find(&self, addr: u32, who: Who) -> Option<LookUp>
-        ensures { IfSome result (λ k. Tells (guards_of self.now) who addr k) }
+        ensures told { IfSome result (λ k. Tells (guards_of self.now.state) who addr k) }
+        ensures held { IfSome result (λ k. IsHeld self.now.kept who (addr / 32) k) }
     {
         self.kept.find(addr / 32, who)
     }
 
     /// Keeps what the units say of the block of a byte, of which attribution has been asked.
     pub(crate) fn learn(&mut self, addr: u32, who: Who, admitted: bool) -> LookUp
-        requires { admitted ≡ admits (guards_of self.old) who addr }
-        ensures told { Tells (guards_of self.old) who addr result }
-        ensures kept { self.new ≡ self.old }
+        requires { admitted ≡ admits (guards_of self.old.state) who addr }
+        ensures told { Tells (guards_of self.old.state) who addr result }
+        ensures held { IsHeld self.new.kept who (addr / 32) result }
+        ensures places { self.new.kept ≡ with_look_up who.fetch self.old.kept result }
+        ensures kept { self.new.state ≡ self.old.state }
     {
         self.know_regions();
         let permitted = self
@@ -92,13 +110,13 @@ impl Bus {
             admitted,
             permitted,
         };
-        self.kept.keep(look_up);
+        self.kept.keep(look_up, who.fetch);
         look_up
     }
 
     /// Whether attribution lets code of a side have a byte as data.
     fn admits_data(&self, side: Side, addr: u32) -> bool
-        ensures { result ≡ admits_data side (map_in self.now) addr }
+        ensures { result ≡ admits_data side (map_in self.now.state) addr }
     {
         match side {
             Side::Secure => true,
@@ -111,8 +129,9 @@ impl Bus {
     #[inline(never)]
     fn look_up_anew(&mut self, addr: u32, who: Who) -> LookUp
         requires { who.fetch ≡ false }
-        ensures told { Tells (guards_of self.old) who addr result }
-        ensures kept { self.new ≡ self.old }
+        ensures told { Tells (guards_of self.old.state) who addr result }
+        ensures held { IsHeld self.new.kept who (addr / 32) result }
+        ensures kept { self.new.state ≡ self.old.state }
     {
         let admitted = self.admits_data(who.side, addr);
         self.learn(addr, who, admitted)
@@ -122,8 +141,9 @@ impl Bus {
     #[inline(always)]
     pub(crate) fn look_up(&mut self, addr: u32, who: Who) -> LookUp
         requires { who.fetch ≡ false }
-        ensures told { Tells (guards_of self.old) who addr result }
-        ensures kept { self.new ≡ self.old }
+        ensures told { Tells (guards_of self.old.state) who addr result }
+        ensures held { IsHeld self.new.kept who (addr / 32) result }
+        ensures kept { self.new.state ≡ self.old.state }
     {
         match self.find(addr, who) {
             Some(found) => found,
@@ -134,8 +154,8 @@ impl Bus {
     /// What attribution and protection say of an access for which nothing is kept. The access is a copy, so that one
     /// for which something is kept needn't stand in memory.
     fn passes_anew(&self, request: Request) -> Passes
-        ensures touches { result.touches ≡ may_touch (map_in self.now) request.side request.size request.addr }
-        ensures is_let { result.is_let ≡ is_let self.now request }
+        ensures touches { result.touches ≡ may_touch (map_in self.now.state) request.side request.size request.addr }
+        ensures is_let { result.is_let ≡ is_let self.now.state request }
     {
         Passes {
             touches: self.may_touch(request.side, request.size, request.addr),
@@ -147,9 +167,10 @@ impl Bus {
     #[tactic(auto, using(crate::proofs::LookUps::touch_in_block, crate::proofs::LookUps::let_in_block))]
     #[inline(always)]
     pub(crate) fn passes(&mut self, request: &Request) -> Passes
-        ensures touches { result.touches ≡ may_touch (map_in self.old) request.now.side request.now.size request.now.addr }
-        ensures is_let { result.is_let ≡ is_let self.old request.now }
-        ensures kept { self.new ≡ self.old }
+        ensures touches { result.touches ≡ may_touch (map_in self.old.state) request.now.side request.now.size request.now.addr }
+        ensures is_let { result.is_let ≡ is_let self.old.state request.now }
+        ensures holds { request.now.addr < 0xE0000000 → request.now.addr / 32 ≡ last_of request.now.size request.now.addr / 32 → Holds self.new.kept request.now }
+        ensures kept { self.new.state ≡ self.old.state }
     {
         let Request {
             addr,
@@ -162,15 +183,7 @@ impl Bus {
         } = *request;
         if addr < PRIVATE_FIRST && is_one_block(addr, last_of(size, addr)) {
             self.know_regions();
-            let found = self.look_up(
-                addr,
-                Who {
-                    fetch: false,
-                    side,
-                    privileged,
-                    negative,
-                },
-            );
+            let found = self.look_up(addr, for_data(side, privileged, negative));
             Passes {
                 touches: found.admitted,
                 is_let: permits(found.permitted, kind),
@@ -183,23 +196,15 @@ impl Bus {
     /// Whether attribution lets code of a side access each byte, as `may_touch` tells it.
     #[tactic(auto, using(crate::proofs::LookUps::touch_in_block))]
     pub(crate) fn touches(&mut self, side: Side, size: Size, addr: u32, negative: bool) -> bool
-        ensures touches { result ≡ may_touch (map_in self.old) side size addr }
-        ensures kept { self.new ≡ self.old }
+        ensures touches { result ≡ may_touch (map_in self.old.state) side size addr }
+        ensures kept { self.new.state ≡ self.old.state }
     {
         if side == Side::NonSecure
             && addr < PRIVATE_FIRST
             && is_one_block(addr, last_of(size, addr))
         {
             self.know_regions();
-            let found = self.look_up(
-                addr,
-                Who {
-                    fetch: false,
-                    side,
-                    privileged: true,
-                    negative,
-                },
-            );
+            let found = self.look_up(addr, for_data(side, true, negative));
             found.admitted
         } else {
             self.may_touch(side, size, addr)

@@ -20,15 +20,15 @@ fn is_held(monitor: &Option<Exclusive>, addr: u32, size: Size) -> bool
 impl Bus {
     /// The monitor holds this address and size.
     pub fn monitor_set(&mut self, addr: u32, size: Size)
-        ensures { self.new ≡ with_monitor self.old (Some (record { addr = addr; size = size })) }
+        ensures { self.new.state ≡ with_monitor self.old.state (Some (record { addr = addr; size = size })) }
     {
         self.monitor = Some(Exclusive { addr, size });
     }
 
     /// Whether the monitor holds this address and size; it holds nothing after.
     pub fn monitor_take(&mut self, addr: u32, size: Size) -> bool
-        ensures held { result ≡ is_held self.old.monitor (record { addr = addr; size = size }) }
-        ensures after { self.new ≡ with_monitor self.old None }
+        ensures held { result ≡ is_held self.old.state.monitor (record { addr = addr; size = size }) }
+        ensures after { self.new.state ≡ with_monitor self.old.state None }
     {
         let held = is_held(&self.monitor, addr, size);
         self.monitor_clear();
@@ -37,14 +37,14 @@ impl Bus {
 
     /// The monitor holds nothing.
     pub fn monitor_clear(&mut self)
-        ensures { self.new ≡ with_monitor self.old None }
+        ensures { self.new.state ≡ with_monitor self.old.state None }
     {
         self.monitor = None;
     }
 
     /// What the monitor holds.
     pub fn monitor(&self) -> Option<(u32, Size)>
-        ensures { MatchOption result (self.now.monitor ≡ None) (λ e. self.now.monitor ≡ Some (record { addr = e.0; size = e.1 })) }
+        ensures { MatchOption result (self.now.state.monitor ≡ None) (λ e. self.now.state.monitor ≡ Some (record { addr = e.0; size = e.1 })) }
     {
         let held = self.monitor?;
         Some((held.addr, held.size))

@@ -49,7 +49,7 @@ impl Units {
 impl Bus {
     /// Notes the registers of the units, and what the monitor holds.
     pub fn note_units(&self, units: &mut Units)
-        ensures { units.new ≡ units_of self.now }
+        ensures { units.new ≡ units_of self.now.state }
     {
         units.sau.copy_registers(&self.sau);
         units.mpu_s.copy_registers(&self.mpu_s);
@@ -59,7 +59,7 @@ impl Bus {
 
     /// Puts back the registers of the units, and what the monitor holds.
     pub fn put_units(&mut self, units: &Units)
-        ensures { self.new ≡ with_units self.old units.now }
+        ensures { self.new.state ≡ with_units self.old.state units.now }
     {
         self.sau.copy_registers(&units.sau);
         self.mpu_s.copy_registers(&units.mpu_s);

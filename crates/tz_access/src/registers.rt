@@ -20,14 +20,14 @@ fn is_of_sau(addr: u32) -> bool
 impl Bus {
     /// The value of a register of the SAU.
     pub fn sau_register(&self, register: SauRegister) -> u32
-        ensures { result ≡ sau_value self.now.sau register }
+        ensures { result ≡ sau_value self.now.state.sau register }
     {
         self.sau.value(register)
     }
 
     /// Writes a register of the SAU, the bits that it has.
     pub fn set_sau_register(&mut self, register: SauRegister, value: u32)
-        ensures { self.new ≡ record self.old { sau = with_sau_value self.old.sau register value } }
+        ensures { self.new.state ≡ record self.old.state { sau = with_sau_value self.old.state.sau register value } }
     {
         self.sau.set(register, value);
         self.kept.empty_where(self.sau.take_changed());
@@ -35,14 +35,14 @@ impl Bus {
 
     /// The value of a register of the MPU of a side.
     pub fn mpu_register(&self, side: Side, register: MpuRegister) -> u32
-        ensures { result ≡ mpu_value (mpu_of side self.now) register }
+        ensures { result ≡ mpu_value (mpu_of side self.now.state) register }
     {
         self.mpu(side).value(register)
     }
 
     /// Writes a register of the MPU of a side, the bits that it has on the board's profile.
     pub fn set_mpu_register(&mut self, side: Side, register: MpuRegister, value: u32)
-        ensures { self.new ≡ with_mpu self.old side (with_mpu_value self.old.board.profile (mpu_of side self.old) register value) }
+        ensures { self.new.state ≡ with_mpu self.old.state side (with_mpu_value self.old.state.board.profile (mpu_of side self.old.state) register value) }
     {
         match side {
             Side::Secure => {
@@ -58,7 +58,7 @@ impl Bus {
 
     /// The register of the SAU, or of the MPU of a side, at an address; one that isn't there reads zero.
     pub fn register(&self, addr: u32, side: Side) -> u32
-        ensures { result ≡ unit_read self.now side addr }
+        ensures { result ≡ unit_read self.now.state side addr }
     {
         if is_of_sau(addr) {
             self.sau.read(addr)
@@ -70,7 +70,7 @@ impl Bus {
     /// Writes the register of the SAU, or of the MPU of a side, at an address; one that isn't there takes
     /// no write. Tests are its users.
     pub fn set_register(&mut self, addr: u32, side: Side, value: u32)
-        ensures { self.new ≡ unit_written self.old side addr value }
+        ensures { self.new.state ≡ unit_written self.old.state side addr value }
     {
         if is_of_sau(addr) {
             self.sau.write(addr, value);

@@ -1,6 +1,6 @@
 //! TT: what the units tell of an address (DDI0553, `TTResp`).
 
-ghost use Rattle.std.specs.Prelude.{◌≡◌, ◌*◌, ◌+◌, ◌<◌, ◌≤◌, ◌&&◌};
+ghost use Rattle.std.specs.Prelude.{◌≡◌, ◌*◌, ◌≤◌};
 ghost use Rattle.tz_regs.specs.Special.{number_of};
 ghost use Rattle.tz_state.specs.Target.{examined, learns, may, told_at, mregion, common_part, sregion, is_open_to, secure_part, target_word};
 ghost use Rattle.tz_state.specs.Attribution.{idau_region};
@@ -106,7 +106,7 @@ fn learns(probe: &Probe) -> bool
 impl Bus {
     /// Whether an access of a kind is permitted.
     fn may(&self, probe: &Probe, kind: Kind) -> bool
-        ensures { result ≡ may self.now probe.now kind }
+        ensures { result ≡ may self.now.state probe.now kind }
     {
         learns(probe)
             && self.permits(
@@ -120,7 +120,7 @@ impl Bus {
 
     /// The region of the MPU.
     fn mregion(&self, probe: &Probe) -> Option<u8>
-        ensures { result ≡ mregion self.now probe.now }
+        ensures { result ≡ mregion self.now.state probe.now }
     {
         if learns(probe) {
             self.mpu(examined(probe.side, probe.alternate))
@@ -132,7 +132,7 @@ impl Bus {
 
     /// What every state learns: MREGION, R and RW.
     fn common_part(&self, probe: &Probe) -> u32
-        ensures value { result ≡ common_part self.now probe.now }
+        ensures value { result ≡ common_part self.now.state probe.now }
         ensures fits { result ≤ 0xD00FF }
     {
         mregion_bits(self.mregion(probe))
@@ -143,9 +143,9 @@ impl Bus {
     /// What the SAU and the board tell: SREGION, IREGION, and whether the address is Non-secure.
     #[tactic(auto, unfolding(tz_state::specs::Attribution::attribution))]
     fn attributed(&self, probe: &Probe) -> Attributed
-        ensures sregion { result.sregion ≡ sregion self.now probe.now }
-        ensures iregion { result.iregion ≡ idau_region 0 self.now.board.regions probe.now.addr }
-        ensures nonsecure { result.nonsecure ≡ is_open_to self.now probe.now }
+        ensures sregion { result.sregion ≡ sregion self.now.state probe.now }
+        ensures iregion { result.iregion ≡ idau_region 0 self.now.state.board.regions probe.now.addr }
+        ensures nonsecure { result.nonsecure ≡ is_open_to self.now.state probe.now }
     {
         let attribute = self.sau.attribute(probe.addr, false, probe.side);
         Attributed {
@@ -157,7 +157,7 @@ impl Bus {
 
     /// What Secure state learns beside it: SREGION, NSR, NSRW, S and IREGION.
     fn secure_part(&self, probe: &Probe) -> u32
-        ensures value { result ≡ secure_part self.now probe.now }
+        ensures value { result ≡ secure_part self.now.state probe.now }
         ensures fits { result ≤ 0xFFF2FF00 }
     {
         let told = self.attributed(probe);
@@ -181,7 +181,7 @@ impl Bus {
         alternate: bool,
         user: bool,
     ) -> u32
-        ensures { result ≡ target_word self.now (record { addr = addr; side = side; privileged = privileged; negative = negative; alternate = alternate; user = user }) }
+        ensures { result ≡ target_word self.now.state (record { addr = addr; side = side; privileged = privileged; negative = negative; alternate = alternate; user = user }) }
     {
         let probe = Probe {
             addr,

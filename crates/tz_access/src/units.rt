@@ -4,7 +4,7 @@ ghost use Rattle.std.specs.Prelude.{◌≡◌, true};
 ghost use Rattle.tz_access.specs.Checks.{IsByBlocks};
 ghost use Rattle.tz_state.specs.Access.{is_mapped, is_writable, is_accessible, lets, is_private};
 ghost use Rattle.tz_state.specs.Attribution.{is_open};
-ghost use Rattle.tz_state.specs.Fetch.{is_own_byte, lets_run, is_entry};
+ghost use Rattle.tz_state.specs.Fetch.{lets_run};
 ghost use Rattle.tz_state.specs.Protection.{permits};
 ghost use Rattle.tz_state.specs.State.{map_in, mpu_of};
 ghost use Rattle.tz_model.specs.Board.{in_region, are_regions};
@@ -57,7 +57,7 @@ fn is_writable(regions: &[Region], addr: u32) -> bool
 impl Bus {
     /// The board's regions are made of whole blocks.
     pub(crate) fn know_regions(&self)
-        ensures { are_regions self.now.board.regions ≡ true }
+        ensures { are_regions self.now.state.board.regions ≡ true }
     {
         let board = &self.board;
         let _read = board.interrupts;
@@ -66,8 +66,8 @@ impl Bus {
     /// Whether Non-secure code may read a byte.
     #[tactic(auto, using(crate::proofs::Blocks::open_by_blocks), unfolding(tz_state::specs::Attribution::is_open))]
     pub(crate) fn is_open(&self, addr: u32) -> bool
-        ensures value { result ≡ is_open (map_in self.now) addr }
-        ensures blocks { IsByBlocks (is_open (map_in self.now)) }
+        ensures value { result ≡ is_open (map_in self.now.state) addr }
+        ensures blocks { IsByBlocks (is_open (map_in self.now.state)) }
     {
         self.know_regions();
         self.sau.data_attribution(Side::NonSecure, addr) == RegionSide::NonSecure
@@ -82,7 +82,7 @@ impl Bus {
         privileged: bool,
         negative: bool,
     ) -> bool
-        ensures { result ≡ permits self.now.board.profile (mpu_of side self.now) addr kind privileged negative }
+        ensures { result ≡ permits self.now.state.board.profile (mpu_of side self.now.state) addr kind privileged negative }
     {
         self.mpu(side)
             .check(addr, kind, privileged, negative)
@@ -92,8 +92,8 @@ impl Bus {
     /// Whether the MPU lets an access have a byte.
     #[tactic(auto, using(crate::proofs::Blocks::lets_by_blocks))]
     pub(crate) fn lets(&self, request: &Request, addr: u32) -> bool
-        ensures value { result ≡ lets self.now request.now addr }
-        ensures blocks { IsByBlocks (lets self.now request.now) }
+        ensures value { result ≡ lets self.now.state request.now addr }
+        ensures blocks { IsByBlocks (lets self.now.state request.now) }
     {
         is_private(addr)
             || self.permits(
@@ -108,8 +108,8 @@ impl Bus {
     /// Whether the MPU of a side lets code run at a byte.
     #[tactic(auto, using(crate::proofs::Blocks::runs_by_blocks))]
     pub(crate) fn lets_run(&self, side: Side, privileged: bool, negative: bool, addr: u32) -> bool
-        ensures value { result ≡ lets_run self.now side privileged negative addr }
-        ensures blocks { IsByBlocks (lets_run self.now side privileged negative) }
+        ensures value { result ≡ lets_run self.now.state side privileged negative addr }
+        ensures blocks { IsByBlocks (lets_run self.now.state side privileged negative) }
     {
         addr < PRIVATE_FIRST && self.permits(side, addr, Kind::Fetch, privileged, negative)
     }
@@ -117,8 +117,8 @@ impl Bus {
     /// Whether the map takes an access of a kind at a byte.
     #[tactic(auto, using(crate::proofs::Blocks::takes_by_blocks))]
     pub(crate) fn is_accessible(&self, kind: Kind, addr: u32) -> bool
-        ensures value { result ≡ is_accessible self.now.board.regions kind addr }
-        ensures blocks { IsByBlocks (is_accessible self.now.board.regions kind) }
+        ensures value { result ≡ is_accessible self.now.state.board.regions kind addr }
+        ensures blocks { IsByBlocks (is_accessible self.now.state.board.regions kind) }
     {
         self.know_regions();
         match kind {

@@ -97,10 +97,10 @@ impl Written {
 impl Bus {
     /// What stands at the four addresses from one on are bytes.
     fn know_bytes(&self, addr: u32)
-        ensures first { byte_at self.now.memory addr < 2 ^ 8 }
-        ensures second { byte_at self.now.memory (wrap (addr + 1)) < 2 ^ 8 }
-        ensures third { byte_at self.now.memory (wrap (addr + 2)) < 2 ^ 8 }
-        ensures fourth { byte_at self.now.memory (wrap (addr + 3)) < 2 ^ 8 }
+        ensures first { byte_at self.now.state.memory addr < 2 ^ 8 }
+        ensures second { byte_at self.now.state.memory (wrap (addr + 1)) < 2 ^ 8 }
+        ensures third { byte_at self.now.state.memory (wrap (addr + 2)) < 2 ^ 8 }
+        ensures fourth { byte_at self.now.state.memory (wrap (addr + 3)) < 2 ^ 8 }
     {
         self.memory.know_byte(addr);
         self.memory.know_byte(addr.wrapping_add(1));
@@ -118,11 +118,11 @@ impl Bus {
         list: &mut Written,
     ) -> Result<(), Refused>
         requires room { noted_count (Some list.old) < 40 }
-        ensures written { OnOk result (self.new ≡ with_memory self.old (with_value self.old.memory size addr value)) }
-        ensures takes { OnOk result (every (is_writable self.old.board.regions) addr size ≡ true) }
-        ensures refused { OnErr result (every (is_writable self.old.board.regions) addr size ≡ false) }
-        ensures kept { OnErr result (self.new ≡ self.old) }
-        ensures noted { undone list.new.items self.new.memory ≡ undone list.old.items self.old.memory }
+        ensures written { OnOk result (self.new.state ≡ with_memory self.old.state (with_value self.old.state.memory size addr value)) }
+        ensures takes { OnOk result (every (is_writable self.old.state.board.regions) addr size ≡ true) }
+        ensures refused { OnErr result (every (is_writable self.old.state.board.regions) addr size ≡ false) }
+        ensures kept { OnErr result (self.new.state ≡ self.old.state) }
+        ensures noted { undone list.new.items self.new.state.memory ≡ undone list.old.items self.old.state.memory }
         ensures few { noted_count (Some list.new) ≤ noted_count (Some list.old) + 1 }
     {
         self.know_bytes(addr);
@@ -152,11 +152,11 @@ impl Bus {
         written: &mut Option<Written>,
     ) -> Result<(), Refused>
         requires room { noted_count written.old < 40 }
-        ensures written { OnOk result (self.new ≡ with_memory self.old (with_value self.old.memory size addr value)) }
-        ensures takes { OnOk result (every (is_writable self.old.board.regions) addr size ≡ true) }
-        ensures refused { OnErr result (every (is_writable self.old.board.regions) addr size ≡ false) }
-        ensures kept { OnErr result (self.new ≡ self.old) }
-        ensures noted { before_stores written.new self.new.memory ≡ before_stores written.old self.old.memory }
+        ensures written { OnOk result (self.new.state ≡ with_memory self.old.state (with_value self.old.state.memory size addr value)) }
+        ensures takes { OnOk result (every (is_writable self.old.state.board.regions) addr size ≡ true) }
+        ensures refused { OnErr result (every (is_writable self.old.state.board.regions) addr size ≡ false) }
+        ensures kept { OnErr result (self.new.state ≡ self.old.state) }
+        ensures noted { before_stores written.new self.new.state.memory ≡ before_stores written.old self.old.state.memory }
         ensures few { noted_count written.new ≤ noted_count written.old + 1 }
     {
         match written {
@@ -167,7 +167,7 @@ impl Bus {
 
     /// Puts back what a store overwrote.
     fn put_back(&mut self, was: &Was)
-        ensures { self.new ≡ with_memory self.old (put_back was.now self.old.memory) }
+        ensures { self.new.state ≡ with_memory self.old.state (put_back was.now self.old.state.memory) }
     {
         self.memory.put(was.addr, was.size, was.value);
     }
@@ -176,7 +176,7 @@ impl Bus {
     #[tactic(auto, using(crate::proofs::Undoing::undone_next))]
     fn undo_one(&mut self, written: &Written, index: usize)
         requires { index < array_vec_len written.now }
-        ensures { with_memory self.new (undone (take index written.now.items) self.new.memory) ≡ with_memory self.old (undone (take (index + 1) written.now.items) self.old.memory) }
+        ensures { with_memory self.new.state (undone (take index written.now.items) self.new.state.memory) ≡ with_memory self.old.state (undone (take (index + 1) written.now.items) self.old.state.memory) }
     {
         let was = written.was_at(index);
         self.put_back(&was);
@@ -185,7 +185,7 @@ impl Bus {
     /// Puts back what stores overwrote, the newest first. Memory is then as it was before these stores, if it is as
     /// they left it.
     pub fn undo(&mut self, written: &Written)
-        ensures { self.new ≡ with_memory self.old (undone written.now.items self.old.memory) }
+        ensures { self.new.state ≡ with_memory self.old.state (undone written.now.items self.old.state.memory) }
     {
         let count = written.len();
         for index in 0..count {

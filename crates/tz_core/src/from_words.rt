@@ -43,7 +43,7 @@ fn word_at(bytes: &[u8], index: usize) -> u32
 /// Puts the bytes of a region, which stand first.
 fn put_region(alloc: Global, bus: &mut Bus, region: &Region, bytes: &[u8]) -> Result<(), AllocError>
     requires { region.now.size ≤ length bytes.now }
-    ensures { IfOk result (λ _. bus.new ≡ with_memory bus.old (with_bytes bus.old.memory region.now.base (take region.now.size bytes.now))) }
+    ensures { IfOk result (λ _. bus.new.state ≡ with_memory bus.old.state (with_bytes bus.old.state.memory region.now.base (take region.now.size bytes.now))) }
 {
     let bytes = Vec::from_slice(alloc, &bytes[..region.size as usize])?;
     let segment = Segment {
@@ -63,7 +63,7 @@ fn put_memory(
 ) -> Result<(), AllocError>
     requires blocks { are_regions regions.now ≡ true }
     requires long { length bytes.now ≡ 4 * memory_count regions.now }
-    ensures { IfOk result (λ _. bus.new ≡ with_memory bus.old (with_regions bus.old.memory regions.now (words_of bytes.now))) }
+    ensures { IfOk result (λ _. bus.new.state ≡ with_memory bus.old.state (with_regions bus.old.state.memory regions.now (words_of bytes.now))) }
 {
     let mut at = 0;
     for region in regions {

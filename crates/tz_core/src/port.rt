@@ -82,7 +82,7 @@ impl Port for CorePort<'_> {
 
     ghost held = { λ p. record {
       asker = p.asker;
-      system = record { ipsr = p.ipsr; status = p.status; exceptions = p.exceptions.now; bus = p.bus.now };
+      system = record { ipsr = p.ipsr; status = p.status; exceptions = p.exceptions.now; bus = p.bus.now.state };
       stores = p.stores.now.items;
     } };
 
@@ -92,7 +92,7 @@ impl Port for CorePort<'_> {
 
     ghost Lent = { ℕ × ℕ × ℕ × ℕ × Option Memory × ℕ };
 
-    ghost lent = { λ p. (p.exceptions.ghost_name, p.bus.ghost_name, p.stores.ghost_name, p.written.ghost_name, before_stores p.written.now p.bus.now.memory, noted_count p.written.now - 18) };
+    ghost lent = { λ p. (p.exceptions.ghost_name, p.bus.ghost_name, p.stores.ghost_name, p.written.ghost_name, before_stores p.written.now p.bus.now.state.memory, noted_count p.written.now - 18) };
 
     #[tactic(auto, using(crate::proofs::Private::private_aligned), unfolding(tz_state::specs::Access::access))]
     fn load(&mut self, addr: u32, size: Size, must_align: bool, user: bool) -> Result<u32, Fault> {

@@ -21,7 +21,7 @@ use tz_regs::Core;
 /// Puts the bytes of segments into memory.
 #[tactic(auto, unfolding(tz_sem::specs::Boot::with_segments))]
 fn put_segments(bus: &mut Bus, segments: &[Segment])
-    ensures { bus.new ≡ with_memory bus.old (with_segments bus.old.memory segments.now) }
+    ensures { bus.new.state ≡ with_memory bus.old.state (with_segments bus.old.state.memory segments.now) }
 {
     for segment in segments {
         bus.put_segment(segment);
@@ -30,7 +30,7 @@ fn put_segments(bus: &mut Bus, segments: &[Segment])
 
 /// Both words at the start of the Secure vector table, where they are in memory.
 fn vectors(bus: &Bus, vtor: u32) -> Option<(u32, u32)>
-    ensures { MatchOption result ((every (is_mapped bus.now.board.regions) vtor Word && every (is_mapped bus.now.board.regions) (wrap (vtor + 4)) Word) ≡ false) (λ words. ((every (is_mapped bus.now.board.regions) vtor Word && every (is_mapped bus.now.board.regions) (wrap (vtor + 4)) Word) ≡ true) × (words ≡ (word_at bus.now.memory vtor, word_at bus.now.memory (wrap (vtor + 4))))) }
+    ensures { MatchOption result ((every (is_mapped bus.now.state.board.regions) vtor Word && every (is_mapped bus.now.state.board.regions) (wrap (vtor + 4)) Word) ≡ false) (λ words. ((every (is_mapped bus.now.state.board.regions) vtor Word && every (is_mapped bus.now.state.board.regions) (wrap (vtor + 4)) Word) ≡ true) × (words ≡ (word_at bus.now.state.memory vtor, word_at bus.now.state.memory (wrap (vtor + 4))))) }
 {
     match bus.read(vtor, Size::Word) {
         Ok(sp) => match bus.read(vtor.wrapping_add(4), Size::Word) {
@@ -43,7 +43,7 @@ fn vectors(bus: &Bus, vtor: u32) -> Option<(u32, u32)>
 
 /// The core that the machine starts with, by the vector table in memory: locked where that isn't there.
 fn start_core(bus: &Bus) -> Core
-    ensures { start_from bus.now.board bus.now.memory ≡ record { core = result; exceptions = reset_exceptions bus.now.board.interrupts; bus = reset_bus bus.now.board bus.now.memory } }
+    ensures { start_from bus.now.state.board bus.now.state.memory ≡ record { core = result; exceptions = reset_exceptions bus.now.state.board.interrupts; bus = reset_bus bus.now.state.board bus.now.state.memory } }
 {
     let board = bus.board();
     let (sp, start, locked) = match vectors(bus, board.secure_vtor) {

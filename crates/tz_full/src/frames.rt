@@ -12,7 +12,7 @@ use tz_syntax::push_hex_word;
 /// The word at an address, and 0 where regions don't hold all its bytes.
 #[tactic(auto, unfolding(crate::specs::FrameLines::known_word))]
 pub fn known_word(bus: &Bus, addr: u32) -> u32
-    ensures { result ≡ known_word bus.now addr }
+    ensures { result ≡ known_word bus.now.state addr }
 {
     match bus.read(addr, Size::Word) {
         Ok(word) => word,
@@ -23,7 +23,7 @@ pub fn known_word(bus: &Bus, addr: u32) -> u32
 /// The word of a frame with this number.
 fn frame_word(bus: &Bus, base: u32, k: u32) -> u32
     requires { k ≤ 9 }
-    ensures { result ≡ frame_word bus.now base k }
+    ensures { result ≡ frame_word bus.now.state base k }
 {
     known_word(bus, base.wrapping_add(4 * k))
 }
@@ -31,7 +31,7 @@ fn frame_word(bus: &Bus, base: u32, k: u32) -> u32
 /// Four words of a frame from this number on.
 fn four_words(bus: &Bus, base: u32, k: u32) -> [u32; 4]
     requires { k ≤ 6 }
-    ensures { result ≡ four_words bus.now base k }
+    ensures { result ≡ four_words bus.now.state base k }
 {
     [
         frame_word(bus, base, k),
@@ -58,7 +58,7 @@ fn push_head(text: &mut Text, name: &str, side: Side, process: bool, base: u32)
 #[tactic(auto, unfolding(crate::specs::FrameLines::basic_words_text))]
 fn push_basic_words(text: &mut Text, bus: &Bus, base: u32)
     requires { array_string_len text.old + 107 ≤ 4096 }
-    ensures bytes { text.new.bytes ≡ text.old.bytes ++ basic_words_text bus.now base }
+    ensures bytes { text.new.bytes ≡ text.old.bytes ++ basic_words_text bus.now.state base }
     ensures len { array_string_len text.new ≤ array_string_len text.old + 107 }
 {
     let low = four_words(bus, base, 0);
@@ -74,7 +74,7 @@ fn push_basic_words(text: &mut Text, bus: &Bus, base: u32)
 #[tactic(auto, unfolding(crate::specs::FrameLines::additional_words_text))]
 fn push_additional_words(text: &mut Text, bus: &Bus, base: u32)
     requires { array_string_len text.old + 122 ≤ 4096 }
-    ensures bytes { text.new.bytes ≡ text.old.bytes ++ additional_words_text bus.now base }
+    ensures bytes { text.new.bytes ≡ text.old.bytes ++ additional_words_text bus.now.state base }
     ensures len { array_string_len text.new ≤ array_string_len text.old + 122 }
 {
     text.push_str(" ");
@@ -91,7 +91,7 @@ fn push_additional_words(text: &mut Text, bus: &Bus, base: u32)
 #[tactic(auto, unfolding(crate::specs::FrameLines::frame_text))]
 pub fn push_frame(text: &mut Text, bus: &Bus, side: Side, process: bool, base: u32)
     requires { array_string_len text.old + 160 ≤ 4096 }
-    ensures bytes { text.new.bytes ≡ text.old.bytes ++ frame_text bus.now side process base }
+    ensures bytes { text.new.bytes ≡ text.old.bytes ++ frame_text bus.now.state side process base }
     ensures len { array_string_len text.new ≤ array_string_len text.old + 160 }
 {
     push_head(text, "frame ", side, process, base);
@@ -102,7 +102,7 @@ pub fn push_frame(text: &mut Text, bus: &Bus, side: Side, process: bool, base: u
 #[tactic(auto, unfolding(crate::specs::FrameLines::additional_text))]
 pub fn push_additional(text: &mut Text, bus: &Bus, side: Side, process: bool, base: u32)
     requires { array_string_len text.old + 160 ≤ 4096 }
-    ensures bytes { text.new.bytes ≡ text.old.bytes ++ additional_text bus.now side process base }
+    ensures bytes { text.new.bytes ≡ text.old.bytes ++ additional_text bus.now.state side process base }
     ensures len { array_string_len text.new ≤ array_string_len text.old + 160 }
 {
     push_head(text, "additional frame ", side, process, base);

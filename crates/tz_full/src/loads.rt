@@ -106,7 +106,7 @@ fn push_known(text: &mut Text, size: Size, word: Option<u32>)
 #[tactic(auto, unfolding(crate::specs::LoadLines::held_text))]
 pub fn push_held(text: &mut Text, bus: &Bus, size: Size, addr: u32)
     requires { array_string_len text.old + 8 ≤ 4096 }
-    ensures bytes { text.new.bytes ≡ text.old.bytes ++ held_text bus.now size addr }
+    ensures bytes { text.new.bytes ≡ text.old.bytes ++ held_text bus.now.state size addr }
     ensures len { array_string_len text.new ≡ array_string_len text.old + 8 }
 {
     match bus.read(addr, size) {
@@ -125,7 +125,7 @@ fn is_private(addr: u32) -> bool
 /// What a load read, with the name of a system register.
 fn push_read(text: &mut Text, bus: &Bus, size: Size, addr: u32, word: Option<u32>)
     requires { array_string_len text.old + 31 ≤ 4096 }
-    ensures bytes { text.new.bytes ≡ text.old.bytes ++ read_text bus.now size addr word }
+    ensures bytes { text.new.bytes ≡ text.old.bytes ++ read_text bus.now.state size addr word }
     ensures len { array_string_len text.new ≤ array_string_len text.old + 31 }
 {
     if is_private(addr) {
@@ -141,7 +141,7 @@ fn push_read(text: &mut Text, bus: &Bus, size: Size, addr: u32, word: Option<u32
 #[tactic(auto, unfolding(crate::specs::LoadLines::load_line))]
 fn push_load(text: &mut Text, bus: &Bus, size: Size, addr: u32, word: Option<u32>)
     requires { array_string_len text.old + 60 ≤ 4096 }
-    ensures bytes { text.new.bytes ≡ text.old.bytes ++ load_line bus.now size addr word }
+    ensures bytes { text.new.bytes ≡ text.old.bytes ++ load_line bus.now.state size addr word }
     ensures len { array_string_len text.new ≤ array_string_len text.old + 60 }
 {
     text.push_str("    load ");

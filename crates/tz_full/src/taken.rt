@@ -59,7 +59,7 @@ fn place_taken(cause: Cause, machine: &Machine) -> usize
 
 /// The byte at an address, and 0 where no region holds it.
 fn known_byte(bus: &Bus, addr: u32) -> u32
-    ensures { result ≡ known_byte bus.now addr }
+    ensures { result ≡ known_byte bus.now.state addr }
 {
     match bus.read(addr, Size::Byte) {
         Ok(byte) => byte,
@@ -71,7 +71,7 @@ fn known_byte(bus: &Bus, addr: u32) -> u32
 #[tactic(auto, unfolding(crate::specs::TakenLines::fault_line))]
 fn push_fault_line(text: &mut Text, bus: &Bus, pc: u32, fault: Fault)
     requires { array_string_len text.old + 33 ≤ 4096 }
-    ensures bytes { text.new.bytes ≡ text.old.bytes ++ fault_line bus.now pc fault }
+    ensures bytes { text.new.bytes ≡ text.old.bytes ++ fault_line bus.now.state pc fault }
     ensures len { array_string_len text.new ≤ array_string_len text.old + 33 }
 {
     match fault {

@@ -57,7 +57,7 @@ fn push_entered(text: &mut Text, report: &Report, machine: &Machine)
 /// The number in the frame of a call.
 fn push_number(text: &mut Text, bus: &Bus, addr: u32)
     requires { array_string_len text.old + 10 ≤ 4096 }
-    ensures bytes { text.new.bytes ≡ text.old.bytes ++ number_text bus.now addr }
+    ensures bytes { text.new.bytes ≡ text.old.bytes ++ number_text bus.now.state addr }
     ensures len { array_string_len text.new ≤ array_string_len text.old + 10 }
 {
     match bus.read(addr, Size::Word) {
@@ -70,7 +70,7 @@ fn push_number(text: &mut Text, bus: &Bus, addr: u32)
 #[tactic(auto, unfolding(crate::specs::WayLines::call_frame_text))]
 fn push_call_frame(text: &mut Text, bus: &Bus, base: u32)
     requires { array_string_len text.old + 62 ≤ 4096 }
-    ensures bytes { text.new.bytes ≡ text.old.bytes ++ call_frame_text bus.now base }
+    ensures bytes { text.new.bytes ≡ text.old.bytes ++ call_frame_text bus.now.state base }
     ensures len { array_string_len text.new ≤ array_string_len text.old + 62 }
 {
     text.push_str("call frame ");
@@ -122,7 +122,7 @@ fn came_from(account: &Account, report: &Report) -> Option<u32>
 
 fn push_from_call(text: &mut Text, bus: &Bus, base: Option<u32>)
     requires { array_string_len text.old + 64 ≤ 4096 }
-    ensures bytes { text.new.bytes ≡ text.old.bytes ++ from_call_text bus.now base }
+    ensures bytes { text.new.bytes ≡ text.old.bytes ++ from_call_text bus.now.state base }
     ensures len { array_string_len text.new ≤ array_string_len text.old + 64 }
 {
     if let Some(base) = base {
@@ -177,7 +177,7 @@ pub fn push_ways(text: &mut Text, account: &Account, report: &Report, machine: &
 /// A basic frame that was read.
 fn push_basic_from(text: &mut Text, bus: &Bus, side: Side, process: bool, base: u32)
     requires { array_string_len text.old + 170 ≤ 4096 }
-    ensures bytes { text.new.bytes ≡ text.old.bytes ++ basic_from_text bus.now side process base }
+    ensures bytes { text.new.bytes ≡ text.old.bytes ++ basic_from_text bus.now.state side process base }
     ensures len { array_string_len text.new ≤ array_string_len text.old + 170 }
 {
     text.push_str("    from ");
@@ -188,7 +188,7 @@ fn push_basic_from(text: &mut Text, bus: &Bus, side: Side, process: bool, base: 
 /// An additional frame that was read.
 fn push_additional_from(text: &mut Text, bus: &Bus, side: Side, process: bool, base: u32)
     requires { array_string_len text.old + 170 ≤ 4096 }
-    ensures bytes { text.new.bytes ≡ text.old.bytes ++ additional_from_text bus.now side process base }
+    ensures bytes { text.new.bytes ≡ text.old.bytes ++ additional_from_text bus.now.state side process base }
     ensures len { array_string_len text.new ≤ array_string_len text.old + 170 }
 {
     text.push_str("    from ");
@@ -206,7 +206,7 @@ fn push_frames_from(
     additional: bool,
 )
     requires { array_string_len text.old + 340 ≤ 4096 }
-    ensures bytes { text.new.bytes ≡ text.old.bytes ++ frames_from bus.now side process base additional }
+    ensures bytes { text.new.bytes ≡ text.old.bytes ++ frames_from bus.now.state side process base additional }
     ensures len { array_string_len text.new ≤ array_string_len text.old + 340 }
 {
     if additional {
@@ -222,7 +222,7 @@ fn push_frames_from(
 #[tactic(auto, unfolding(crate::specs::WayLines::frames_read))]
 fn push_frames_read(text: &mut Text, bus: &Bus, core: &Core, returning: &Returning)
     requires { array_string_len text.old + 340 ≤ 4096 }
-    ensures bytes { text.new.bytes ≡ text.old.bytes ++ frames_read bus.now core.now returning.now }
+    ensures bytes { text.new.bytes ≡ text.old.bytes ++ frames_read bus.now.state core.now returning.now }
     ensures len { array_string_len text.new ≤ array_string_len text.old + 340 }
 {
     push_frames_from(

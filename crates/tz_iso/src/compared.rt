@@ -16,10 +16,10 @@ const BLOCKS: u32 = 1 << 27;
 
 /// Whether an open byte of some of these blocks differs.
 fn differ_among(range: Blocks, b: &Bus, c: &Bus) -> bool
-    requires same { b.now.board.regions ≡ c.now.board.regions }
+    requires same { b.now.state.board.regions ≡ c.now.state.board.regions }
     requires few { range.last < 134217728 }
-    ensures some { result ≡ true → open_bytes_differ b.now c.now ≡ true }
-    ensures none { result ≡ false → (a : ℕ) → is_among range (a / 32) ≡ true → open_byte_differs b.now c.now a ≡ false }
+    ensures some { result ≡ true → open_bytes_differ b.now.state c.now.state ≡ true }
+    ensures none { result ≡ false → (a : ℕ) → is_among range (a / 32) ≡ true → open_byte_differs b.now.state c.now.state a ≡ false }
 {
     for block in range.first..range.last + 1 {
         if b.differs_at_block(c, block) {
@@ -31,9 +31,9 @@ fn differ_among(range: Blocks, b: &Bus, c: &Bus) -> bool
 
 /// Whether an open byte differs.
 pub fn bytes_differ(marks: &Marks, b: &Bus, c: &Bus) -> bool
-    requires same { b.now.board.regions ≡ c.now.board.regions }
-    requires marked { AreMarked marks.now b.now c.now }
-    ensures { result ≡ open_bytes_differ b.now c.now }
+    requires same { b.now.state.board.regions ≡ c.now.state.board.regions }
+    requires marked { AreMarked marks.now b.now.state c.now.state }
+    ensures { result ≡ open_bytes_differ b.now.state c.now.state }
 {
     if marks.all {
         return b.differs_in_open_bytes(c);
@@ -51,8 +51,8 @@ pub fn bytes_differ(marks: &Marks, b: &Bus, c: &Bus) -> bool
 
 /// Whether the SAUs differ.
 pub fn sau_differs(marks: &Marks, b: &Bus, c: &Bus) -> bool
-    requires { marks.now.all ≡ false → b.now.sau ≡ c.now.sau }
-    ensures { result ≡ sau_differs b.now.sau c.now.sau }
+    requires { marks.now.all ≡ false → b.now.state.sau ≡ c.now.state.sau }
+    ensures { result ≡ sau_differs b.now.state.sau c.now.state.sau }
 {
     marks.all && b.sau().differs(c.sau())
 }

@@ -96,7 +96,7 @@ pub fn is_same_timers(e: &Exceptions, f: &Exceptions) -> bool
 
 /// Whether the exclusive monitor holds the same, or nothing, in both.
 fn is_same_monitor(b: &Bus, c: &Bus) -> bool
-    ensures { result ≡ is_same_monitor b.now.monitor c.now.monitor }
+    ensures { result ≡ is_same_monitor b.now.state.monitor c.now.state.monitor }
 {
     match b.monitor() {
         None => c.monitor().is_none(),
@@ -154,8 +154,8 @@ fn stacks_apart(a: &Stacks, b: &Stacks) -> Option<What>
 
 /// Which of the units that guard memory isn't the same.
 fn units_apart(marks: &Marks, b: &Bus, c: &Bus) -> Option<What>
-    requires { marks.now.all ≡ false → b.now.sau ≡ c.now.sau }
-    ensures { result ≡ first_apart ((not (sau_differs b.now.sau c.now.sau), What.Sau) ∷ (not (mpu_differs b.now.mpu_ns c.now.mpu_ns), What.Mpu) ∷ []) }
+    requires { marks.now.all ≡ false → b.now.state.sau ≡ c.now.state.sau }
+    ensures { result ≡ first_apart ((not (sau_differs b.now.state.sau c.now.state.sau), What.Sau) ∷ (not (mpu_differs b.now.state.mpu_ns c.now.state.mpu_ns), What.Mpu) ∷ []) }
 {
     if sau_differs(marks, b, c) {
         return Some(What::Sau);

@@ -23,9 +23,9 @@ fn move_word(
 ) -> Option<u32>
     requires room { noted_count written.old < 40 }
     ensures moves { MatchOption result
-        ((may_move bus.old side channel.now ≡ false) × (bus.new ≡ bus.old))
-        (λ word. (may_move bus.old side channel.now ≡ true) × (word ≡ word_at bus.old.memory channel.now.src) × (bus.new ≡ with_memory bus.old (with_word bus.old.memory channel.now.dst word))) }
-    ensures noted { before_stores written.new bus.new.memory ≡ before_stores written.old bus.old.memory }
+        ((may_move bus.old.state side channel.now ≡ false) × (bus.new.state ≡ bus.old.state))
+        (λ word. (may_move bus.old.state side channel.now ≡ true) × (word ≡ word_at bus.old.state.memory channel.now.src) × (bus.new.state ≡ with_memory bus.old.state (with_word bus.old.state.memory channel.now.dst word))) }
+    ensures noted { before_stores written.new bus.new.state.memory ≡ before_stores written.old bus.old.state.memory }
     ensures few { noted_count written.new ≤ noted_count written.old + 1 }
 {
     if !bus.may_touch(side, Size::Word, channel.src)
@@ -94,10 +94,10 @@ fn move_on(
     written: &mut Option<Written>,
 ) -> (Channel, u32)
     requires room { noted_count written.old < 40 }
-    ensures channel { result.0 ≡ after_move bus.old side channel }
-    ensures word { result.1 ≡ word_moved bus.old side channel bus.old.memory }
-    ensures memory { bus.new ≡ with_memory bus.old (memory_moved bus.old side channel bus.old.memory) }
-    ensures noted { before_stores written.new bus.new.memory ≡ before_stores written.old bus.old.memory }
+    ensures channel { result.0 ≡ after_move bus.old.state side channel }
+    ensures word { result.1 ≡ word_moved bus.old.state side channel bus.old.state.memory }
+    ensures memory { bus.new.state ≡ with_memory bus.old.state (memory_moved bus.old.state side channel bus.old.state.memory) }
+    ensures noted { before_stores written.new bus.new.state.memory ≡ before_stores written.old bus.old.state.memory }
     ensures few { noted_count written.new ≤ noted_count written.old + 1 }
 {
     if channel.count == 0 {
@@ -118,10 +118,10 @@ fn make_move(
     written: &mut Option<Written>,
 ) -> Move
     requires room { noted_count written.old < 40 }
-    ensures told { result ≡ move_told bus.old exceptions.old side channel bus.old.memory }
-    ensures slots { exceptions.new ≡ record exceptions.old { slots = slots_told side exceptions.old (after_move bus.old side channel) } }
-    ensures memory { bus.new ≡ with_memory bus.old (memory_moved bus.old side channel bus.old.memory) }
-    ensures noted { before_stores written.new bus.new.memory ≡ before_stores written.old bus.old.memory }
+    ensures told { result ≡ move_told bus.old.state exceptions.old side channel bus.old.state.memory }
+    ensures slots { exceptions.new ≡ record exceptions.old { slots = slots_told side exceptions.old (after_move bus.old.state side channel) } }
+    ensures memory { bus.new.state ≡ with_memory bus.old.state (memory_moved bus.old.state side channel bus.old.state.memory) }
+    ensures noted { before_stores written.new bus.new.state.memory ≡ before_stores written.old bus.old.state.memory }
     ensures few { noted_count written.new ≤ noted_count written.old + 1 }
 {
     let (after, word) = move_on(bus, side, channel, written);
@@ -171,10 +171,10 @@ fn move_channel(
     told: &mut Moves,
 )
     requires room { noted_count written.old < 40 }
-    ensures moves { moved bus.old exceptions.old side (moving channels.old exceptions.old bus.old told.old) ≡ moving channels.new exceptions.new bus.new told.new }
+    ensures moves { moved bus.old.state exceptions.old side (moving channels.old exceptions.old bus.old.state told.old) ≡ moving channels.new exceptions.new bus.new.state told.new }
     ensures exceptions { exceptions.new ≡ record exceptions.old { slots = exceptions.new.slots } }
-    ensures bus { bus.new ≡ with_memory bus.old bus.new.memory }
-    ensures noted { before_stores written.new bus.new.memory ≡ before_stores written.old bus.old.memory }
+    ensures bus { bus.new.state ≡ with_memory bus.old.state bus.new.state.memory }
+    ensures noted { before_stores written.new bus.new.state.memory ≡ before_stores written.old bus.old.state.memory }
     ensures few { noted_count written.new ≤ noted_count written.old + 1 }
 {
     let channel = channel_of(channels, side);
@@ -198,10 +198,10 @@ pub fn advance(
     written: &mut Option<Written>,
 ) -> Moves
     requires room { noted_count written.old ≤ 38 }
-    ensures moves { all_moved bus.old exceptions.old side (moving channels.old exceptions.old bus.old no_moves) ≡ moving channels.new exceptions.new bus.new result }
+    ensures moves { all_moved bus.old.state exceptions.old side (moving channels.old exceptions.old bus.old.state no_moves) ≡ moving channels.new exceptions.new bus.new.state result }
     ensures exceptions { exceptions.new ≡ record exceptions.old { slots = exceptions.new.slots } }
-    ensures bus { bus.new ≡ with_memory bus.old bus.new.memory }
-    ensures noted { before_stores written.new bus.new.memory ≡ before_stores written.old bus.old.memory }
+    ensures bus { bus.new.state ≡ with_memory bus.old.state bus.new.state.memory }
+    ensures noted { before_stores written.new bus.new.state.memory ≡ before_stores written.old bus.old.state.memory }
     ensures few { noted_count written.new ≤ noted_count written.old + 2 }
 {
     let mut told = Moves {

@@ -33,7 +33,7 @@ fn know_stacks(stacks: &Stacks)
 
 /// The state that a core, its exceptions and the bus are.
 pub fn know_state(core: &Core, exceptions: &Exceptions, bus: &Bus)
-    ensures { IsTyped (record { core = core.now; exceptions = exceptions.now; bus = bus.now }) }
+    ensures { IsTyped (record { core = core.now; exceptions = exceptions.now; bus = bus.now.state }) }
 {
     know_registers(&core.registers);
     know_stacks(&core.stacks_s);

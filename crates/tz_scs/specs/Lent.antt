@@ -8,7 +8,7 @@ use Rattle.tz_scs.specs.declared.system.SystemRegisters.{SystemRegisters}
 -- ---- the parts that the registers stand in
 
 abbrev pub state_of : SystemRegisters → SystemState
-state_of r = record { ipsr = r.ipsr; status = r.status.now; exceptions = r.exceptions.now; bus = r.bus.now }
+state_of r = record { ipsr = r.ipsr; status = r.status.now; exceptions = r.exceptions.now; bus = r.bus.now.state }
 
 -- the same is lent, for the same exception
 abbrev pub SameLoans : SystemRegisters → SystemRegisters → Type 0
@@ -21,7 +21,7 @@ SameLoans r r' =
 -- ---- a whole core
 
 abbrev pub machine_of : System → State
-machine_of s = record { core = s.core.now; exceptions = s.exceptions.now; bus = s.bus.now }
+machine_of s = record { core = s.core.now; exceptions = s.exceptions.now; bus = s.bus.now.state }
 
 abbrev pub SameSystem : System → System → Type 0
 SameSystem s s' =

@@ -72,7 +72,7 @@ impl SystemRegisters<'_> {
     }
 
     fn sau_value(&self, view: Side, register: SauRegister) -> u32
-        ensures { result ≡ sau_seen view self.now.bus.now.sau register }
+        ensures { result ≡ sau_seen view self.now.bus.now.state.sau register }
     {
         match view {
             Side::Secure => self.bus.sau_register(register),

@@ -64,7 +64,7 @@ fn frame_label(number: u32) -> &'static str
 #[tactic(auto, unfolding(crate::specs::Frames::shown_word))]
 fn push_shown_word(text: &mut Text, bus: &Bus, addr: u32)
     requires { array_string_len text.old + 8 ≤ 48000 }
-    ensures bytes { text.new.bytes ≡ text.old.bytes ++ shown_word bus.now addr }
+    ensures bytes { text.new.bytes ≡ text.old.bytes ++ shown_word bus.now.state addr }
     ensures len { array_string_len text.new ≡ array_string_len text.old + 8 }
 {
     match bus.read(addr, Size::Word) {
@@ -77,7 +77,7 @@ fn push_shown_word(text: &mut Text, bus: &Bus, addr: u32)
 #[tactic(auto, unfolding(crate::specs::Frames::word_text))]
 fn push_word(text: &mut Text, bus: &Bus, addr: u32, label: &str)
     requires { array_string_len text.old + length label.now + 21 ≤ 48000 }
-    ensures bytes { text.new.bytes ≡ text.old.bytes ++ word_text bus.now addr label.now }
+    ensures bytes { text.new.bytes ≡ text.old.bytes ++ word_text bus.now.state addr label.now }
     ensures len { array_string_len text.new ≡ array_string_len text.old + length label.now + 21 }
 {
     text.push_str("  ");
@@ -93,7 +93,7 @@ fn push_word(text: &mut Text, bus: &Bus, addr: u32, label: &str)
 fn push_stack_word(text: &mut Text, bus: &Bus, sp: u32, k: u32)
     requires below { k < 8 }
     requires room { array_string_len text.old + 21 ≤ 48000 }
-    ensures bytes { text.new.bytes ≡ text.old.bytes ++ stack_word_text bus.now sp k }
+    ensures bytes { text.new.bytes ≡ text.old.bytes ++ stack_word_text bus.now.state sp k }
     ensures len { array_string_len text.new ≤ array_string_len text.old + 21 }
 {
     push_word(text, bus, sp.wrapping_add(4 * k), "");
@@ -102,7 +102,7 @@ fn push_stack_word(text: &mut Text, bus: &Bus, sp: u32, k: u32)
 /// The eight words from a stack pointer up.
 fn push_stack_words(text: &mut Text, bus: &Bus, sp: u32)
     requires { array_string_len text.old + 168 ≤ 48000 }
-    ensures bytes { text.new.bytes ≡ text.old.bytes ++ texts_below (stack_word_text bus.now sp) 8 }
+    ensures bytes { text.new.bytes ≡ text.old.bytes ++ texts_below (stack_word_text bus.now.state sp) 8 }
     ensures len { array_string_len text.new ≤ array_string_len text.old + 168 }
 {
     for k in 0..8u32 {
@@ -113,7 +113,7 @@ fn push_stack_words(text: &mut Text, bus: &Bus, sp: u32)
 #[tactic(auto, unfolding(crate::specs::Frames::stack_text))]
 pub fn push_stack(text: &mut Text, core: &Core, bus: &Bus)
     requires { array_string_len text.old + 182 ≤ 48000 }
-    ensures bytes { text.new.bytes ≡ text.old.bytes ++ stack_text core.now bus.now }
+    ensures bytes { text.new.bytes ≡ text.old.bytes ++ stack_text core.now bus.now.state }
     ensures len { array_string_len text.new ≤ array_string_len text.old + 182 }
 {
     text.push_str("\nStack in use\n");
@@ -133,7 +133,7 @@ fn has_frame(core: &Core) -> bool
 fn push_frame_word(text: &mut Text, bus: &Bus, sp: u32, first: u32, k: u32)
     requires below { first + k < 18 }
     requires room { array_string_len text.old + 42 ≤ 48000 }
-    ensures bytes { text.new.bytes ≡ text.old.bytes ++ frame_word_text bus.now sp first k }
+    ensures bytes { text.new.bytes ≡ text.old.bytes ++ frame_word_text bus.now.state sp first k }
     ensures len { array_string_len text.new ≤ array_string_len text.old + 42 }
 {
     push_word(text, bus, sp.wrapping_add(4 * k), frame_label(first + k));
@@ -143,7 +143,7 @@ fn push_frame_word(text: &mut Text, bus: &Bus, sp: u32, first: u32, k: u32)
 fn push_words(text: &mut Text, bus: &Bus, sp: u32, first: u32, count: u32)
     requires few { first + count ≤ 18 }
     requires room { array_string_len text.old + 756 ≤ 48000 }
-    ensures bytes { text.new.bytes ≡ text.old.bytes ++ texts_below (frame_word_text bus.now sp first) count }
+    ensures bytes { text.new.bytes ≡ text.old.bytes ++ texts_below (frame_word_text bus.now.state sp first) count }
     ensures len { array_string_len text.new ≤ array_string_len text.old + 756 }
 {
     for k in 0..count {
@@ -155,7 +155,7 @@ fn push_words(text: &mut Text, bus: &Bus, sp: u32, first: u32, count: u32)
 #[tactic(auto, unfolding(crate::specs::Frames::frame_by))]
 fn push_frame_by(text: &mut Text, core: &Core, bus: &Bus, returning: &Returning)
     requires { array_string_len text.old + 756 ≤ 48000 }
-    ensures bytes { text.new.bytes ≡ text.old.bytes ++ frame_by core.now bus.now returning.now }
+    ensures bytes { text.new.bytes ≡ text.old.bytes ++ frame_by core.now bus.now.state returning.now }
     ensures len { array_string_len text.new ≤ array_string_len text.old + 756 }
 {
     let sp = frame_pointer(core, returning);
@@ -169,7 +169,7 @@ fn push_frame_by(text: &mut Text, core: &Core, bus: &Bus, returning: &Returning)
 #[tactic(auto, unfolding(crate::specs::Frames::frame_text))]
 pub fn push_frame(text: &mut Text, core: &Core, bus: &Bus)
     requires { array_string_len text.old + 850 ≤ 48000 }
-    ensures bytes { text.new.bytes ≡ text.old.bytes ++ frame_text core.now bus.now }
+    ensures bytes { text.new.bytes ≡ text.old.bytes ++ frame_text core.now bus.now.state }
     ensures len { array_string_len text.new ≤ array_string_len text.old + 850 }
 {
     if has_frame(core) {

@@ -55,7 +55,7 @@ fn push_core(text: &mut Text, core: &Core, exceptions: &Exceptions, step: u32)
 #[tactic(auto, unfolding(crate::specs::Page::rest_text))]
 fn push_rest(text: &mut Text, core: &Core, exceptions: &Exceptions, bus: &Bus)
     requires { array_string_len text.old + 38000 ≤ 48000 }
-    ensures bytes { text.new.bytes ≡ text.old.bytes ++ rest_text core.now exceptions.now bus.now }
+    ensures bytes { text.new.bytes ≡ text.old.bytes ++ rest_text core.now exceptions.now bus.now.state }
     ensures len { array_string_len text.new ≤ array_string_len text.old + 38000 }
 {
     push_exceptions(text, &core.status, exceptions);

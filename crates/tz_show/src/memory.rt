@@ -28,7 +28,7 @@ fn attribution_mark(side: RegionSide) -> &'static str
 #[tactic(auto, unfolding(crate::specs::Dump::shown_byte))]
 fn push_shown_byte(text: &mut Text, bus: &Bus, addr: u32)
     requires { array_string_len text.old + 2 ≤ 48000 }
-    ensures bytes { text.new.bytes ≡ text.old.bytes ++ shown_byte bus.now addr }
+    ensures bytes { text.new.bytes ≡ text.old.bytes ++ shown_byte bus.now.state addr }
     ensures len { array_string_len text.new ≡ array_string_len text.old + 2 }
 {
     match bus.read(addr, Size::Byte) {
@@ -53,7 +53,7 @@ fn shown_character(byte: u32) -> char
 #[tactic(auto, unfolding(crate::specs::Dump::shown_text))]
 fn push_shown_text(text: &mut Text, bus: &Bus, addr: u32)
     requires { array_string_len text.old + 1 ≤ 48000 }
-    ensures bytes { text.new.bytes ≡ text.old.bytes ++ shown_text bus.now addr }
+    ensures bytes { text.new.bytes ≡ text.old.bytes ++ shown_text bus.now.state addr }
     ensures len { array_string_len text.new ≡ array_string_len text.old + 1 }
 {
     match bus.read(addr, Size::Byte) {
@@ -75,7 +75,7 @@ fn has_more(range: &Range, from: u32, k: u32) -> bool
 fn push_byte(text: &mut Text, bus: &Bus, range: &Range, from: u32, k: u32)
     requires below { k < 16 }
     requires room { array_string_len text.old + 4 ≤ 48000 }
-    ensures bytes { text.new.bytes ≡ text.old.bytes ++ byte_text bus.now range.now from k }
+    ensures bytes { text.new.bytes ≡ text.old.bytes ++ byte_text bus.now.state range.now from k }
     ensures len { array_string_len text.new ≤ array_string_len text.old + 4 }
 {
     push_where(text, k == 8, " ");
@@ -92,7 +92,7 @@ fn push_byte(text: &mut Text, bus: &Bus, range: &Range, from: u32, k: u32)
 fn push_character(text: &mut Text, bus: &Bus, range: &Range, from: u32, k: u32)
     requires below { k < 16 }
     requires room { array_string_len text.old + 1 ≤ 48000 }
-    ensures bytes { text.new.bytes ≡ text.old.bytes ++ character_text bus.now range.now from k }
+    ensures bytes { text.new.bytes ≡ text.old.bytes ++ character_text bus.now.state range.now from k }
     ensures len { array_string_len text.new ≤ array_string_len text.old + 1 }
 {
     if has_more(range, from, k) {
@@ -103,7 +103,7 @@ fn push_character(text: &mut Text, bus: &Bus, range: &Range, from: u32, k: u32)
 /// The columns of a line.
 fn push_bytes(text: &mut Text, bus: &Bus, range: &Range, from: u32)
     requires { array_string_len text.old + 64 ≤ 48000 }
-    ensures bytes { text.new.bytes ≡ text.old.bytes ++ texts_below (byte_text bus.now range.now from) 16 }
+    ensures bytes { text.new.bytes ≡ text.old.bytes ++ texts_below (byte_text bus.now.state range.now from) 16 }
     ensures len { array_string_len text.new ≤ array_string_len text.old + 64 }
 {
     for k in 0..16u32 {
@@ -114,7 +114,7 @@ fn push_bytes(text: &mut Text, bus: &Bus, range: &Range, from: u32)
 /// The characters behind them.
 fn push_characters(text: &mut Text, bus: &Bus, range: &Range, from: u32)
     requires { array_string_len text.old + 16 ≤ 48000 }
-    ensures bytes { text.new.bytes ≡ text.old.bytes ++ texts_below (character_text bus.now range.now from) 16 }
+    ensures bytes { text.new.bytes ≡ text.old.bytes ++ texts_below (character_text bus.now.state range.now from) 16 }
     ensures len { array_string_len text.new ≤ array_string_len text.old + 16 }
 {
     for k in 0..16u32 {
@@ -126,7 +126,7 @@ fn push_characters(text: &mut Text, bus: &Bus, range: &Range, from: u32)
 #[tactic(auto, unfolding(crate::specs::Dump::bytes_line))]
 fn push_line(text: &mut Text, bus: &Bus, range: &Range, from: u32)
     requires { array_string_len text.old + 99 ≤ 48000 }
-    ensures bytes { text.new.bytes ≡ text.old.bytes ++ bytes_line bus.now range.now from }
+    ensures bytes { text.new.bytes ≡ text.old.bytes ++ bytes_line bus.now.state range.now from }
     ensures len { array_string_len text.new ≤ array_string_len text.old + 99 }
 {
     let addr = range.first.wrapping_add(from);
@@ -148,7 +148,7 @@ fn put_line<O: Sink>(
     out: &mut O,
 ) -> Result<(), SinkError>
     requires { 16 * k < 2 ^ 32 }
-    ensures put { Put (O.written out.old) (O.written out.new) (O.space out.old) (O.space out.new) (dump_line bus.now range.now k) result }
+    ensures put { Put (O.written out.old) (O.written out.new) (O.space out.old) (O.space out.new) (dump_line bus.now.state range.now k) result }
     ensures cause { HasCause (O.faults out.old) (O.faults out.new) (result ≡ Err SinkError.Failed) }
 {
     text.clear();
@@ -166,7 +166,7 @@ fn line_count(range: &Range) -> u32
 
 /// Writes the lines of a range, each as one put.
 fn put_lines<O: Sink>(bus: &Bus, range: &Range, out: &mut O) -> Result<(), SinkError>
-    ensures put { Put (O.written out.old) (O.written out.new) (O.space out.old) (O.space out.new) (texts_below (dump_line bus.now range.now) ((range.now.count + 15) / 16)) result }
+    ensures put { Put (O.written out.old) (O.written out.new) (O.space out.old) (O.space out.new) (texts_below (dump_line bus.now.state range.now) ((range.now.count + 15) / 16)) result }
     ensures cause { HasCause (O.faults out.old) (O.faults out.new) (result ≡ Err SinkError.Failed) }
 {
     let mut text = Text::new();
@@ -180,7 +180,7 @@ fn put_lines<O: Sink>(bus: &Bus, range: &Range, out: &mut O) -> Result<(), SinkE
 
 /// Writes a range behind its heading.
 fn put_range<O: Sink>(bus: &Bus, range: &Range, out: &mut O) -> Result<(), SinkError>
-    ensures put { Put (O.written out.old) (O.written out.new) (O.space out.old) (O.space out.new) (range_text bus.now range.now) result }
+    ensures put { Put (O.written out.old) (O.written out.new) (O.space out.old) (O.space out.new) (range_text bus.now.state range.now) result }
     ensures cause { HasCause (O.faults out.old) (O.faults out.new) (result ≡ Err SinkError.Failed) }
 {
     if let Err(error) = out.put(b"\nMemory\n") {
@@ -192,7 +192,7 @@ fn put_range<O: Sink>(bus: &Bus, range: &Range, out: &mut O) -> Result<(), SinkE
 /// Writes all ranges.
 #[tactic(auto, unfolding(crate::specs::Dump::ranges_text))]
 pub fn put_ranges<O: Sink>(bus: &Bus, ranges: &[Range], out: &mut O) -> Result<(), SinkError>
-    ensures put { Put (O.written out.old) (O.written out.new) (O.space out.old) (O.space out.new) (ranges_text bus.now ranges.now) result }
+    ensures put { Put (O.written out.old) (O.written out.new) (O.space out.old) (O.space out.new) (ranges_text bus.now.state ranges.now) result }
     ensures cause { HasCause (O.faults out.old) (O.faults out.new) (result ≡ Err SinkError.Failed) }
 {
     for range in ranges {

@@ -129,7 +129,7 @@ fn push_sau_unit(text: &mut Text, sau: &Sau)
 #[tactic(auto, unfolding(crate::specs::Units::sau_text))]
 pub fn push_sau(text: &mut Text, bus: &Bus)
     requires { array_string_len text.old + 492 ≤ 48000 }
-    ensures bytes { text.new.bytes ≡ text.old.bytes ++ sau_text bus.now.sau }
+    ensures bytes { text.new.bytes ≡ text.old.bytes ++ sau_text bus.now.state.sau }
     ensures len { array_string_len text.new ≤ array_string_len text.old + 492 }
 {
     push_sau_unit(text, bus.sau());
@@ -219,7 +219,7 @@ fn push_mpu(text: &mut Text, profile: Profile, mpu: &Mpu, head: &str)
 #[tactic(auto, unfolding(crate::specs::Units::side_mpu_text))]
 fn push_side_mpu(text: &mut Text, bus: &Bus, side: Side, head: &str)
     requires { array_string_len text.old + length head.now + 937 ≤ 48000 }
-    ensures bytes { text.new.bytes ≡ text.old.bytes ++ side_mpu_text bus.now side head.now }
+    ensures bytes { text.new.bytes ≡ text.old.bytes ++ side_mpu_text bus.now.state side head.now }
     ensures len { array_string_len text.new ≤ array_string_len text.old + length head.now + 937 }
 {
     push_mpu(text, bus.board().profile, bus.mpu(side), head);
@@ -228,7 +228,7 @@ fn push_side_mpu(text: &mut Text, bus: &Bus, side: Side, head: &str)
 #[tactic(auto, unfolding(crate::specs::Units::mpus_text))]
 pub fn push_mpus(text: &mut Text, bus: &Bus)
     requires { array_string_len text.old + 1907 ≤ 48000 }
-    ensures bytes { text.new.bytes ≡ text.old.bytes ++ mpus_text bus.now }
+    ensures bytes { text.new.bytes ≡ text.old.bytes ++ mpus_text bus.now.state }
     ensures len { array_string_len text.new ≤ array_string_len text.old + 1907 }
 {
     text.push_str("\nMPU\n");

@@ -57,7 +57,7 @@ fn hint(core: &mut Core, op: u8) -> Result<Outcome, Fault>
 
 /// Barriers do nothing, but CLREX, which clears the exclusive monitor.
 fn barrier(bus: &mut Bus, op: BarrierOp)
-    ensures { bus.new ≡ cleared_by (Barrier op 0) bus.old }
+    ensures { bus.new.state ≡ cleared_by (Barrier op 0) bus.old.state }
 {
     match op {
         BarrierOp::Clrex => bus.monitor_clear(),
@@ -113,7 +113,7 @@ fn asked(core: &Core, alternate: bool, user: bool, rn: u8, priority: i32) -> Pro
 
 /// TT; its forms TTA and TTAT are undefined in Non-secure state.
 fn test(core: &mut Core, bus: &Bus, probe: &Probe, rd: u8) -> Result<Outcome, Fault>
-    ensures { finished_named core.old (finish_test core.old.run.side probe.now.alternate rd (named_of core.old) (target_word bus.now probe.now)) ≡ (core.new, result) }
+    ensures { finished_named core.old (finish_test core.old.run.side probe.now.alternate rd (named_of core.old) (target_word bus.now.state probe.now)) ≡ (core.new, result) }
 {
     if probe.alternate && core.side() == Side::NonSecure {
         return Err(Fault::Undef);
@@ -136,7 +136,7 @@ fn test(core: &mut Core, bus: &Bus, probe: &Probe, rd: u8) -> Result<Outcome, Fa
 /// `StackLimit(NonSecure)` exactly where MSR would write SP_NS below its limit; `Breakpoint`
 /// for BKPT, and `Call` for SVC. A fault leaves the core as it was. The bus is changed by CLREX alone.
 pub fn execute(insn: &Insn, core: &mut Core, bus: &mut Bus, priority: i32) -> Result<Outcome, Fault>
-    ensures { system_over priority insn.now core.old bus.old ≡ record { core = core.new; held = bus.new; outcome = result } }
+    ensures { system_over priority insn.now core.old bus.old.state ≡ record { core = core.new; held = bus.new.state; outcome = result } }
 {
     match *insn {
         Insn::Hint { op } => hint(core, op),

@@ -40,12 +40,12 @@ loop-region-preserved c =
     let at = slice_get-get_or rs i none c.loop-region-test.true in
     let block = block_in rs i r c.requires.blocks at in
     let fits = region_fits rs i (i + 1) from (length bs) r refl at block c.loop-region.invariant.left in
-    let put : c.put_region.new.bus ≡ with_memory c.loop-region.bus (with_bytes c.loop-region.bus.memory r.base (take r.size (drop from bs))) =
-    c.in_ok-put_region.ensures ∙ ap (λ (ys : List ℕ). with_memory c.loop-region.bus (with_bytes c.loop-region.bus.memory r.base (take r.size ys))) (rest_of bs from)
+    let put : c.put_region.new.bus.state ≡ with_memory c.loop-region.bus.state (with_bytes c.loop-region.bus.state.memory r.base (take r.size (drop from bs))) =
+    c.in_ok-put_region.ensures ∙ ap (λ (ys : List ℕ). with_memory c.loop-region.bus.state (with_bytes c.loop-region.bus.state.memory r.base (take r.size ys))) (rest_of bs from)
     in
-    let read = region_read c.loop-region.bus.memory rs i (i + 1) from (from + r.size) r bs refl at block refl (omega (arith, fits)) (λ j. omega (arith, c.type_inv.bytes j)) in
+    let read = region_read c.loop-region.bus.state.memory rs i (i + 1) from (from + r.size) r bs refl at block refl (omega (arith, fits)) (λ j. omega (arith, c.type_inv.bytes j)) in
     record {
-      told = c.loop-region.invariant.told ∙ ap (λ m. with_memory c.loop-region.bus m) read
+      told = c.loop-region.invariant.told ∙ ap (λ m. with_memory c.loop-region.bus.state m) read
           ∙ sym (ap (λ (b : Bus). with_memory b (with_regions b.memory (drop (i + 1) rs) (words_of (drop (from + r.size) bs)))) put);
       left = fits;
     }
@@ -53,4 +53,4 @@ loop-region-preserved c =
 pub returns : goal.returns
 returns c =
     sym (c.loop-region.invariant.told
-    ∙ ap (λ m. with_memory c.loop-region.bus m) (regions_end c.loop-region.bus.memory c.args.regions.now c.loop-region.region-index (words_of (drop c.loop-region.at c.args.bytes.now)) c.loop-region-test.false))
+    ∙ ap (λ m. with_memory c.loop-region.bus.state m) (regions_end c.loop-region.bus.state.memory c.args.regions.now c.loop-region.region-index (words_of (drop c.loop-region.at c.args.bytes.now)) c.loop-region-test.false))

@@ -5,4 +5,4 @@ use Rattle.tz_core.proofs.start.put_segments.Given as goal
 
 abbrev pub invariant-loop-segment : goal.invariant-loop-segment
 invariant-loop-segment l =
-    with_memory l.bus (with_segments l.bus.memory (drop l.segment-index l.segments)) ≡ with_memory l.fn.bus (with_segments l.fn.bus.memory l.segments)
+    with_memory l.bus.state (with_segments l.bus.state.memory (drop l.segment-index l.segments)) ≡ with_memory l.fn.bus.state (with_segments l.fn.bus.state.memory l.segments)

@@ -6,4 +6,4 @@ use Rattle.tz_iso.proofs.compared.bytes_differ.Given as goal
 -- an open byte that differs is in no range before this one
 abbrev pub invariant-loop-range : goal.invariant-loop-range
 invariant-loop-range l =
-    (a : ℕ) → open_byte_differs l.b l.c a ≡ true → are_among (drop l.range-index l.marks.ranges.items) (a / 32) ≡ are_among l.marks.ranges.items (a / 32)
+    (a : ℕ) → open_byte_differs l.b.state l.c.state a ≡ true → are_among (drop l.range-index l.marks.ranges.items) (a / 32) ≡ are_among l.marks.ranges.items (a / 32)

@@ -7,4 +7,4 @@ use Rattle.tz_iso.proofs.compared.sau_differs.Goals as goal
 pub returns-else-marks : goal.returns-else-marks
 returns-else-marks c =
     c.if-marks.false
-    ∙ sym (subst (λ (x : SauState). sau_differs c.args.b.now.sau x ≡ false) (c.requires c.if-marks.false) (sau_itself c.args.b.now.sau))
+    ∙ sym (subst (λ (x : SauState). sau_differs c.args.b.now.state.sau x ≡ false) (c.requires c.if-marks.false) (sau_itself c.args.b.now.state.sau))

@@ -6,6 +6,6 @@ use Rattle.tz_show.proofs.frames.push_stack_words.Given as goal
 
 abbrev pub invariant-loop-k : goal.invariant-loop-k
 invariant-loop-k l = record {
-  bytes : l.text.bytes ≡ l.fn.text.bytes ++ texts_below (stack_word_text l.bus l.sp) l.k;
+  bytes : l.text.bytes ≡ l.fn.text.bytes ++ texts_below (stack_word_text l.bus.state l.sp) l.k;
   len : array_string_len l.text ≤ array_string_len l.fn.text + 21 * l.k;
 }

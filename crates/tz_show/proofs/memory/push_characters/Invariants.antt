@@ -6,6 +6,6 @@ use Rattle.tz_show.proofs.memory.push_characters.Given as goal
 
 abbrev pub invariant-loop-k : goal.invariant-loop-k
 invariant-loop-k l = record {
-  bytes : l.text.bytes ≡ l.fn.text.bytes ++ texts_below (character_text l.bus l.range l.from) l.k;
+  bytes : l.text.bytes ≡ l.fn.text.bytes ++ texts_below (character_text l.bus.state l.range l.from) l.k;
   len : array_string_len l.text ≤ array_string_len l.fn.text + 1 * l.k;
 }

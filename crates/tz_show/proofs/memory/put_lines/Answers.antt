@@ -16,11 +16,11 @@ loop-k-preserved g c = record {
 
 pub returns-in-Err-clause-put : goal.returns-in-Err-clause-put
 returns-in-Err-clause-put g c =
-    subst (λ (n : ℕ). Put (g.O.Sink.written c.args.out.now) (g.O.Sink.written c.put_line.new.out) (g.O.Sink.space c.args.out.now) (g.O.Sink.space c.put_line.new.out) (texts_below (dump_line c.args.bus.now c.args.range.now) n) (Err c.in-Err.error)) c.line_count-k-end.ensures.is
+    subst (λ (n : ℕ). Put (g.O.Sink.written c.args.out.now) (g.O.Sink.written c.put_line.new.out) (g.O.Sink.space c.args.out.now) (g.O.Sink.space c.put_line.new.out) (texts_below (dump_line c.args.bus.now.state c.args.range.now) n) (Err c.in-Err.error)) c.line_count-k-end.ensures.is
     (put_stops _ _ _ _ _ _ _ _ _ c.in-Err.error c.loop-k-test.true c.loop-k.invariant.put c.in-Err.ensures.put)
 
 pub returns-clause-put : goal.returns-clause-put
 returns-clause-put g c =
     let e : c.loop-k.k ≡ c.line_count-k-end.result = omega arith in
-    subst (λ (n : ℕ). Put (g.O.Sink.written c.args.out.now) (g.O.Sink.written c.loop-k.out) (g.O.Sink.space c.args.out.now) (g.O.Sink.space c.loop-k.out) (texts_below (dump_line c.args.bus.now c.args.range.now) n) (Ok tt)) (e ∙ c.line_count-k-end.ensures.is)
+    subst (λ (n : ℕ). Put (g.O.Sink.written c.args.out.now) (g.O.Sink.written c.loop-k.out) (g.O.Sink.space c.args.out.now) (g.O.Sink.space c.loop-k.out) (texts_below (dump_line c.args.bus.now.state c.args.range.now) n) (Ok tt)) (e ∙ c.line_count-k-end.ensures.is)
     c.loop-k.invariant.put

@@ -6,6 +6,6 @@ use Rattle.tz_show.proofs.memory.put_lines.Given as goal
 
 abbrev pub invariant-loop-k : goal.invariant-loop-k
 invariant-loop-k g l = record {
-  put : Put (g.O.Sink.written l.fn.out) (g.O.Sink.written l.out) (g.O.Sink.space l.fn.out) (g.O.Sink.space l.out) (texts_below (dump_line l.bus l.range) l.k) (Ok tt);
+  put : Put (g.O.Sink.written l.fn.out) (g.O.Sink.written l.out) (g.O.Sink.space l.fn.out) (g.O.Sink.space l.out) (texts_below (dump_line l.bus.state l.range) l.k) (Ok tt);
   later : g.O.Sink.faults l.fn.out ≤ g.O.Sink.faults l.out;
 }

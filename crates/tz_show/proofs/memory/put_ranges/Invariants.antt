@@ -5,6 +5,6 @@ use Rattle.tz_show.proofs.memory.put_ranges.Given as goal
 
 abbrev pub invariant-loop-range : goal.invariant-loop-range
 invariant-loop-range g l = record {
-  sent : Sent (ranges_text l.bus l.ranges) (g.O.Sink.written l.fn.out) (g.O.Sink.written l.out) (g.O.Sink.space l.fn.out) (g.O.Sink.space l.out) (ranges_text l.bus (drop l.range-index l.ranges));
+  sent : Sent (ranges_text l.bus.state l.ranges) (g.O.Sink.written l.fn.out) (g.O.Sink.written l.out) (g.O.Sink.space l.fn.out) (g.O.Sink.space l.out) (ranges_text l.bus.state (drop l.range-index l.ranges));
   later : g.O.Sink.faults l.fn.out ≤ g.O.Sink.faults l.out;
 }

@@ -5,18 +5,18 @@ use Rattle.tz_access.proofs.bus.Bus.differs_in_block.Goals as goal
 
 pub returns-then-not-differs_in : goal.returns-then-not-differs_in
 returns-then-not-differs_in c =
-    sym (none_open c.args.self.now c.args.other.now ((region_at c.args.self.now.board.regions c.args.index).base + c.args.block * 32) 32
+    sym (none_open c.args.self.now.state c.args.other.now.state ((region_at c.args.self.now.state.board.regions c.args.index).base + c.args.block * 32) 32
     (sym c.if-not-differs_in.ensures))
 
 pub returns-then-mine : goal.returns-then-mine
 returns-then-mine c =
-    block_answer c.args.self.now c.args.other.now (region_at c.args.self.now.board.regions c.args.index) c.args.block c.address_of-addr.result true c.is_open-others.result
+    block_answer c.args.self.now.state c.args.other.now.state (region_at c.args.self.now.state.board.regions c.args.index) c.args.block c.address_of-addr.result true c.is_open-others.result
     c.know_region.ensures c.address_of-addr.ensures c.if-mine.ensures.value c.is_open-mine.ensures.blocks c.is_open-others.ensures.value c.is_open-others.ensures.blocks
     c.if-not-differs_in.ensures
 
 pub returns-else-mine : goal.returns-else-mine
 returns-else-mine c =
     c.if-mine.false
-    ∙ block_answer c.args.self.now c.args.other.now (region_at c.args.self.now.board.regions c.args.index) c.args.block c.address_of-addr.result false c.is_open-others.result
+    ∙ block_answer c.args.self.now.state c.args.other.now.state (region_at c.args.self.now.state.board.regions c.args.index) c.args.block c.address_of-addr.result false c.is_open-others.result
     c.know_region.ensures c.address_of-addr.ensures c.if-mine.ensures.value c.is_open-mine.ensures.blocks c.is_open-others.ensures.value c.is_open-others.ensures.blocks
     c.if-not-differs_in.ensures

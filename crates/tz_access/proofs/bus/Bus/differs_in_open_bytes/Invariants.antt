@@ -7,4 +7,4 @@ use Rattle.tz_access.proofs.bus.Bus.differs_in_open_bytes.Given as goal
 -- no region before this one has an open byte that differs
 abbrev pub invariant-loop-index : goal.invariant-loop-index
 invariant-loop-index l =
-    list_any (region_passes (open_byte_differs l.self l.other)) (take l.index l.self.board.regions) ≡ false
+    list_any (region_passes (open_byte_differs l.self.state l.other.state)) (take l.index l.self.state.board.regions) ≡ false

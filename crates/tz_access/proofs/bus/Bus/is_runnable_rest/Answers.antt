@@ -9,5 +9,5 @@ pub returns-then-is_one_block : goal.returns-then-is_one_block
 unfolding is_runnable
 returns-then-is_one_block c =
     let f = c.args.fetcher.now in
-    let blocks : IsByBlocks (lets_run c.args.self.now f.side f.privileged f.negative) = runs_by_blocks c.args.self.now f.side f.privileged f.negative in
+    let blocks : IsByBlocks (lets_run c.args.self.now.state f.side f.privileged f.negative) = runs_by_blocks c.args.self.now.state f.side f.privileged f.negative in
     grind (arith, common_steps)

@@ -8,7 +8,7 @@ use Rattle.tz_access.proofs.bus.Bus.is_second_entry.Goals as goal
 
 pub returns-then-is_one_block : goal.returns-then-is_one_block
 returns-then-is_one_block c =
-    let blocks : IsByBlocks (is_entry (map_in c.args.self.now)) = entry_by_blocks _ c.know_regions.ensures in
+    let blocks : IsByBlocks (is_entry (map_in c.args.self.now.state)) = entry_by_blocks _ c.know_regions.ensures in
     grind (arith, common_steps)
 
 pub returns-else-is_one_block : goal.returns-else-is_one_block

@@ -8,7 +8,7 @@ use Rattle.tz_access.proofs.bus.Bus.is_second_runnable.Goals as goal
 pub returns-then-is_one_block : goal.returns-then-is_one_block
 unfolding is_runnable
 returns-then-is_one_block c =
-    let blocks : IsByBlocks (lets_run c.args.self.now c.args.side c.args.privileged c.args.negative) = runs_by_blocks c.args.self.now c.args.side c.args.privileged c.args.negative in
+    let blocks : IsByBlocks (lets_run c.args.self.now.state c.args.side c.args.privileged c.args.negative) = runs_by_blocks c.args.self.now.state c.args.side c.args.privileged c.args.negative in
     grind (arith, second_in_block)
 
 pub returns-else-is_one_block : goal.returns-else-is_one_block

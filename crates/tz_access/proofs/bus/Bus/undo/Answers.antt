@@ -1,4 +1,4 @@
-use Rattle.std.proofs.Common.{◌≡◌, ℕ, ◌+◌, ◌-◌, length, take, ap, ◌∙◌, sym, arith}
+use Rattle.std.proofs.Common.{◌≡◌, ◌+◌, ◌-◌, length, take, ap, ◌∙◌, sym, arith}
 use Rattle.tz_state.specs.State.{Bus, with_memory}
 use Rattle.tz_access.specs.Written.{undone}
 use Rattle.tz_access.proofs.Undoing.{undone_none, taken_all}
@@ -9,15 +9,15 @@ loop-index-init c =
     let ws = c.args.written.now.items in
     let all : c.len-count.result - 0 ≡ length ws = omega (arith, c.len-count.ensures) in
     record {
-      told = ap (λ xs. with_memory c.args.self.now (undone xs c.args.self.now.memory)) (sym (taken_all ws (c.len-count.result - 0) all));
+      told = ap (λ xs. with_memory c.args.self.now.state (undone xs c.args.self.now.state.memory)) (sym (taken_all ws (c.len-count.result - 0) all));
       count = c.len-count.ensures;
     }
 
 pub loop-index-preserved : goal.loop-index-preserved
 loop-index-preserved c =
     let ws = c.args.written.now.items in
-    let before : Bus = c.loop-index.self in
-    let after : Bus = c.undo_one.new.self in
+    let before : Bus = c.loop-index.self.state in
+    let after : Bus = c.undo_one.new.self.state in
     let left : c.len-count.result - c.loop-index.index ≡ c.len-count.result - 1 - c.loop-index.index + 1 = omega (arith, c.loop-index-test.true) in
     let next : c.len-count.result - 1 - c.loop-index.index ≡ c.len-count.result - (c.loop-index.index + 1) = omega arith in
     record {
@@ -31,6 +31,6 @@ loop-index-preserved c =
 pub returns : goal.returns
 returns c =
     let ws = c.args.written.now.items in
-    let left : Bus = c.loop-index.self in
+    let left : Bus = c.loop-index.self.state in
     let none : c.len-count.result - c.loop-index.index ≡ 0 = omega (arith, c.loop-index-test.false) in
     sym (c.loop-index.invariant.told ∙ ap (λ n. with_memory left (undone (take n ws) left.memory)) none ∙ ap (λ m. with_memory left m) (undone_none ws left.memory))

@@ -5,6 +5,6 @@ use Rattle.tz_access.proofs.bus.Bus.undo.Given as goal
 
 abbrev pub invariant-loop-index : goal.invariant-loop-index
 invariant-loop-index l = record {
-  told : with_memory l.fn.self (undone l.written.items l.fn.self.memory) ≡ with_memory l.self (undone (take (l.count - l.index) l.written.items) l.self.memory);
+  told : with_memory l.fn.self.state (undone l.written.items l.fn.self.state.memory) ≡ with_memory l.self.state (undone (take (l.count - l.index) l.written.items) l.self.state.memory);
   count : l.count ≡ length l.written.items;
 }

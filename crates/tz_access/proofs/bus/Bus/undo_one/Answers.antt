@@ -8,4 +8,4 @@ pub returns : goal.returns
 returns c =
     let ws = c.args.written.now.items in
     ap (λ (b : Bus). with_memory b (undone (take c.args.index ws) b.memory)) c.put_back.ensures
-    ∙ ap (λ m. with_memory c.args.self.now m) (sym (undone_next ws c.args.index c.was_at-was.result c.args.self.now.memory c.requires c.was_at-was.ensures))
+    ∙ ap (λ m. with_memory c.args.self.now.state m) (sym (undone_next ws c.args.index c.was_at-was.result c.args.self.now.state.memory c.requires c.was_at-was.ensures))

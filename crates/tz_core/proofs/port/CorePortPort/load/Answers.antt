@@ -8,8 +8,8 @@ use Rattle.tz_core.proofs.port.CorePortPort.load.Goals as goal
 -- A read of a system register writes no memory.
 pub returns-in-Ok-None-clause-lent : goal.returns-in-Ok-None-clause-lent
 returns-in-Ok-None-clause-lent c =
-    let registers : SystemState = record { ipsr = c.args.self.now.ipsr; status = c.args.self.now.status; exceptions = c.args.self.now.exceptions.now; bus = c.load.new.self } in
-    let memory : c.read.new.self.bus.now.memory ≡ c.args.self.now.bus.now.memory =
+    let registers : SystemState = record { ipsr = c.args.self.now.ipsr; status = c.args.self.now.status; exceptions = c.args.self.now.exceptions.now; bus = c.load.new.self.state } in
+    let memory : c.read.new.self.bus.now.state.memory ≡ c.args.self.now.bus.now.state.memory =
     ap (λ (s : SystemState). s.bus.memory) c.read.ensures.state
     ∙ ap (λ (b : Bus). b.memory) (read_kept c.args.self.now.asker.side registers c.args.addr ∙ c.load.ensures.kept) in
     grind (arith, common_steps, memory)

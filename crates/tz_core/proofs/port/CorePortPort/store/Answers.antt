@@ -38,7 +38,7 @@ returns-in-Ok-Memory-clause-lent c =
 pub returns-in-Ok-System-clause-lent : goal.returns-in-Ok-System-clause-lent
 returns-in-Ok-System-clause-lent c =
     let few : noted_count c.store.new.written - 18 ≡ noted_count c.args.self.now.written.now - 18 = omega (arith, c.requires, c.store.ensures.few) in
-    let registers : SystemState = record { ipsr = c.args.self.now.ipsr; status = c.args.self.now.status; exceptions = c.args.self.now.exceptions.now; bus = c.store.new.self } in
-    let memory : c.write.new.self.bus.now.memory ≡ c.store.new.self.memory =
+    let registers : SystemState = record { ipsr = c.args.self.now.ipsr; status = c.args.self.now.status; exceptions = c.args.self.now.exceptions.now; bus = c.store.new.self.state } in
+    let memory : c.write.new.self.bus.now.state.memory ≡ c.store.new.self.state.memory =
     ap (λ (s : SystemState). s.bus.memory) c.write.ensures.state ∙ write_kept c.args.self.now.asker.side registers c.args.addr c.args.size c.cut_to-cut.result in
     grind (arith, common_steps, few, memory)

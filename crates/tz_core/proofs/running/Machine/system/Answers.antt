@@ -25,13 +25,13 @@ at_priority s t i p x is e same =
 -- A search for the whole takes long: only the priority, which is passed as its bits, is left to one.
 pub returns-clause-does : goal.returns-clause-does
 returns-clause-does c =
-    at_priority c.args.self.now (record { core = c.self.inside.core; exceptions = c.self.inside.exceptions; bus = c.self.inside.bus }) c.args.insn.now (to_z w32 (of_z w32 c.execution_priority-priority.result))
-    (record { core = c.execute.new.core; held = c.execute.new.bus; outcome = c.execute.result })
+    at_priority c.args.self.now (record { core = c.self.inside.core; exceptions = c.self.inside.exceptions; bus = c.self.inside.bus.state }) c.args.insn.now (to_z w32 (of_z w32 c.execution_priority-priority.result))
+    (record { core = c.execute.new.core; held = c.execute.new.bus.state; outcome = c.execute.result })
     c.self.view_is c.execute.ensures (search rules)
 
 -- It writes no memory, and clears the monitor at most.
 pub returns-clause-kept : goal.returns-clause-kept
 returns-clause-kept c =
     sym (ap (λ (x : Ported Bus). x.held.memory) c.execute.ensures)
-    ∙ cleared_kept c.args.insn.now c.self.inside.bus
+    ∙ cleared_kept c.args.insn.now c.self.inside.bus.state
     ∙ ap (λ (s : State). s.bus.memory) c.self.view_is
