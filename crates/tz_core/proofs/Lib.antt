@@ -3,6 +3,7 @@ mod Blank
 mod Exchanging
 mod Indexed
 mod Named
+mod OneRegister
 mod Order
 mod Private
 mod Reading

@@ -2,6 +2,7 @@
 
 ghost use Rattle.std.specs.Prelude.{◌≡◌, ◌≤◌};
 ghost use Rattle.arrayvec.specs.ArrayVec.{array_vec_len};
+ghost use Rattle.tz_table.specs.declared.instruction.Insn.TheVariants.{Load as LoadRegister, Store as StoreRegister};
 ghost use Rattle.tz_access.specs.Written.{before_stores, noted_count};
 ghost use Rattle.tz_sem.specs.Local.{local_of, with_local, put};
 ghost use Rattle.tz_sem.specs.declared.family.Family.TheVariants.{LoadStore};
@@ -10,9 +11,9 @@ ghost use Rattle.tz_sem.specs.Exec.{marked, loads_stores, stores_exclusive, exec
 use crate::changes::Stores;
 use crate::port::port_over;
 use crate::running::Machine;
-use tz_access::{Written, is_aligned};
-use tz_loadstore::at_offset;
-use tz_model::{Fault, Insn, Outcome, Size};
+use tz_access::{Place, Written, is_aligned};
+use tz_loadstore::{at_offset, extend, finish_load, place, refusal, reg, write_back};
+use tz_model::{ALIGNED_BY_CCR, Address, Fault, Insn, Outcome, Size, Store, cut_to};
 use tz_regs::Core;
 
 /// Writes 1 to the register that tells whether a store was made.
@@ -26,8 +27,128 @@ fn tell_unstored(core: &mut Core, rd: u8)
 impl Machine {
     ghost use Rattle.tz_state.specs.State.{priority_in, is_negative_at};
 
-    /// A load or a store of the running code.
+    /// A load of one register. Most are of memory, and take no port, which is made ready for an access to a system register.
+    #[tactic(auto, using(crate::proofs::OneRegister::refused, crate::proofs::OneRegister::load_faults, crate::proofs::OneRegister::load_leaves))]
+    #[inline(always)]
+    fn load_one(
+        &mut self,
+        insn: &Insn,
+        size: Size,
+        signed: bool,
+        rt: u8,
+        address: &Address,
+        user: bool,
+        negative: bool,
+        stores: &mut Stores,
+        written: &mut Option<Written>,
+    ) -> Result<Outcome, Fault>
+        requires is { insn.now ≡ LoadRegister size signed rt address.now user }
+        requires negative { negative ≡ is_negative_at (priority_in self.old) }
+        requires empty { array_vec_len stores.old ≡ 0 }
+        requires few { noted_count written.old ≤ 2 }
+        ensures does { loads_stores self.old insn.now ≡ record { state = self.new; stores = stores.new.items; outcome = result } }
+        ensures back { before_stores written.new self.new.bus.memory ≡ before_stores written.old self.old.bus.memory }
+        ensures few { noted_count written.new ≤ 16 }
+    {
+        if let Some(fault) = refusal(&self.core, address) {
+            return Err(fault);
+        }
+        let asker = self.asker(negative);
+        let addr = place(&self.core, address);
+        match self.bus.load(&asker, size, addr, rt == 15, user) {
+            Ok(Some(value)) => {
+                let word = extend(signed, size, value);
+                Ok(finish_load(&mut self.core, address, rt, word))
+            }
+            Ok(None) => self.load_store_by_port(insn, negative, stores, written),
+            Err(fault) => Err(fault),
+        }
+    }
+
+    /// A store of one register, likewise.
+    #[tactic(auto, using(crate::proofs::OneRegister::refused, crate::proofs::OneRegister::store_faults, crate::proofs::OneRegister::store_leaves))]
+    #[inline(always)]
+    fn store_one(
+        &mut self,
+        insn: &Insn,
+        size: Size,
+        rt: u8,
+        address: &Address,
+        user: bool,
+        negative: bool,
+        stores: &mut Stores,
+        written: &mut Option<Written>,
+    ) -> Result<Outcome, Fault>
+        requires is { insn.now ≡ StoreRegister size rt address.now user }
+        requires negative { negative ≡ is_negative_at (priority_in self.old) }
+        requires empty { array_vec_len stores.old ≡ 0 }
+        requires few { noted_count written.old ≤ 2 }
+        ensures does { loads_stores self.old insn.now ≡ record { state = self.new; stores = stores.new.items; outcome = result } }
+        ensures back { before_stores written.new self.new.bus.memory ≡ before_stores written.old self.old.bus.memory }
+        ensures few { noted_count written.new ≤ 16 }
+    {
+        if let Some(fault) = refusal(&self.core, address) {
+            return Err(fault);
+        }
+        let asker = self.asker(negative);
+        let addr = place(&self.core, address);
+        let value = reg(&self.core, rt);
+        match self
+            .bus
+            .store(&asker, size, addr, value, ALIGNED_BY_CCR, user, written)
+        {
+            Ok(Place::Memory) => {
+                stores.push(Store {
+                    addr,
+                    size,
+                    value: cut_to(size, value),
+                });
+                write_back(&mut self.core, address);
+                Ok(Outcome::Next)
+            }
+            Ok(Place::System) => self.load_store_by_port(insn, negative, stores, written),
+            Err(fault) => Err(fault),
+        }
+    }
+
+    /// A load or a store of the running code: one of one register by itself, and all others over the port.
     pub(crate) fn load_store(
+        &mut self,
+        insn: &Insn,
+        negative: bool,
+        stores: &mut Stores,
+        written: &mut Option<Written>,
+    ) -> Result<Outcome, Fault>
+        requires negative { negative ≡ is_negative_at (priority_in self.old) }
+        requires empty { array_vec_len stores.old ≡ 0 }
+        requires few { noted_count written.old ≤ 2 }
+        ensures does { loads_stores self.old insn.now ≡ record { state = self.new; stores = stores.new.items; outcome = result } }
+        ensures back { before_stores written.new self.new.bus.memory ≡ before_stores written.old self.old.bus.memory }
+        ensures few { noted_count written.new ≤ 16 }
+    {
+        match *insn {
+            Insn::Load {
+                size,
+                signed,
+                rt,
+                address,
+                user,
+            } => self.load_one(
+                insn, size, signed, rt, &address, user, negative, stores, written,
+            ),
+            Insn::Store {
+                size,
+                rt,
+                address,
+                user,
+            } => self.store_one(insn, size, rt, &address, user, negative, stores, written),
+            _ => self.load_store_by_port(insn, negative, stores, written),
+        }
+    }
+
+    /// A load or a store of the running code, over the port. It is a call, so that where none is taken none has room.
+    #[inline(never)]
+    fn load_store_by_port(
         &mut self,
         insn: &Insn,
         negative: bool,

@@ -31,6 +31,7 @@ pub fn at_offset(core: &Core, rn: u8, offset: i32) -> u32
 }
 
 /// The address that an access of the running code goes to.
+#[inline(always)]
 pub fn place(core: &Core, address: &Address) -> u32
     ensures { result ≡ place_of address.now (local_of core.now) }
 {
@@ -59,7 +60,8 @@ pub(crate) fn below_limit(core: &Core, rn: u8, value: u32) -> Option<Fault>
 }
 
 /// The fault of an address before any access.
-pub(crate) fn refusal(core: &Core, address: &Address) -> Option<Fault>
+#[inline(always)]
+pub fn refusal(core: &Core, address: &Address) -> Option<Fault>
     ensures { result ≡ refusal_of address.now (local_of core.now) }
 {
     match *address {

@@ -20,10 +20,10 @@ mod single;
 use crate::many::{load_many, store_many};
 use crate::pairs::{load_pair, store_pair};
 use crate::single::{load, load_aligned, store, store_exclusive, store_release};
-pub use addresses::{at_offset, place, reg};
+pub use addresses::{at_offset, place, refusal, reg};
 pub use lists::{is_listed, listed};
 pub use many::{lowest, past_words, write_back_past};
-pub use results::write_back;
+pub use results::{extend, finish_load, write_back};
 use tz_model::{Fault, Insn, Outcome, Port};
 use tz_regs::Core;
 

@@ -31,6 +31,7 @@ fn move_base(core: &mut Core, rn: u8, offset: i32)
 
 /// Gives the base of an access its new value, where it gets one.
 #[tactic(auto, using(tz_sem::proofs::Local::core_kept))]
+#[inline(always)]
 pub fn write_back(core: &mut Core, address: &Address)
     ensures { core.new ≡ with_local core.old (based address.now (local_of core.old)) }
 {
@@ -42,7 +43,7 @@ pub fn write_back(core: &mut Core, address: &Address)
 }
 
 /// A number of a size as a word.
-pub(crate) fn extend(signed: bool, size: Size, value: u32) -> u32
+pub fn extend(signed: bool, size: Size, value: u32) -> u32
     ensures { result ≡ extended_to signed size value }
 {
     match (signed, size) {
@@ -54,7 +55,8 @@ pub(crate) fn extend(signed: bool, size: Size, value: u32) -> u32
 
 /// The base and the register of a load get their values; a load of PC exchanges.
 #[tactic(auto, using(crate::proofs::Puts::put_after))]
-pub(crate) fn finish_load(core: &mut Core, address: &Address, rt: u8, word: u32) -> Outcome
+#[inline(always)]
+pub fn finish_load(core: &mut Core, address: &Address, rt: u8, word: u32) -> Outcome
     ensures { finished_in core.old (register_loaded rt (based address.now (local_of core.old)) word) ≡ (core.new, Ok result) }
 {
     write_back(core, address);

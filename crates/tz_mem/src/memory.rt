@@ -128,6 +128,7 @@ impl Memory {
     /// # Errors
     ///
     /// `NotMapped` where no region holds some byte of it.
+    #[inline(always)]
     pub fn read(&self, addr: u32, size: Size) -> Result<u32, NotMapped>
         ensures { MatchResult result
             (λ value. (every (is_mapped self.now.regions) addr size ≡ true) × (value ≡ value_at self.now.bytes size addr))
@@ -145,6 +146,7 @@ impl Memory {
     /// # Errors
     ///
     /// `NotMapped` where no region holds some byte of the first.
+    #[inline(always)]
     pub fn read_code(&self, addr: u32) -> Result<(u16, Option<u16>), NotMapped>
         ensures { MatchResult result (λ code. IsCode self.now addr code.0 code.1)
             (λ _. every (is_mapped self.now.regions) addr Half ≡ false) }
@@ -161,6 +163,7 @@ impl Memory {
     ///
     /// `NotMapped` where no region holds some byte, `ReadOnly` where regions hold all bytes and that of some
     /// byte is `rom`; nothing changes then.
+    #[inline(always)]
     pub fn write(&mut self, addr: u32, size: Size, value: u32) -> Result<(), Refused>
         ensures written { OnOk result (self.new ≡ with_bytes self.old (with_value self.old.bytes size addr value)) }
         ensures takes { OnOk result (every (is_writable self.old.regions) addr size ≡ true) }
