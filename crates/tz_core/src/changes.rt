@@ -7,13 +7,23 @@ ghost use Rattle.tz_sem.specs.Ended.{changed, registers_changed, changes_of};
 
 use arrayvec::ArrayVec;
 use tz_model::{Change, Store};
-use tz_regs::{Apsr, Before, Core};
+use tz_regs::{Apsr, Core, Registers};
 
 /// The registers that differ after a step.
 pub type Changes = ArrayVec<Change, 16>;
 
 /// The stores of an instruction.
 pub type Stores = ArrayVec<Store, 16>;
+
+/// Takes all registers out of a list. A step changes one or two mostly, and a call that blanks so few takes more.
+#[inline(always)]
+pub(crate) fn clear_changes(changes: &mut Changes)
+    ensures { array_vec_len changes.new ≡ 0 }
+{
+    for _ in 0..changes.len() {
+        changes.pop();
+    }
+}
 
 /// Tells a register where it differs.
 fn tell(changes: &mut Changes, name: u8, old: u32, new: u32)
@@ -106,14 +116,14 @@ fn tell_flags(changes: &mut Changes, before: &Apsr, after: &Apsr)
     }
 }
 
-/// Tells all registers that differ.
-pub fn tell_changes(changes: &mut Changes, before: &Before, core: &Core)
+/// Tells all registers that differ. The side before the step has no part in it.
+pub fn tell_changes(changes: &mut Changes, registers: &Registers, sp: u32, core: &Core)
     requires { array_vec_len changes.old ≡ 0 }
-    ensures { changes.new.items ≡ changes_of before.now core.now }
+    ensures { changes.new.items ≡ changes_of (record { side = core.now.run.side; registers = registers.now; sp = sp }) core.now }
 {
     let now = &core.registers;
-    tell_general(changes, &before.registers.general, &now.general);
-    tell(changes, 13, before.sp, core.pointer());
-    tell(changes, 14, before.registers.lr, now.lr);
-    tell_flags(changes, &before.registers.apsr, &now.apsr);
+    tell_general(changes, &registers.general, &now.general);
+    tell(changes, 13, sp, core.pointer());
+    tell(changes, 14, registers.lr, now.lr);
+    tell_flags(changes, &registers.apsr, &now.apsr);
 }

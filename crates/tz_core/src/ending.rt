@@ -9,7 +9,7 @@ ghost use Rattle.tz_core.specs.Closing.{ending_of};
 use crate::changes::tell_changes;
 use crate::running::Machine;
 use tz_model::{Code, CrossKind, Report, Side, StepKind, Way};
-use tz_regs::{Before, Core};
+use tz_regs::{Core, Registers};
 use tz_sem::{Cause, Ending, Handling};
 
 /// How a step ended, but for how exceptions came into it. That is noted beside it, since few steps have anything of it.
@@ -143,14 +143,25 @@ impl Machine {
     }
 
     /// Fills in the report of a step that ended so, over the stores that it has.
-    pub(crate) fn tell(&self, before: &Before, close: &Close, report: &mut Report)
+    pub(crate) fn tell(
+        &self,
+        start: Side,
+        registers: &Registers,
+        sp: u32,
+        close: &Close,
+        report: &mut Report,
+    )
         requires { array_vec_len report.old.changes ≡ 0 }
-        ensures { report.new ≡ report_of before.now (record { state = self.now; stores = report.old.stores.items; ending = ending_of close.now None }) }
+        ensures { report.new ≡ report_of (record { side = start; registers = registers.now; sp = sp }) (record { state = self.now; stores = report.old.stores.items; ending = ending_of close.now None }) }
     {
-        report.start = before.side;
+        report.start = start;
         report.end = self.side();
         report.touched = close.touched;
-        report.way = self.way(before.side, close);
+        // Few steps cross out of Secure state, and to write it takes more than to look.
+        let way = self.way(start, close);
+        if way.is_some() || report.way.is_some() {
+            report.way = way;
+        }
         if self.core.run.locked {
             report.kind = StepKind::Locked;
             report.stores.clear();
@@ -159,10 +170,10 @@ impl Machine {
         match close.ran {
             Some(code) => {
                 report.kind = StepKind::Ran {
-                    pc: before.registers.pc,
+                    pc: registers.pc,
                     code,
                 };
-                tell_changes(&mut report.changes, before, &self.core);
+                tell_changes(&mut report.changes, registers, sp, &self.core);
             }
             None => {
                 report.kind = kind_without(&self.core, close.cause);

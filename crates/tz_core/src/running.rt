@@ -1,6 +1,6 @@
 //! The machine and the order of its step.
 
-ghost use Rattle.std.specs.Prelude.{◌≡◌, ◌≤◌, ◌+◌};
+ghost use Rattle.std.specs.Prelude.{◌≡◌, ◌≤◌, ◌+◌, None};
 ghost use Rattle.arrayvec.specs.ArrayVec.{array_vec_len};
 ghost use Rattle.tz_model.specs.Words.{wrap};
 ghost use Rattle.tz_model.specs.Codes.{second_of};
@@ -10,7 +10,7 @@ ghost use Rattle.tz_state.specs.Moves.{moves_of, no_moves};
 ghost use Rattle.tz_state.specs.State.{with_exceptions};
 ghost use Rattle.tz_access.specs.Written.{before_stores, noted_count};
 
-use crate::changes::Stores;
+use crate::changes::{Stores, clear_changes};
 use crate::concluding::loads_pc;
 use crate::ending::{Close, Passage, UNCLOSED, changes_handler, ending_of, ran_nothing};
 use crate::exchange::ran_by;
@@ -50,7 +50,7 @@ impl Model for Machine {
 
     ghost coded = { Prim.hlevel (codes, map.code {R = nat_cmp} coded_ℕ coded_ℕ) };
 
-    ghost view = { λ m. record { core = m.core; exceptions = m.exceptions; bus = m.bus } };
+    ghost view = { λ m. record { core = m.core; exceptions = m.exceptions; bus = m.bus.state } };
 }
 
 /// The address after an instruction.
@@ -70,8 +70,18 @@ fn second_of(code: &Code) -> u16
     code.second.unwrap_or(0)
 }
 
+/// Blanks what was noted. Few steps note anything, and to blank it takes more than to look.
+#[inline(always)]
+fn unnote(noted: &mut Option<Handling>)
+    ensures { noted.new ≡ None }
+{
+    if noted.is_some() {
+        *noted = None;
+    }
+}
+
 impl Machine {
-    ghost use Rattle.std.specs.Prelude.{[], None, true, if◌then◌else◌};
+    ghost use Rattle.std.specs.Prelude.{[], true, if◌then◌else◌};
     ghost use Rattle.tz_regs.specs.Banks.{channels_of};
     ghost use Rattle.tz_state.specs.State.{side_of, priority_in, is_negative_at};
     ghost use Rattle.tz_sem.specs.Exec.{executed};
@@ -125,7 +135,7 @@ impl Machine {
 
     /// Memory, with the units that guard it.
     pub fn bus(&self) -> &Bus
-        ensures { result.now ≡ self.now.bus }
+        ensures { result.now.state ≡ self.now.bus }
     {
         &self.bus
     }
@@ -227,6 +237,7 @@ impl Machine {
     }
 
     /// Runs the instruction that a code means.
+    #[inline(always)]
     fn run_code(
         &mut self,
         code: &Code,
@@ -308,7 +319,9 @@ impl Machine {
         self.fault(course, fault, noted, written, close)
     }
 
-    /// Runs an instruction; where T is 0 it faults before anything is fetched.
+    /// Runs an instruction; where T is 0 it faults before anything is fetched. It is one call for all callers of a step, with
+    /// the fetch and the instruction compiled into it.
+    #[inline(never)]
     fn instruct(
         &mut self,
         stores: &mut Stores,
@@ -443,7 +456,8 @@ impl Machine {
         self.go_by_sleep(stores, noted, written, close)
     }
 
-    /// Makes one step with its report, and tells in `close` how it ended.
+    /// Makes one step with its report, and tells in `close` how it ended. It is always inlined, as `make_step` is.
+    #[inline(always)]
     pub(crate) fn report_step(
         &mut self,
         due: &[ScriptEvent],
@@ -461,12 +475,14 @@ impl Machine {
         ensures ending { (ended (started self.old due.now)).ending ≡ ending_of close.new noted.new }
         ensures back { before_stores written.new self.new.bus.memory ≡ before_stores written.old self.old.bus.memory }
     {
-        let before = self.core.before();
-        report.changes.clear();
+        let side = self.core.running_side();
+        let sp = self.core.pointer();
+        let registers = self.core.registers;
+        clear_changes(&mut report.changes);
         report.stores.clear();
         self.start(due, written, moves);
         self.make_step(&mut report.stores, noted, written, close);
-        self.tell(&before, close, report);
+        self.tell(side, &registers, sp, close, report);
     }
 
     /// Makes one step at which these events are due, and tells of it the way out of Secure state, and whether it was
@@ -487,10 +503,7 @@ impl Machine {
     {
         let start = self.core.running_side();
         stores.clear();
-        // Few steps note anything, and to blank it takes more than to look.
-        if noted.is_some() {
-            *noted = None;
-        }
+        unnote(noted);
         let mut written = None;
         let mut moves = no_moves();
         self.start(due, &mut written, &mut moves);
@@ -502,6 +515,27 @@ impl Machine {
         }
     }
 
+    /// Makes one step as `step_into` does, and leaves in `noted` how exceptions came into it. That is lent, as to
+    /// `step_way`.
+    #[inline(always)]
+    pub fn step_over(
+        &mut self,
+        due: &[ScriptEvent],
+        report: &mut Report,
+        noted: &mut Option<Handling>,
+    )
+        ensures steps { step self.old due.now ≡ record { state = self.new; report = report.new } }
+        ensures leaves_secure { LeavesSecure self.old (record { state = self.new; report = report.new }) }
+        ensures enters_secure { EntersSecure self.old due.now (record { state = self.new; report = report.new }) }
+        ensures tells_way { TellsWay (record { state = self.new; report = report.new }) }
+    {
+        unnote(noted);
+        let mut written = None;
+        let mut moves = no_moves();
+        let mut close = UNCLOSED;
+        self.report_step(due, report, noted, &mut written, &mut moves, &mut close);
+    }
+
     /// Makes one step at which these events are due, and tells in `report` what it did.
     pub fn step_into(&mut self, due: &[ScriptEvent], report: &mut Report)
         ensures steps { step self.old due.now ≡ record { state = self.new; report = report.new } }
@@ -510,17 +544,7 @@ impl Machine {
         ensures tells_way { TellsWay (record { state = self.new; report = report.new }) }
     {
         let mut noted = None;
-        let mut written = None;
-        let mut moves = no_moves();
-        let mut close = UNCLOSED;
-        self.report_step(
-            due,
-            report,
-            &mut noted,
-            &mut written,
-            &mut moves,
-            &mut close,
-        );
+        self.step_over(due, report, &mut noted);
     }
 
     /// Makes one step at which these events are due, and tells in `report` what it did, and beside that what neither

@@ -108,8 +108,9 @@ impl Machine {
         self.move_some(written, moves);
     }
 
-    /// Whether an exception ends a sleep, which a PRIMASK doesn't hinder.
-    #[inline(never)]
+    /// Whether an exception ends a sleep, which a PRIMASK doesn't hinder. It is always inlined, since a machine that sleeps
+    /// asks it each step.
+    #[inline(always)]
     pub(crate) fn is_woken(&self) -> bool
         ensures { result ≡ is_woken self.now }
     {

@@ -43,6 +43,7 @@ fn chosen_counted<L: Ledger>(blank: Blank, exceptions: &mut Exceptions) -> Optio
 
 /// Whether the exception that comes first (DDI0553, `PendingExceptionDetails`) is there, and its group priority is
 /// below the execution priority. The slots are looked at once after a change.
+#[inline(always)]
 pub fn takes_first_uncounted(core: &Core, exceptions: &mut Exceptions) -> bool
     ensures same { exceptions.new ≡ exceptions.old }
     ensures takes { result ≡ told.takes_first exceptions.old core.now.masks }

@@ -42,16 +42,26 @@ impl Exceptions {
         }
     }
 
+    /// Looks at the slots, of which nothing is known. Few steps come here.
+    #[inline(never)]
+    fn settle_anew<L: Ledger>(&mut self, steps: &mut Steps<L>)
+        ensures same { self.new ≡ self.old }
+        ensures looks { steps.new ≤ steps.old + 24 }
+    {
+        let known = self.look(steps);
+        self.known = Some(known);
+    }
+
     /// Looks at the slots once, where something was written since the last look that it depends on; timers are
     /// not. Until the next such write `chosen`, `raw_priority`, `is_interrupt_pending` and `returns_to_base`
     /// answer without a look.
+    #[inline(always)]
     pub fn settle<L: Ledger>(&mut self, steps: &mut Steps<L>)
         ensures same { self.new ≡ self.old }
         ensures looks { steps.new ≤ steps.old + 24 }
     {
         if self.known.is_none() {
-            let known = self.look(steps);
-            self.known = Some(known);
+            self.settle_anew(steps);
         }
     }
 

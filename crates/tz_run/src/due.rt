@@ -9,7 +9,7 @@ use tz_model::ScriptEvent;
 use tz_ready::Steps;
 
 /// The events of a step, for steps that are asked for one after another: up to `next` no step has any from this one on.
-pub(crate) fn due_at_step<'a, L: Ledger>(
+pub fn due_at_step<'a, L: Ledger>(
     script: &'a Script,
     next: &mut u32,
     step: u32,

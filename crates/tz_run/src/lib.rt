@@ -18,7 +18,7 @@ mod images;
 mod job;
 mod tally;
 
-use due::due_at_step;
+pub use due::due_at_step;
 pub use job::{Job, make_job};
 use std::marker::Brand;
 use std::sync::ledger::{Blank, Ledger};
@@ -123,11 +123,12 @@ fn run_counted<L: Ledger, O: Sink>(
     let mut looks = Steps::<L>::start(blank);
     let mut report = Report::new();
     let mut lines = Lines::new();
+    let mut noted = None;
     let mut next = 0;
     for step in first..first + steps {
         let due = due_at_step(script, &mut next, step, &mut looks);
         know_typed(machine);
-        machine.step_into(due, &mut report);
+        machine.step_over(due, &mut report, &mut noted);
         if let Err(error) = put_line(&mut lines, &report, step, view, out) {
             return Err(error);
         }
@@ -144,9 +145,10 @@ fn make_counted<L: Ledger>(blank: Blank, machine: &mut Machine, script: &Script,
 {
     let mut looks = Steps::<L>::start(blank);
     let mut report = Report::new();
+    let mut noted = None;
     let mut next = 0;
     for step in 0..steps {
         let due = due_at_step(script, &mut next, step, &mut looks);
-        machine.step_into(due, &mut report);
+        machine.step_over(due, &mut report, &mut noted);
     }
 }

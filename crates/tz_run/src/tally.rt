@@ -86,10 +86,11 @@ fn tally_counted<L: Ledger>(
         taken: 0,
         ran: 0,
     };
+    let mut noted = None;
     let mut next = 0;
     for step in 0..steps {
         let due = due_at_step(script, &mut next, step, &mut looks);
-        machine.step_into(due, &mut report);
+        machine.step_over(due, &mut report, &mut noted);
         tally = with_step(tally, &report);
     }
     tally

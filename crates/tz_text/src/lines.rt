@@ -184,6 +184,7 @@ impl Lines {
     }
 
     /// Makes the line of a step with its line feed, as a view shows it. `step` counts from 0.
+    #[inline(always)]
     #[tactic(auto, unfolding(crate::specs::Line::line))]
     pub fn make(&mut self, report: &Report, step: u32, view: View)
         ensures { self.new ≡ line view step report.now }

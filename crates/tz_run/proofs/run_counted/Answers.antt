@@ -10,9 +10,9 @@ loop-step-init g c = record { lines = so_far_start _ _ _ _ _ _ _; typed = typed_
 
 pub loop-step-preserved : goal.loop-step-preserved
 loop-step-preserved g c =
-    let report = c.step_into.new.report in
+    let report = c.step_over.new.report in
     let made =
-    subst (λ (due : List ScriptEvent). step c.loop-step.machine due ≡ record { state = c.step_into.new.self; report = report }) c.due_at_step-due.ensures.events c.step_into.ensures.steps in
+    subst (λ (due : List ScriptEvent). step c.loop-step.machine due ≡ record { state = c.step_over.new.self; report = report }) c.due_at_step-due.ensures.events c.step_over.ensures.steps in
     record {
       lines = so_far_step _ _ _ _ _ _ _ _ _ _ _ _ _ _ report c.loop-step-test.true made c.loop-step.invariant.lines c.in_default.ensures.put;
       typed = typed_step _ _ _ _ _ _ report made c.know_typed.ensures c.loop-step.invariant.typed;
@@ -22,9 +22,9 @@ loop-step-preserved g c =
 
 pub returns-in-Err-clause-put : goal.returns-in-Err-clause-put
 returns-in-Err-clause-put g c =
-    let report = c.step_into.new.report in
+    let report = c.step_over.new.report in
     let made =
-    subst (λ (due : List ScriptEvent). step c.loop-step.machine due ≡ record { state = c.step_into.new.self; report = report }) c.due_at_step-due.ensures.events c.step_into.ensures.steps in
+    subst (λ (due : List ScriptEvent). step c.loop-step.machine due ≡ record { state = c.step_over.new.self; report = report }) c.due_at_step-due.ensures.events c.step_over.ensures.steps in
     so_far_failed _ _ _ _ _ _ _ _ _ _ _ _ _ _ report c.in-Err.error c.loop-step-test.true made c.loop-step.invariant.lines c.in-Err.ensures.put
 
 pub returns-clause-put : goal.returns-clause-put

@@ -9,9 +9,9 @@ loop-step-init g c = record { so_far = tallied_start _ _ _; none = λ k after be
 
 pub loop-step-preserved : goal.loop-step-preserved
 loop-step-preserved g c =
-    let report = c.step_into.new.report in
+    let report = c.step_over.new.report in
     let made =
-    subst (λ (due : List ScriptEvent). step c.loop-step.machine due ≡ record { state = c.step_into.new.self; report = report }) c.due_at_step-due.ensures.events c.step_into.ensures.steps in
+    subst (λ (due : List ScriptEvent). step c.loop-step.machine due ≡ record { state = c.step_over.new.self; report = report }) c.due_at_step-due.ensures.events c.step_over.ensures.steps in
     record {
       so_far = tallied_step _ _ _ _ _ _ _ _ report c.loop-step-test.true made c.with_step-tally.ensures.secure c.with_step-tally.ensures.taken c.with_step-tally.ensures.ran c.loop-step.invariant.so_far;
       none = λ k after before. c.due_at_step-due.ensures.none k (omega (arith, after)) before;

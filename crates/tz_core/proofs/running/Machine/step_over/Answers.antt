@@ -5,7 +5,7 @@ use Rattle.tz_twin.specs.Integrity.{LeavesSecure, EntersSecure}
 use Rattle.tz_twin.specs.Ways.{TellsWay}
 use Rattle.tz_twin.proofs.Unharmed.{leaves_secure, enters_secure}
 use Rattle.tz_twin.proofs.WaysOut.{tells_way}
-use Rattle.tz_core.proofs.running.Machine.step_into.Goals as goal
+use Rattle.tz_core.proofs.running.Machine.step_over.Goals as goal
 
 pub returns-clause-leaves_secure : goal.returns-clause-leaves_secure
 returns-clause-leaves_secure c =
