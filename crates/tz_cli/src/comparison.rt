@@ -3,9 +3,8 @@
 //! The steps end at the first one at which the runs disagree. The line goes out as one put. It takes no
 //! memory, and knows nothing of where bytes go.
 
-ghost use Rattle.std.specs.Prelude.{◌≡◌, ◌<◌, ◌≤◌, ◌+◌, ◌++◌, ℕ, [], IfOk, Err, None, length};
+ghost use Rattle.std.specs.Prelude.{◌≡◌, ◌<◌, ◌≤◌, ◌+◌, ◌++◌, IfOk, Err, None};
 ghost use Rattle.arrayvec.specs.ArrayString.{array_string_len};
-ghost use Rattle.tz_board.specs.Scripts.{due_at};
 ghost use Rattle.tz_model.specs.Outside.{HasCause, Put};
 ghost use Rattle.tz_iso.specs.Runs.{difference};
 ghost use Rattle.tz_run.specs.Events.{events_of};
@@ -17,8 +16,9 @@ use std::sync::ledger::{Blank, Ledger};
 use tz_board::Script;
 use tz_full::kind_word;
 use tz_iso::{Pair, PairStep, What};
-use tz_model::{ScriptEvent, Sink, SinkError};
+use tz_model::{Sink, SinkError};
 use tz_ready::Steps;
+use tz_run::due_at_step;
 use tz_syntax::push_decimal;
 
 /// A line of a pair. The longest has 34 bytes.
@@ -82,24 +82,6 @@ pub fn push_pair_line<const N: usize>(
         }
     }
     text.push_str("\n");
-}
-
-/// The events of a step, for steps that are asked for one after another: up to `next` no step has any from this one on.
-fn due_at_step<'a, L: Ledger>(
-    script: &'a Script,
-    next: &mut u32,
-    step: u32,
-    looks: &mut Steps<L>,
-) -> &'a [ScriptEvent]
-    requires none { (k : ℕ) → step ≤ k → k < next.old → due_at k script.now ≡ [] }
-    ensures events { result.now ≡ due_at step script.now }
-    ensures none { (k : ℕ) → step < k → k < next.new → due_at k script.now ≡ [] }
-{
-    if step < *next {
-        return &[];
-    }
-    *next = script.next_due(step, looks);
-    script.due(step, looks)
 }
 
 /// Makes steps of both machines until their runs disagree, `steps` at most, and tells where they do.

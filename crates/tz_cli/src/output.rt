@@ -13,23 +13,26 @@ fn write_both<W: Write>(writer: &mut W, first: &[u8], second: &[u8]) -> bool {
     writer.write_all(first).is_ok() && writer.write_all(second).is_ok()
 }
 
-/// Bytes that go to a writer, kept up to a buffer's capacity before they go out.
+/// Bytes that go to a writer, kept up to a buffer's length before they go out.
 #[derive(Drop)]
 pub struct OutSink<W: Write + Drop> {
     inner: W,
-    kept: Vec<u8>,
+    buffer: Vec<u8>,
+    /// How many bytes at the buffer's front are kept.
+    kept: usize,
     broken: bool,
     faults: u64,
 }
 
 impl<W: Write + Drop> OutSink<W> {
-    /// A sink over a writer, with an empty buffer; one of no capacity keeps nothing.
+    /// A sink over a writer, with a buffer to write over; an empty one keeps nothing.
     pub fn new(inner: W, buffer: Vec<u8>) -> Self
         ensures { result.faults ≡ 0 }
     {
         OutSink {
             inner,
-            kept: buffer,
+            buffer,
+            kept: 0,
             broken: false,
             faults: 0,
         }
@@ -40,7 +43,7 @@ impl<W: Write + Drop> OutSink<W> {
         ensures later { self.old.faults ≤ self.new.faults }
         ensures rose { Rose self.old.faults self.new.faults }
     {
-        self.kept.clear();
+        self.kept = 0;
         self.broken = true;
         self.faults = self.faults.saturating_add(1);
     }
@@ -53,11 +56,12 @@ impl<W: Write + Drop> OutSink<W> {
             self.fail();
             return false;
         }
-        if !write_both(&mut self.inner, &self.kept, bytes) {
+        let kept = self.kept.min(self.buffer.len());
+        if !write_both(&mut self.inner, &self.buffer[..kept], bytes) {
             self.fail();
             return false;
         }
-        self.kept.clear();
+        self.kept = 0;
         true
     }
 
@@ -65,8 +69,17 @@ impl<W: Write + Drop> OutSink<W> {
     fn keep(&mut self, bytes: &[u8]) -> bool
         ensures { self.new.faults ≡ self.old.faults }
     {
-        let room = self.kept.capacity().saturating_sub(self.kept.len());
-        !self.broken && bytes.len() <= room && self.kept.extend_from_slice(bytes).is_ok()
+        let Some(end) = self.kept.checked_add(bytes.len()) else {
+            return false;
+        };
+        match self.buffer.as_mut_slice().get_mut(self.kept..end) {
+            Some(place) if !self.broken => {
+                place.copy_from_slice(bytes);
+                self.kept = end;
+                true
+            }
+            _ => false,
+        }
     }
 
     /// Passes on all that is kept, and tells whether that went well.

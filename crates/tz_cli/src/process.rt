@@ -43,7 +43,7 @@ pub fn run_process<R: Env + Files + AllocGlobal, O: Write + Drop, E: Write + Dro
 ) -> ExitCode {
     let alloc = rt.alloc();
     let mut err = OutSink::new(stderr, Vec::new(alloc));
-    let (Ok(words), Ok(buffer)) = (read_words(rt), Vec::with_capacity(alloc, BUFFER)) else {
+    let (Ok(words), Ok(buffer)) = (read_words(rt), Vec::from_elem(alloc, 0, BUFFER)) else {
         let _ = err.put(b"no memory\n");
         return ExitCode::from(7);
     };

@@ -94,7 +94,7 @@ fn written(alloc: Global, good: u32, words: &str) -> Result<(u32, Vec<u8>), Allo
         written: Vec::new(alloc),
     };
     let digits = put_all(
-        &mut OutSink::new(&mut writer, Vec::with_capacity(alloc, 8)?),
+        &mut OutSink::new(&mut writer, Vec::from_elem(alloc, 0, 8)?),
         words,
     );
     Ok((digits, writer.written))
