@@ -24,11 +24,21 @@ pub(crate) struct Entry {
 impl Entry {
     /// The entry of a code.
     pub(crate) fn of(first: u16, second: u16) -> Entry
-        ensures { result.meaning ≡ decode_of first second }
+        ensures first { result.key % 65536 ≡ first }
+        ensures second { result.key / 65536 ≡ second }
     {
         Entry {
             key: key_of(first, second),
             meaning: decode(first, second),
         }
+    }
+
+    /// Makes it the entry of another code. It is a call, so that where a code is kept nothing has room for its decoding.
+    #[inline(never)]
+    pub(crate) fn decode_anew(&mut self, first: u16, second: u16)
+        ensures first { self.new.key % 65536 ≡ first }
+        ensures second { self.new.key / 65536 ≡ second }
+    {
+        *self = Entry::of(first, second);
     }
 }

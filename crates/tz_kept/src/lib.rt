@@ -61,12 +61,10 @@ impl Codes {
     {
         let key = key_of(first, second);
         let place = place_of(key);
-        let kept = &self.entries[place];
-        if kept.key == key {
-            return kept.meaning;
+        let entry = &mut self.entries[place];
+        if entry.key != key {
+            entry.decode_anew(first, second);
         }
-        let entry = Entry::of(first, second);
-        self.entries[place] = entry;
         entry.meaning
     }
 }
