@@ -59,6 +59,7 @@ impl Block {
     }
 
     /// Writes the low part of a number, of a size, at an offset, its low byte first.
+    #[inline(always)]
     pub fn put(&mut self, offset: usize, size: Size, value: u32)
         requires { offset + more_of size < length self.old.bytes }
         ensures { self.new ≡ written_over self.old offset (bytes_of size value) }
@@ -100,6 +101,7 @@ pub fn half_in(bytes: &[u8], offset: usize) -> u16
 }
 
 /// The number of a size at an offset, its low byte first.
+#[inline(always)]
 pub fn number_in(bytes: &[u8], offset: usize, size: Size) -> u32
     requires { offset + more_of size < length bytes.now }
     ensures { result ≡ number_in bytes.now offset size }

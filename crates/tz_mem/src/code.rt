@@ -8,7 +8,7 @@ ghost use Rattle.tz_state.specs.Access.{is_mapped};
 ghost use Rattle.tz_state.specs.Memory.{every, half_at};
 
 use crate::block::{Block, half_in};
-use crate::numbers::{byte_of, likely_whole, whole_of};
+use crate::numbers::{byte_of, likely_whole, whole_near};
 use tz_model::Size;
 
 /// The halfword at an address, byte by byte.
@@ -46,14 +46,15 @@ fn code_in(bytes: &[u8], offset: usize) -> (u16, u16)
     (half_in(bytes, offset), half_in(bytes, offset + 2))
 }
 
-/// The halfword at an address, if blocks hold it, and the one after it, if they hold that too: in one walk
-/// where a block holds both.
+/// The halfword at an address, if blocks hold it, and the one after it, if they hold that too: in one look at the block
+/// behind the one that was likely, or in one walk, where a block holds both.
 #[inline(never)]
-fn code_by_walk(blocks: &[Block], addr: u32) -> Option<(u16, Option<u16>)>
+fn code_by_walk(blocks: &[Block], likely: usize, addr: u32) -> Option<(u16, Option<u16>)>
+    requires { AreApart blocks.now }
     ensures { MatchOption result (every (is_mapped (map region_of blocks.now)) addr Half ≡ false)
         (λ code. IsCode (view_of blocks.now) addr code.0 code.1) }
 {
-    match whole_of(blocks, addr, Size::Word) {
+    match whole_near(blocks, likely, addr, Size::Word) {
         Some((index, offset)) => {
             let block = &blocks[index];
             let both = code_in(&block.bytes, offset);
@@ -76,6 +77,6 @@ pub fn code_at(blocks: &[Block], likely: usize, addr: u32) -> Option<(u16, Optio
             let pair = code_in(&block.bytes, offset);
             Some((pair.0, Some(pair.1)))
         }
-        None => code_by_walk(blocks, addr),
+        None => code_by_walk(blocks, likely, addr),
     }
 }

@@ -113,6 +113,19 @@ pub fn likely_whole(
     }
 }
 
+/// The block that holds all of an access, if a block does, where the likely one doesn't: regions that begin in one
+/// sixteenth of the addresses mostly follow one another, so the one behind it is looked at before all are.
+pub fn whole_near(blocks: &[Block], likely: usize, addr: u32, size: Size) -> Option<(usize, usize)>
+    requires { AreApart blocks.now }
+    ensures { IfSome result (λ place. (addr + more_of size < 2 ^ 32)
+        × IsRun blocks.now addr (addr + more_of size) place.0 place.1) }
+{
+    match likely_whole(blocks, likely.wrapping_add(1), addr, size) {
+        Some(place) => Some(place),
+        None => whole_of(blocks, addr, size),
+    }
+}
+
 /// The number of a size at an address, its low byte first, if blocks hold all of it, by a walk over them.
 #[inline(never)]
 fn value_by_walk(blocks: &[Block], addr: u32, size: Size) -> Option<u32>
