@@ -171,6 +171,16 @@ none_secure b c i whole apart l secure =
     let is : in_region r (r.base + t) ≡ true = grind (arith, nat_tests) in
     rw (closed_there (map_in b) i (r.base + t) whole apart l is (sym secure)) refl))
 
+-- nor in a block of it
+pub none_secure_block : (b c : Bus) (i k : ℕ) → are_regions b.board.regions ≡ true → are_apart b.board.regions ≡ true → i < length b.board.regions
+    → (k + 1) * 32 ≤ (region_at b.board.regions i).size → false ≡ is_nonsecure (region_at b.board.regions i).side
+    → false ≡ some_from (open_byte_differs b c) ((region_at b.board.regions i).base + k * 32) 32
+none_secure_block b c i k whole apart l fit secure =
+    let r = region_at b.board.regions i in
+    sym (none_within (open_byte_differs b c) (r.base + k * 32) 32 (λ t below.
+    let is : in_region r (r.base + k * 32 + t) ≡ true = grind (arith, nat_tests) in
+    rw (closed_there (map_in b) i (r.base + k * 32 + t) whole apart l is (sym secure)) refl))
+
 -- the bytes of a whole region
 pub none_whole : (b c : Bus) (a n m : ℕ) → n ≡ m → false ≡ some_from (byte_differs b.memory c.memory) (a + 0) n → false ≡ some_from (open_byte_differs b c) a m
 none_whole b c a n m e none =

@@ -6,7 +6,6 @@ use Rattle.tz_table.specs.declared.units.Side.TheVariants.{Secure, NonSecure}
 use Rattle.tz_model.specs.declared.board.Profile.{Profile}
 use Rattle.tz_model.specs.Board.{BoardValue}
 use Rattle.tz_regs.specs.Banks.{of_side}
-use Rattle.tz_state.specs.declared.fetcher.Fetcher.{Fetcher}
 use Rattle.tz_state.specs.declared.request.Kind.{Kind}
 use Rattle.tz_state.specs.declared.request.Kind.TheVariants.{Read, Write, Fetch}
 use Rattle.tz_state.specs.Attribution.{MapState, SauState, is_open}
@@ -31,10 +30,6 @@ guards_by board sau mpu_s mpu_ns =
 
 abbrev pub guards_of : Bus → Guards
 guards_of b = guards_by b.board b.sau b.mpu_s b.mpu_ns
-
--- who asks for a byte that is fetched
-abbrev pub who_fetches : Fetcher → Who
-who_fetches f = record { fetch = true; side = f.side; privileged = f.privileged; negative = f.negative }
 
 -- attribution lets code of a side have a byte as data: Secure code all, Non-secure code what is Non-secure
 abbrev pub admits_data : Side → MapState → ℕ → Bool

@@ -77,7 +77,12 @@ impl Bus {
         requires fit { (block + 1) * 32 ≤ (region_at self.now.state.board.regions index).size }
         ensures { result ≡ some_from (open_byte_differs self.now.state other.now.state) ((region_at self.now.state.board.regions index).base + block * 32) 32 }
     {
+        self.know_regions();
         self.know_region(index);
+        self.know_apart();
+        if !self.is_left_to_sau(index) {
+            return false;
+        }
         if !self.differs_in(other, index, block * 32, 32) {
             return false;
         }

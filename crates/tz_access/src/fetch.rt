@@ -1,13 +1,12 @@
 //! Fetches (DDI0553, `FetchInstr`).
 
-ghost use Rattle.std.specs.Prelude.{◌≡◌, ◌+◌, true, false};
+ghost use Rattle.std.specs.Prelude.{◌≡◌, ◌+◌, true, false, Err};
 ghost use Rattle.tz_model.specs.Words.{wrap};
 ghost use Rattle.tz_state.specs.Attribution.{fetch_attribution};
 ghost use Rattle.tz_state.specs.Fetch.{is_own_byte, is_own_fetch, is_runnable, wrong_side, own_fetch, is_entry as is_entry_at, gateway_fetch, is_entry_fault, fetch, narrow, wide};
 ghost use Rattle.tz_state.specs.declared.request.Kind.TheVariants as kinds;
 ghost use Rattle.tz_state.specs.Protection.{permits};
 ghost use Rattle.tz_state.specs.State.{map_in, mpu_of};
-ghost use Rattle.tz_access.specs.LookUps.{who_fetches};
 ghost use Rattle.tz_access.specs.Checks.{IsByBlocks, is_own};
 
 use crate::bus::Bus;
@@ -63,23 +62,11 @@ fn wide(first: u16, second: u16, gateway: bool) -> Fetched
     }
 }
 
-/// Whether a fetch of Non-secure code met Secure memory.
-fn is_entry_fault(answer: &Result<Fetched, Fault>) -> bool
-    ensures { result ≡ is_entry_fault answer.now }
+/// Whether a fault of Non-secure code is that its fetch met Secure memory.
+fn is_entry_fault(fault: Fault) -> bool
+    ensures { result ≡ is_entry_fault (Err fault) }
 {
-    matches!(answer, Err(Fault::EntryPoint))
-}
-
-/// Who asks for a byte that is fetched.
-fn who_fetches(fetcher: &Fetcher) -> Who
-    ensures { result ≡ who_fetches fetcher.now }
-{
-    Who {
-        fetch: true,
-        side: fetcher.side,
-        privileged: fetcher.privileged,
-        negative: fetcher.negative,
-    }
+    matches!(fault, Fault::EntryPoint)
 }
 
 impl Bus {
@@ -251,13 +238,15 @@ impl Bus {
         requires permitted { permitted ≡ permits self.now.state.board.profile (mpu_of fetcher.now.side self.now.state) pc kinds.Fetch fetcher.now.privileged fetcher.now.negative }
         ensures { result ≡ fetch self.now.state fetcher.now pc }
     {
-        let answer = self.own_fetch(fetcher, pc, permitted);
-        FetchAnswer {
-            touched: match fetcher.side {
-                Side::Secure => true,
-                Side::NonSecure => is_entry_fault(&answer),
+        match self.own_fetch(fetcher, pc, permitted) {
+            Ok(fetched) => FetchAnswer {
+                touched: fetcher.side == Side::Secure,
+                answer: Ok(fetched),
             },
-            answer,
+            Err(fault) => FetchAnswer {
+                touched: fetcher.side == Side::Secure || is_entry_fault(fault),
+                answer: Err(fault),
+            },
         }
     }
 
@@ -281,32 +270,69 @@ impl Bus {
     /// other side's.
     #[tactic(auto, unfolding(tz_state::specs::Fetch::is_own_fetch))]
     #[inline(never)]
-    fn fetch_anew(&mut self, fetcher: &Fetcher, pc: u32, who: Who) -> FetchAnswer
-        requires { who ≡ who_fetches fetcher.now }
-        ensures answer { result ≡ fetch self.old.state fetcher.now pc }
+    fn fetch_anew(
+        &mut self,
+        pc: u32,
+        side: Side,
+        privileged: bool,
+        secure_privileged: bool,
+        negative: bool,
+    ) -> FetchAnswer
+        ensures answer { result ≡ fetch self.old.state (record { side = side; privileged = privileged; secure_privileged = secure_privileged; negative = negative }) pc }
         ensures kept { self.new.state ≡ self.old.state }
     {
-        let attributed = self.sau.fetch_attribution(fetcher.side, pc);
-        if !self.is_own_rest(fetcher.side, pc, attributed) {
-            return self.answer_foreign(fetcher, pc, attributed);
+        let fetcher = Fetcher {
+            side,
+            privileged,
+            secure_privileged,
+            negative,
+        };
+        let attributed = self.sau.fetch_attribution(side, pc);
+        if !self.is_own_rest(side, pc, attributed) {
+            return self.answer_foreign(&fetcher, pc, attributed);
         }
+        let who = Who {
+            fetch: true,
+            side,
+            privileged,
+            negative,
+        };
         let found = self.learn(pc, who, true);
-        self.answer_own(fetcher, pc, found.permitted.execute)
+        self.answer_own(&fetcher, pc, found.permitted.execute)
     }
 
-    /// The instruction at PC, or its fault, and whether the fetch met Secure memory.
+    /// The instruction at PC, or its fault, and whether the fetch met Secure memory; who fetches is told as to `fetch`. These
+    /// are words of their own, since a struct of them would be packed and taken apart again at each step.
     #[inline(always)]
-    pub fn fetch_told(&mut self, pc: u32, fetcher: &Fetcher) -> FetchAnswer
-        ensures answer { result ≡ fetch self.old.state fetcher.now pc }
+    pub fn fetch_told(
+        &mut self,
+        pc: u32,
+        side: Side,
+        privileged: bool,
+        secure_privileged: bool,
+        negative: bool,
+    ) -> FetchAnswer
+        ensures answer { result ≡ fetch self.old.state (record { side = side; privileged = privileged; secure_privileged = secure_privileged; negative = negative }) pc }
         ensures kept { self.new.state ≡ self.old.state }
     {
-        let who = who_fetches(fetcher);
+        let who = Who {
+            fetch: true,
+            side,
+            privileged,
+            negative,
+        };
         if let Some(found) = self.find(pc, who) {
-            if found.admitted && self.is_own_last(fetcher.side, pc) {
-                return self.answer_own(fetcher, pc, found.permitted.execute);
+            if found.admitted && self.is_own_last(side, pc) {
+                let fetcher = Fetcher {
+                    side,
+                    privileged,
+                    secure_privileged,
+                    negative,
+                };
+                return self.answer_own(&fetcher, pc, found.permitted.execute);
             }
         }
-        self.fetch_anew(fetcher, pc, who)
+        self.fetch_anew(pc, side, privileged, secure_privileged, negative)
     }
 
     /// The instruction at PC for code of a side, as tests ask for it. `secure_privileged` says that Secure code would be
@@ -327,12 +353,7 @@ impl Bus {
         ensures answer { result ≡ (fetch self.old.state (record { side = side; privileged = privileged; secure_privileged = secure_privileged; negative = negative }) pc).answer }
         ensures kept { self.new.state ≡ self.old.state }
     {
-        let fetcher = Fetcher {
-            side,
-            privileged,
-            secure_privileged,
-            negative,
-        };
-        self.fetch_told(pc, &fetcher).answer
+        self.fetch_told(pc, side, privileged, secure_privileged, negative)
+            .answer
     }
 }

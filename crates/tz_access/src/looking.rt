@@ -183,10 +183,25 @@ impl Bus {
         } = *request;
         if addr < PRIVATE_FIRST && is_one_block(addr, last_of(size, addr)) {
             self.know_regions();
-            let found = self.look_up(addr, for_data(side, privileged, negative));
-            Passes {
-                touches: found.admitted,
-                is_let: permits(found.permitted, kind),
+            let who = Who {
+                fetch: false,
+                side,
+                privileged,
+                negative,
+            };
+            // (each arm tells by itself, since a look-up in which both met would be copied)
+            match self.find(addr, who) {
+                Some(found) => Passes {
+                    touches: found.admitted,
+                    is_let: permits(found.permitted, kind),
+                },
+                None => {
+                    let found = self.look_up_anew(addr, who);
+                    Passes {
+                        touches: found.admitted,
+                        is_let: permits(found.permitted, kind),
+                    }
+                }
             }
         } else {
             self.passes_anew(*request)

@@ -4,7 +4,6 @@ use crate::units::asked::Asked;
 use crate::units::faults::tell_fault;
 use tz_access::Bus;
 use tz_model::{Fault, Fetched};
-use tz_state::Fetcher;
 use tz_testing::Case;
 
 /// Tells a fetched instruction, which is of one halfword or of two, or the gateway, and its halfwords, or its fault.
@@ -35,26 +34,21 @@ pub enum FetchStep {
 
 /// Takes a step: `fetch ADDRESS` of a side; and `told ADDRESS`, the same, and whether it met Secure memory.
 pub fn step(bus: &mut Bus, step: &FetchStep, asked: &Asked, case: &mut Case<'_>) {
-    let fetcher = Fetcher {
-        side: asked.side,
-        privileged: asked.privileged,
-        secure_privileged: asked.secure_privileged,
-        negative: asked.negative,
-    };
     let addr = asked.numbers[0];
+    let Asked {
+        side,
+        privileged,
+        secure_privileged,
+        negative,
+        ..
+    } = *asked;
     match (step, asked.count) {
         (FetchStep::Fetch, 1) => {
-            let answer = bus.fetch(
-                addr,
-                fetcher.side,
-                fetcher.privileged,
-                fetcher.secure_privileged,
-                fetcher.negative,
-            );
+            let answer = bus.fetch(addr, side, privileged, secure_privileged, negative);
             tell(case, &answer)
         }
         (FetchStep::Told, 1) => {
-            let told = bus.fetch_told(addr, &fetcher);
+            let told = bus.fetch_told(addr, side, privileged, secure_privileged, negative);
             tell(case, &told.answer);
             case.tell(if told.touched { " touched" } else { "" })
         }

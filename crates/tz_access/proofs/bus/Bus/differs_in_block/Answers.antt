@@ -1,7 +1,12 @@
 use Rattle.std.proofs.Common.{◌∙◌, ◌+◌, ◌*◌, false, true, sym}
 use Rattle.tz_mem.specs.Difference.{region_at}
-use Rattle.tz_access.proofs.OpenBytes.{none_open, block_answer}
+use Rattle.tz_access.proofs.OpenBytes.{none_open, none_secure_block, block_answer}
 use Rattle.tz_access.proofs.bus.Bus.differs_in_block.Goals as goal
+
+pub returns-then-not-is_left_to_sau : goal.returns-then-not-is_left_to_sau
+returns-then-not-is_left_to_sau c =
+    none_secure_block c.args.self.now.state c.args.other.now.state c.args.index c.args.block c.know_regions.ensures c.know_apart.ensures c.requires.there c.requires.fit
+    c.if-not-is_left_to_sau.ensures
 
 pub returns-then-not-differs_in : goal.returns-then-not-differs_in
 returns-then-not-differs_in c =
