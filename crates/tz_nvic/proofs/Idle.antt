@@ -1,10 +1,13 @@
 -- Slots that are idle from a place on: what a write leaves, and what a copy need not have.
-use Rattle.std.proofs.Common.{◌≡◌, ◌⊎◌, inl, inr, ℕ, ◌+◌, ◌-◌, ◌<◌, ◌≤◌, List, ◌++◌, length, get_or, take, drop, set, replicate, max, get_or-drop, ap, sym, ◌∙◌, subst, arith}
+use Rattle.std.proofs.Common.{◌≡◌, ◌⊎◌, inl, inr, ℕ, zero, suc, refl, true, ◌+◌, ◌-◌, ◌<◌, ◌≤◌, List, [], ◌∷◌, ◌++◌, length, get_or, take, drop, set, replicate, max, get_or-drop, ap, sym, ◌∙◌, subst, arith}
 use Rattle.std.proofs.Math.Nat.{le-max_left, le-max_right}
 use Rattle.std.proofs.Math.Seq.{take-append_seam}
 use Rattle.std.proofs.lemmas.List.{drop-drop, drop-set-lt, drop-replicate, take-append-drop, get_or_past, get_or-replicate, length-replicate}
 use Rattle.tz_state.specs.declared.slot.SlotState.{SlotState}
+use Rattle.std.specs.Prelude.{◌&&◌}
+use Rattle.std.specs.Cmp.Lexicographic.{pointwise}
 use Rattle.tz_state.specs.Slots.{idle, places}
+use Rattle.tz_state.specs.Difference.{is_same_slot}
 use Rattle.tz_nvic.specs.Viewed.{AreIdleFrom}
 
 idle_more : (n k : ℕ) (slots : List SlotState) → AreIdleFrom n slots → drop (n + k) slots ≡ replicate (places - (n + k)) idle
@@ -52,3 +55,23 @@ copied n m k count slots others new h g end many is =
     let second = subst (λ l. m ≤ l) (sym end) (le-max_right n m) in
     let same = is ∙ ap (λ l. take k others ++ l) (idle_later n k slots h first ∙ sym (idle_later m k others g second)) ∙ take-append-drop k others in
     ap (λ c. take c (new ++ drop (length new) slots)) (sym many ∙ ap length (sym same)) ∙ take-append_seam new (drop (length new) slots) ∙ same
+
+-- what is the same behind a place is told by what stands before it
+same_before : (k : ℕ) (xs ys : List SlotState) → pointwise is_same_slot (drop k xs) (drop k ys) ≡ true → pointwise is_same_slot (take k xs) (take k ys) ≡ pointwise is_same_slot xs ys
+same_before zero xs ys h = sym h
+same_before (suc k) [] [] h = refl
+same_before (suc k) [] (y ∷ ys) h = refl
+same_before (suc k) (x ∷ xs) [] h = refl
+same_before (suc k) (x ∷ xs) (y ∷ ys) h = ap (λ t. is_same_slot x y && t) (same_before k xs ys h)
+
+all_idle : (n : ℕ) → pointwise is_same_slot (replicate n idle) (replicate n idle) ≡ true
+all_idle zero = refl
+all_idle (suc n) = all_idle n
+
+-- slots that are idle in both are the same
+pub same_below : (n m k : ℕ) (slots others : List SlotState) → AreIdleFrom n slots → AreIdleFrom m others → k ≡ max n m
+    → pointwise is_same_slot (take k slots) (take k others) ≡ pointwise is_same_slot slots others
+same_below n m k slots others h g end =
+    let first = subst (λ l. n ≤ l) (sym end) (le-max_left n m) in
+    let second = subst (λ l. m ≤ l) (sym end) (le-max_right n m) in
+    same_before k slots others (rw (idle_later n k slots h first, idle_later m k others g second) (all_idle (places - k)))

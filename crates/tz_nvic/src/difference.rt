@@ -38,11 +38,13 @@ fn are_same_slots(slots: &[SlotState], others: &[SlotState]) -> bool
 }
 
 impl Exceptions {
-    /// Whether all slots of both are the same.
+    /// Whether all slots of both are the same. Those that are idle in both from a place on aren't looked at.
+    #[tactic(auto, using(crate::proofs::Idle::same_below))]
     fn has_same_slots(&self, other: &Exceptions) -> bool
         ensures { result ≡ pointwise is_same_slot self.now.slots other.now.slots }
     {
-        are_same_slots(self.slots.as_slice(), other.slots.as_slice())
+        let end = self.idle_from.max(other.idle_from);
+        are_same_slots(&self.slots[..end], &other.slots[..end])
     }
 
     /// Whether PRIGROUP of both sides, PRIS and BFHFNMINS are the same.
