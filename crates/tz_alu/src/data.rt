@@ -32,9 +32,14 @@ pub(crate) fn shift(value: u32, kind: Shift, amount: u8, carry: bool) -> (u32, b
 }
 
 /// A constant with its carry; bits of no code count as 0.
+#[inline(always)]
 fn constant(imm12: u16, carry: bool) -> (u32, bool)
     ensures { result ≡ unwrap_or (imm_of imm12 carry) (0, carry) }
 {
+    // Most constants are a byte.
+    if imm12 < 0x100 {
+        return (u32::from(imm12), carry);
+    }
     expand_imm_c(imm12, carry).unwrap_or((0, carry))
 }
 
@@ -75,6 +80,11 @@ fn conclude(
     if is_comparison(op) {
         set_flags(registers, flags, by);
         Ok(Outcome::Next)
+    } else if rd < 13 {
+        // most destinations, told apart from SP, LR and PC by one test
+        set_flags(registers, flags, by);
+        registers.general[usize::from(rd)] = by.value;
+        Ok(Outcome::Next)
     } else if rd == 15 {
         set_flags(registers, flags, by);
         Ok(Outcome::Jump(by.value / 2 * 2))
@@ -105,7 +115,8 @@ fn operate(
     conclude(side, registers, own, op, flags, rd, &by)
 }
 
-/// An operation on a register and a constant.
+/// An operation on a register and a constant. It and the next are compiled into the step, as `run` is.
+#[inline(always)]
 pub(crate) fn with_constant(
     side: Side,
     registers: &mut Registers,
@@ -124,6 +135,7 @@ pub(crate) fn with_constant(
 }
 
 /// An operation on a register and a shifted one.
+#[inline(always)]
 pub(crate) fn with_register(
     side: Side,
     registers: &mut Registers,

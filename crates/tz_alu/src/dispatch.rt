@@ -12,7 +12,8 @@ use crate::values::{
 use tz_model::{Fault, Insn, Outcome, Side};
 use tz_regs::{Registers, Stacks};
 
-/// Runs an instruction of code of a side with this CCR.
+/// Runs an instruction of code of a side with this CCR. It is compiled into the step, where its parts are registers.
+#[inline(always)]
 pub(crate) fn run(
     insn: &Insn,
     side: Side,

@@ -106,6 +106,7 @@ impl<W: Write + Drop> Sink for OutSink<W> {
 
     ghost faults = { λ s. s.faults };
 
+    #[inline(always)]
     fn put(&mut self, bytes: &[u8]) -> Result<(), SinkError> {
         if self.keep(bytes) || self.send(bytes) {
             Ok(())

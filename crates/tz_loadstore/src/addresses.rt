@@ -9,6 +9,7 @@ use tz_model::{Address, Fault, Shift};
 use tz_regs::Core;
 
 /// A register of the running code by its number: R0 to R12, SP, LR, and PC as the address of the instruction plus 4.
+#[inline(always)]
 pub fn reg(core: &Core, index: u8) -> u32
     ensures { result ≡ reg (local_of core.now) index }
 {
@@ -24,6 +25,7 @@ fn literal(core: &Core, offset: i32) -> u32
 }
 
 /// A register of the running code plus an offset, past the end of the address space from 0 on.
+#[inline(always)]
 pub fn at_offset(core: &Core, rn: u8, offset: i32) -> u32
     ensures { result ≡ offset_at (local_of core.now) rn offset }
 {

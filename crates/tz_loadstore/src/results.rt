@@ -10,6 +10,7 @@ use tz_model::{Address, Outcome, Side, Size};
 use tz_regs::Core;
 
 /// Writes a register of the running code.
+#[inline(always)]
 pub(crate) fn put(core: &mut Core, index: u8, value: u32)
     ensures { core.new ≡ with_local core.old (put (local_of core.old) index value) }
 {

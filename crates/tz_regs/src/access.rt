@@ -81,6 +81,7 @@ impl Apsr {
 impl Registers {
     /// R0 to R12, SP of these stacks, and LR; any other number is PC, which reads as the instruction's
     /// address plus 4.
+    #[inline(always)]
     pub fn reg(&self, own: &Stacks, index: u8) -> u32
         ensures { result ≡ reg_of self.now own.now index }
     {
