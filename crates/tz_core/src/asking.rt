@@ -2,16 +2,13 @@
 
 ghost use Rattle.std.specs.Prelude.{◌≡◌};
 ghost use Rattle.tz_state.specs.State.{traps_unaligned, asker_in, priority_in, is_negative_at};
-ghost use Rattle.tz_sem.specs.Step.{fetcher_in};
 
 use crate::running::Machine;
-use tz_model::Side;
-use tz_prio::is_negative;
 use tz_regs::register_bits::CCR_UNALIGN_TRP;
-use tz_state::{Asker, Fetcher};
+use tz_state::Asker;
 
 /// CCR.UNALIGN_TRP.
-fn traps_unaligned(ccr: u32) -> bool
+pub(crate) fn traps_unaligned(ccr: u32) -> bool
     ensures { result ≡ traps_unaligned ccr }
 {
     ccr / CCR_UNALIGN_TRP % 2 == 1
@@ -29,19 +26,6 @@ impl Machine {
             privileged: self.core.privileged(side),
             negative,
             aligned: traps_unaligned(self.core.ccr(side)),
-        }
-    }
-
-    /// The running code as it fetches.
-    pub(crate) fn fetcher(&self) -> Fetcher
-        ensures { result ≡ fetcher_in self.now }
-    {
-        let side = self.core.run.side;
-        Fetcher {
-            side,
-            privileged: self.core.privileged(side),
-            secure_privileged: self.core.privileged(Side::Secure),
-            negative: is_negative(&self.core, &self.exceptions),
         }
     }
 }

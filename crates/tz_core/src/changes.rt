@@ -25,6 +25,20 @@ pub(crate) fn clear_changes(changes: &mut Changes)
     }
 }
 
+/// Takes all stores out of a list. A step makes one mostly, if any.
+#[inline(always)]
+pub(crate) fn clear_stores(stores: &mut Stores)
+    ensures { array_vec_len stores.new ≡ 0 }
+{
+    match stores.len() {
+        0 => {}
+        1 => {
+            stores.pop();
+        }
+        _ => stores.clear(),
+    }
+}
+
 /// Tells a register where it differs.
 fn tell(changes: &mut Changes, name: u8, old: u32, new: u32)
     requires { array_vec_len changes.old < 16 }
@@ -117,6 +131,7 @@ fn tell_flags(changes: &mut Changes, before: &Apsr, after: &Apsr)
 }
 
 /// Tells all registers that differ. The side before the step has no part in it.
+#[inline(always)]
 pub fn tell_changes(changes: &mut Changes, registers: &Registers, sp: u32, core: &Core)
     requires { array_vec_len changes.old ≡ 0 }
     ensures { changes.new.items ≡ changes_of (record { side = core.now.run.side; registers = registers.now; sp = sp }) core.now }

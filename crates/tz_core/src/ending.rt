@@ -24,7 +24,7 @@ pub struct Close {
 
 /// What a step writes its close over. That is lent to all that may end the step, since a close that each hands back would
 /// be copied on the way.
-pub(crate) const UNCLOSED: Close = Close {
+pub const UNCLOSED: Close = Close {
     touched: false,
     cause: Cause::Went,
     ran: None,
@@ -49,14 +49,6 @@ pub(crate) fn ending_of(close: &Close, noted: Option<Handling>) -> Ending
         ran: close.ran,
         handling: noted,
     }
-}
-
-/// What is told of a step that has no report: its way out of Secure state, where it crossed out, and whether an
-/// exception was taken or returned or the machine is locked.
-#[derive(Clone, Copy)]
-pub struct Passage {
-    pub way: Option<Way>,
-    pub exceptional: bool,
 }
 
 /// Whether an exception was taken or returned.
@@ -122,11 +114,14 @@ fn kind_without(core: &Core, cause: Cause) -> StepKind
 
 impl Machine {
     ghost use Rattle.std.specs.Prelude.{[], None, if◌then◌else◌};
-    ghost use Rattle.tz_sem.specs.Ended.{crosses, way_by, report_of};
+    ghost use Rattle.tz_sem.specs.Ended.{report_of};
+    ghost use Rattle.tz_twin.specs.Writing.{is_exceptional};
+    ghost use Rattle.tz_core.specs.Closing.{way_told};
 
     /// How a step that started on a side crossed out of Secure state, where it did.
-    pub(crate) fn way(&self, start: Side, close: &Close) -> Option<Way>
-        ensures { result ≡ if crosses (record { state = self.now; stores = []; ending = ending_of close.now None }) then way_by self.now close.now.cause (kind_of start close.now.cause self.now.core.registers.lr) else None }
+    #[inline(always)]
+    pub fn way(&self, start: Side, close: &Close) -> Option<Way>
+        ensures { result ≡ way_told self.now start close.now }
     {
         if !close.touched || self.side() == Side::Secure {
             return None;
@@ -142,7 +137,16 @@ impl Machine {
         }
     }
 
+    /// Whether a step that closed so took an exception or returned from one, or the machine is locked.
+    #[inline(always)]
+    pub fn is_exceptional(&self, close: &Close) -> bool
+        ensures { result ≡ is_exceptional self.now.core close.now.cause }
+    {
+        self.core.run.locked || changes_handler(close.cause)
+    }
+
     /// Fills in the report of a step that ended so, over the stores that it has.
+    #[inline(always)]
     pub(crate) fn tell(
         &self,
         start: Side,

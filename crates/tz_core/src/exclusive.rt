@@ -8,6 +8,7 @@ ghost use Rattle.tz_sem.specs.Local.{local_of, with_local, put};
 ghost use Rattle.tz_sem.specs.declared.family.Family.TheVariants.{LoadStore};
 ghost use Rattle.tz_sem.specs.Exec.{marked, loads_stores, stores_exclusive, executed_by};
 
+use crate::asking::traps_unaligned;
 use crate::changes::Stores;
 use crate::port::port_over;
 use crate::running::Machine;
@@ -15,6 +16,7 @@ use tz_access::{Place, Written, is_aligned};
 use tz_loadstore::{at_offset, extend, finish_load, place, refusal, reg, write_back};
 use tz_model::{ALIGNED_BY_CCR, Address, Fault, Insn, Outcome, Size, Store, cut_to};
 use tz_regs::Core;
+use tz_state::Asker;
 
 /// Writes 1 to the register that tells whether a store was made.
 #[tactic(auto, using(crate::proofs::Named::put_named))]
@@ -53,7 +55,13 @@ impl Machine {
         if let Some(fault) = refusal(&self.core, address) {
             return Err(fault);
         }
-        let asker = self.asker(negative);
+        let side = self.core.run.side;
+        let asker = Asker {
+            side,
+            privileged: self.core.privileged(side),
+            negative,
+            aligned: traps_unaligned(self.core.ccr(side)),
+        };
         let addr = place(&self.core, address);
         match self.bus.load(&asker, size, addr, rt == 15, user) {
             Ok(Some(value)) => {
@@ -90,7 +98,13 @@ impl Machine {
         if let Some(fault) = refusal(&self.core, address) {
             return Err(fault);
         }
-        let asker = self.asker(negative);
+        let side = self.core.run.side;
+        let asker = Asker {
+            side,
+            privileged: self.core.privileged(side),
+            negative,
+            aligned: traps_unaligned(self.core.ccr(side)),
+        };
         let addr = place(&self.core, address);
         let value = reg(&self.core, rt);
         match self

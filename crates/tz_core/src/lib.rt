@@ -27,7 +27,7 @@ mod waiting;
 mod words;
 
 pub use changes::Stores;
-pub use ending::Passage;
+pub use ending::{Close, UNCLOSED};
 pub use from_words::WordsError;
 pub use it_rules::is_passed_over;
 pub use laws::words_are_counted;

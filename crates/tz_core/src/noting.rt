@@ -75,3 +75,13 @@ pub(crate) fn pends_next(timer: &Timer) -> bool
 {
     timer.csr % 2 == 1 && timer.cvr == 1 && timer.csr / SYST_CSR_TICKINT % 2 == 1
 }
+
+/// Blanks what was noted. Few steps note anything, and to blank it takes more than to look.
+#[inline(always)]
+pub(crate) fn unnote(noted: &mut Option<Handling>)
+    ensures { noted.new ≡ None }
+{
+    if noted.is_some() {
+        *noted = None;
+    }
+}

@@ -10,12 +10,12 @@ ghost use Rattle.tz_state.specs.Moves.{moves_of, no_moves};
 ghost use Rattle.tz_state.specs.State.{with_exceptions};
 ghost use Rattle.tz_access.specs.Written.{before_stores, noted_count};
 
-use crate::changes::{Stores, clear_changes};
+use crate::changes::{Stores, clear_changes, clear_stores};
 use crate::concluding::loads_pc;
-use crate::ending::{Close, Passage, UNCLOSED, changes_handler, ending_of, ran_nothing};
+use crate::ending::{Close, UNCLOSED, ending_of, ran_nothing};
 use crate::exchange::ran_by;
 use crate::it_rules::{ignores_condition, is_misplaced, is_passed_over};
-use crate::noting::pends_next;
+use crate::noting::{pends_next, unnote};
 use crate::waiting::no_moves;
 use std::marker::Model;
 use tz_access::{Bus, Written};
@@ -70,16 +70,6 @@ fn second_of(code: &Code) -> u16
     code.second.unwrap_or(0)
 }
 
-/// Blanks what was noted. Few steps note anything, and to blank it takes more than to look.
-#[inline(always)]
-fn unnote(noted: &mut Option<Handling>)
-    ensures { noted.new ≡ None }
-{
-    if noted.is_some() {
-        *noted = None;
-    }
-}
-
 impl Machine {
     ghost use Rattle.std.specs.Prelude.{[], true, if◌then◌else◌};
     ghost use Rattle.tz_regs.specs.Banks.{channels_of};
@@ -88,7 +78,7 @@ impl Machine {
     ghost use Rattle.tz_model.specs.Codes.{meaning_of};
     ghost use Rattle.tz_sem.specs.Step.{past, goes_next, skips, executes, faulting, placed, decoded, runs_gateway, touches_secure, unready, course_in, instructs, idles, by_sleep, takes_exception, started, ended, step};
     ghost use Rattle.tz_sem.specs.Account.{account};
-    ghost use Rattle.tz_core.specs.Closing.{ending_of};
+    ghost use Rattle.tz_core.specs.Closing.{ending_of, way_told};
     ghost use Rattle.tz_twin.specs.Integrity.{LeavesSecure, EntersSecure};
     ghost use Rattle.tz_twin.specs.Ways.{TellsWay};
     ghost use Rattle.tz_twin.specs.Writing.{is_exceptional};
@@ -228,7 +218,7 @@ impl Machine {
         ensures back { before_stores written.new self.new.bus.memory ≡ before_stores written.old self.old.bus.memory }
     {
         if is_misplaced(insn, &self.core.registers) {
-            return self.fault(course, Fault::Undef, noted, written, close);
+            return self.fault_undefined(course, noted, written, close);
         }
         if is_passed_over(&self.core.registers) && !ignores_condition(self.core.run.side, insn) {
             return self.skip(course, code, close);
@@ -260,10 +250,10 @@ impl Machine {
                 if is_passed_over(&self.core.registers) {
                     self.skip(course, code, close)
                 } else {
-                    self.fault(course, Fault::NoCp, noted, written, close)
+                    self.fault_without_coprocessor(course, noted, written, close)
                 }
             }
-            Decoded::Undefined(_) => self.fault(course, Fault::Undef, noted, written, close),
+            Decoded::Undefined(_) => self.fault_undefined(course, noted, written, close),
         }
     }
 
@@ -338,11 +328,18 @@ impl Machine {
         if !self.core.registers.t {
             return self.fault_unready(noted, written, close);
         }
-        let fetcher = self.fetcher();
-        let found = self.bus.fetch_told(self.core.registers.pc, &fetcher);
+        let side = self.core.run.side;
+        let negative = is_negative(&self.core, &self.exceptions);
+        let found = self.bus.fetch_told(
+            self.core.registers.pc,
+            side,
+            self.core.privileged(side),
+            self.core.privileged(Side::Secure),
+            negative,
+        );
         let course = Course {
             touched: found.touched,
-            negative: fetcher.negative,
+            negative,
         };
         match found.answer {
             Err(fault) => self.fault(course, fault, noted, written, close),
@@ -479,40 +476,36 @@ impl Machine {
         let sp = self.core.pointer();
         let registers = self.core.registers;
         clear_changes(&mut report.changes);
-        report.stores.clear();
+        clear_stores(&mut report.stores);
         self.start(due, written, moves);
         self.make_step(&mut report.stores, noted, written, close);
         self.tell(side, &registers, sp, close, report);
     }
 
-    /// Makes one step at which these events are due, and tells of it the way out of Secure state, and whether it was
-    /// exceptional. In `stores` are then those of its instruction, with those before a fault, and in `noted` how exceptions
-    /// came into it. That is lent, since a call that makes the room for it blanks it first. It is always inlined, since a
-    /// pair calls it twice a step, and the call would cost some 30 instructions.
+    /// Makes one step at which these events are due, and tells in `close` how it ended: by that `way` tells the way out of
+    /// Secure state, and `is_exceptional` whether an exception was taken or returned. In `stores` are then those of its
+    /// instruction, with those before a fault, and in `noted` how exceptions came into it. They are lent, since a call that
+    /// makes the room for them blanks it first. It is always inlined, since a pair calls it twice a step, and the call would
+    /// cost some 30 instructions.
     #[inline(always)]
     pub fn step_way(
         &mut self,
         due: &[ScriptEvent],
         stores: &mut Stores,
         noted: &mut Option<Handling>,
-    ) -> Passage
+        close: &mut Close,
+    )
         ensures steps { self.new ≡ (step self.old due.now).state }
-        ensures way { result.way ≡ (step self.old due.now).report.way }
-        ensures exceptional { result.exceptional ≡ is_exceptional (step self.old due.now).state.core (ended (started self.old due.now)).ending.cause }
+        ensures way { way_told self.new (side_of self.old) close.new ≡ (step self.old due.now).report.way }
+        ensures exceptional { is_exceptional self.new.core close.new.cause ≡ is_exceptional (step self.old due.now).state.core (ended (started self.old due.now)).ending.cause }
         ensures stores { stores.new.items ≡ (ended (started self.old due.now)).stores }
     {
-        let start = self.core.running_side();
-        stores.clear();
+        clear_stores(stores);
         unnote(noted);
         let mut written = None;
         let mut moves = no_moves();
         self.start(due, &mut written, &mut moves);
-        let mut close = UNCLOSED;
-        self.make_step(stores, noted, &mut written, &mut close);
-        Passage {
-            way: self.way(start, &close),
-            exceptional: self.core.run.locked || changes_handler(close.cause),
-        }
+        self.make_step(stores, noted, &mut written, close);
     }
 
     /// Makes one step as `step_into` does, and leaves in `noted` how exceptions came into it. That is lent, as to

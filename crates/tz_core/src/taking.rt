@@ -62,10 +62,12 @@ pub(crate) fn frames_over<'a>(
 }
 
 impl Machine {
-    ghost use Rattle.std.specs.Prelude.{Some, None, true};
+    ghost use Rattle.std.specs.Prelude.{[], Some, None, true};
+    ghost use Rattle.tz_model.specs.declared.report.Fault.TheVariants.{Undef, NoCp};
     ghost use Rattle.tz_sem.specs.declared.ending.Cause.TheVariants.{Resumed};
     ghost use Rattle.tz_sem.specs.Exec.{released};
     ghost use Rattle.tz_sem.specs.Taking.{locks, taken, preempted, faults, returns};
+    ghost use Rattle.tz_sem.specs.Step.{faulting};
     ghost use Rattle.tz_core.specs.Closing.{ending_of};
 
     /// Locks the machine, by a fault or because it was locked.
@@ -146,6 +148,41 @@ impl Machine {
             self.preempt(course, back, noted, written, close)
         }
         note_fault(noted, fault);
+    }
+
+    /// Ends a step with the fault of a code that is undefined. It is a call, as the next is, so that other steps don't blank
+    /// the room of a fault.
+    #[inline(never)]
+    pub(crate) fn fault_undefined(
+        &mut self,
+        course: Course,
+        noted: &mut Option<Handling>,
+        written: &mut Option<Written>,
+        close: &mut Close,
+    )
+        requires unnoted { noted.old ≡ None }
+        requires few { noted_count written.old ≤ 2 }
+        ensures does { faulting self.old course Undef ≡ record { state = self.new; stores = []; ending = ending_of close.new noted.new } }
+        ensures back { before_stores written.new self.new.bus.memory ≡ before_stores written.old self.old.bus.memory }
+    {
+        self.fault(course, Fault::Undef, noted, written, close)
+    }
+
+    /// Ends a step with the fault of an instruction of a coprocessor, of which there is none.
+    #[inline(never)]
+    pub(crate) fn fault_without_coprocessor(
+        &mut self,
+        course: Course,
+        noted: &mut Option<Handling>,
+        written: &mut Option<Written>,
+        close: &mut Close,
+    )
+        requires unnoted { noted.old ≡ None }
+        requires few { noted_count written.old ≤ 2 }
+        ensures does { faulting self.old course NoCp ≡ record { state = self.new; stores = []; ending = ending_of close.new noted.new } }
+        ensures back { before_stores written.new self.new.bus.memory ≡ before_stores written.old self.old.bus.memory }
+    {
+        self.fault(course, Fault::NoCp, noted, written, close)
     }
 
     /// Ends a step in which an exception returned to the code that it had interrupted, which clears the monitor.

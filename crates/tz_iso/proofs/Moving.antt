@@ -1,5 +1,5 @@
 -- What moves at the beginning of a step may write is marked.
-use Rattle.std.proofs.Common.{◌≡◌, ℕ, ◌/◌, Bool, true, false, ◌&&◌, cond, List, [], ◌∷◌, ◌++◌, refl, sym, ap, ◌∙◌, subst}
+use Rattle.std.proofs.Common.{◌≡◌, ℕ, ◌/◌, Bool, true, false, cond, List, [], ◌∷◌, ◌++◌, refl, sym, ap, ◌∙◌, subst}
 use Rattle.tz_model.specs.Board.{BoardValue}
 use Rattle.tz_model.specs.declared.channel.Channel.{Channel}
 use Rattle.tz_model.specs.declared.channel.Channels.{Channels}

@@ -1,6 +1,8 @@
 -- What may differ after a step of two machines is marked.
 use Rattle.std.proofs.Common.{◌≡◌, ℕ, ◌/◌, Bool, true, false, ◌&&◌, cond, List, Option, None, refl, sym, ap, ◌∙◌, subst}
 use Rattle.std.specs.FinMap.{get}
+use Rattle.tz_table.specs.declared.units.Side.{Side}
+use Rattle.tz_table.specs.declared.units.Side.TheVariants.{Secure, NonSecure}
 use Rattle.tz_model.specs.declared.report.ScriptEvent.{ScriptEvent}
 use Rattle.tz_model.specs.declared.report.Store.{Store}
 use Rattle.tz_model.specs.Words.{is_nonsecure_side}
@@ -39,6 +41,13 @@ same_public s t linked is =
 
 open_at : (m : MapState) (x y : Option ℕ) (a : ℕ) → is_open m a ≡ true → cond (is_open m a) x None ≡ cond (is_open m a) y None → x ≡ y
 open_at m x y a is e = rw is at e
+
+-- the side that runs, by whether it is the Non-secure one
+pub same_side : (a b : Side) → is_nonsecure_side a ≡ is_nonsecure_side b → a ≡ b
+same_side Secure Secure e = refl
+same_side Secure NonSecure e = absurd cc
+same_side NonSecure Secure e = absurd cc
+same_side NonSecure NonSecure e = refl
 
 -- where Non-secure code runs in linked machines nothing differs, whatever is marked
 pub marked_linked : (m : Marks) (s t : State) → IsLinked s t → is_nonsecure_side (side_of s) ≡ true → Marked m s t

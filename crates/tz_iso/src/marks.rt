@@ -173,8 +173,11 @@ impl Marks {
     {
         self.mark(sp / 32);
         self.mark(sp.wrapping_add(32) / 32);
-        self.mark(sp.wrapping_add(64) / 32);
-        self.mark(sp.wrapping_add(71) / 32);
+        let last = sp.wrapping_add(71) / 32;
+        self.mark(last);
+        if sp.wrapping_add(64) / 32 != last {
+            self.mark(sp.wrapping_add(64) / 32);
+        }
     }
 
     /// Marks the frames that may stand at both stack pointers of a side.

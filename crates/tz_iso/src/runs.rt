@@ -3,7 +3,10 @@
 ghost use Rattle.std.specs.Prelude.{◌≡◌, ◌<◌, ◌↔◌, ℕ, List, true, None, IfOk};
 ghost use Rattle.tz_model.specs.declared.report.View.TheVariants.{Ns};
 ghost use Rattle.tz_sem.specs.Step.{started, step};
-ghost use Rattle.tz_state.specs.State.{side_of};
+ghost use Rattle.tz_state.specs.State.{State, side_of};
+ghost use Rattle.tz_core.specs.Closing.{way_told};
+ghost use Rattle.tz_core.specs.declared.ending.Close.{Close};
+ghost use Rattle.tz_table.specs.declared.units.Side.{Side};
 ghost use Rattle.tz_table.specs.declared.units.Side.TheVariants.{NonSecure};
 ghost use Rattle.tz_text.specs.Line.{line};
 ghost use Rattle.tz_twin.specs.Seen.{crossing};
@@ -18,7 +21,7 @@ use crate::crossed::what_by;
 use crate::marks::Marks;
 use std::alloc::{AllocError, Global};
 use std::marker::Model;
-use tz_core::{Machine, Passage, Stores};
+use tz_core::{Close, Machine, Stores, UNCLOSED};
 use tz_model::{Board, Image, ScriptEvent, Side};
 use tz_sem::Handling;
 
@@ -33,6 +36,9 @@ pub struct Pair {
     /// Room for the stores of a step of the first machine, and of the second.
     stores: Stores,
     others: Stores,
+    /// Room for how a step of the first machine ended, and of the second.
+    close: Close,
+    close_of_other: Close,
     /// Room for how exceptions came into a step, which nothing asks for.
     noted: Option<Handling>,
     /// What may differ, since the machines were last linked.
@@ -94,13 +100,21 @@ fn begin_marks(marks: &mut Marks, first: &Machine, second: &Machine)
     }
 }
 
-/// Whether neither of two steps crossed out of Secure state, and Non-secure code goes on.
-fn is_quiet(passage: &Passage, other: &Passage, first: &Machine) -> bool
-    ensures first { result ≡ true → passage.now.way ≡ None }
-    ensures second { result ≡ true → other.now.way ≡ None }
+/// Whether neither of two steps touched Secure state, and Non-secure code goes on. Neither crossed out of it then.
+fn is_quiet(close: &Close, other: &Close, first: &Machine) -> bool
+    ensures first { result ≡ true → (s : State) → (start : Side) → way_told s start close.now ≡ None }
+    ensures second { result ≡ true → (s : State) → (start : Side) → way_told s start other.now ≡ None }
     ensures side { result ≡ true → side_of first.now ≡ NonSecure }
 {
-    passage.way.is_none() && other.way.is_none() && first.side() == Side::NonSecure
+    !close.touched && !other.touched && first.side() == Side::NonSecure
+}
+
+/// Whether both machines are in Secure state. Their last steps crossed out of it in neither then.
+fn are_secure(first: &Machine, second: &Machine) -> bool
+    ensures first { result ≡ true → (start : Side) → (close : Close) → way_told first.now start close ≡ None }
+    ensures second { result ≡ true → (start : Side) → (close : Close) → way_told second.now start close ≡ None }
+{
+    first.side() == Side::Secure && second.side() == Side::Secure
 }
 
 /// Makes the step of two linked machines, at which these events are due, and tells what differs first.
@@ -109,6 +123,8 @@ fn step_both(
     second: &mut Machine,
     stores: &mut Stores,
     others: &mut Stores,
+    close: &mut Close,
+    close_of_other: &mut Close,
     noted: &mut Option<Handling>,
     marks: &mut Marks,
     due: &[ScriptEvent],
@@ -126,14 +142,22 @@ fn step_both(
     begin_marks(marks, first, second);
     let side = first.core().run.side;
     let side_of_other = second.core().run.side;
-    let passage = first.step_way(due, stores, noted);
-    let other = second.step_way(due, others, noted);
-    if is_quiet(&passage, &other, first) {
+    let start = first.side();
+    first.step_way(due, stores, noted, close);
+    second.step_way(due, others, noted, close_of_other);
+    if is_quiet(close, close_of_other, first) {
         return None;
     }
-    marks.note(stores, passage.exceptional, first.core(), side);
-    marks.note(others, other.exceptional, second.core(), side_of_other);
-    what_by(marks, &passage.way, &other.way, first, second)
+    let exceptional = first.is_exceptional(close);
+    let exceptional_other = second.is_exceptional(close_of_other);
+    marks.note(stores, exceptional, first.core(), side);
+    marks.note(others, exceptional_other, second.core(), side_of_other);
+    if are_secure(first, second) {
+        return None;
+    }
+    let way = first.way(start, close);
+    let way_of_other = second.way(start, close_of_other);
+    what_by(marks, &way, &way_of_other, first, second)
 }
 
 impl Pair {
@@ -159,6 +183,8 @@ impl Pair {
             found: None,
             stores: Stores::new(),
             others: Stores::new(),
+            close: UNCLOSED,
+            close_of_other: UNCLOSED,
             noted: None,
             marks: Marks::everything(),
         })
@@ -194,6 +220,8 @@ impl Pair {
             &mut self.second,
             &mut self.stores,
             &mut self.others,
+            &mut self.close,
+            &mut self.close_of_other,
             &mut self.noted,
             &mut self.marks,
             due,
