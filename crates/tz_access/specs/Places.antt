@@ -1,11 +1,11 @@
 -- The places of look-ups that are kept: 16 of blocks as data, and 16 of blocks as code. A block has one place of each.
-use Rattle.std.specs.Prelude.{◌≡◌, ℕ, ◌/◌, ◌%◌, Bool, true, false, List, Option, None, Some, MatchOption, replicate, slice_index_or, slice_set}
+use Rattle.std.specs.Prelude.{◌≡◌, ℕ, ◌/◌, ◌%◌, ◌==◌, ◌&&◌, if◌then◌else◌, Bool, true, false, List, Option, None, Some, MatchOption, replicate, slice_index_or, slice_set}
 use Rattle.tz_table.specs.declared.units.Side.{Side}
 use Rattle.tz_state.specs.declared.request.Request.{Request}
 use Rattle.tz_access.specs.declared.look_up.Who.{Who}
 use Rattle.tz_access.specs.declared.look_up.LookUp.{LookUp}
 use Rattle.tz_access.specs.declared.look_up.LookUps.{LookUps}
-use Rattle.tz_access.specs.Keys.{who_of}
+use Rattle.tz_access.specs.Keys.{who_of, key_of}
 
 abbrev pub none_kept : LookUps
 none_kept = record { data_places = replicate 16 None; code_places = replicate 16 None }
@@ -30,6 +30,14 @@ with_look_up false k one = record k { data_places = slice_set k.data_places (one
 -- a look-up of a block for who asks, which the place of the block holds
 abbrev pub IsHeld : LookUps → Who → ℕ → LookUp → Type 0
 IsHeld k who block one = (slice_index_or (places_for who.fetch k) (block % 16) None ≡ Some one) × (one.block ≡ block) × (who_of one.key ≡ who)
+
+-- what the place of a block holds for who asks, by the number of who that is
+abbrev pub found_by : ℕ → ℕ → Option LookUp → Option LookUp
+found_by block key None = None
+found_by block key (Some one) = if one.block == block && one.key == key then Some one else None
+
+abbrev pub found_in : LookUps → Who → ℕ → Option LookUp
+found_in k who block = found_by block (key_of who) (slice_index_or (places_for who.fetch k) (block % 16) None)
 
 -- who asks for bytes as data
 abbrev pub for_data : Side → Bool → Bool → Who

@@ -3,7 +3,7 @@
 
 ghost use Rattle.std.specs.Prelude.{◌≡◌, ◌%◌, ◌<◌, ◌≤◌, true, false, None, Some, IfSome, slice_index_or};
 ghost use Rattle.tz_access.specs.Keys.{bit_if, is_nonsecure, side_if, key_of, who_of};
-ghost use Rattle.tz_access.specs.Places.{none_kept, places_for, kept_at, with_look_up, IsHeld};
+ghost use Rattle.tz_access.specs.Places.{none_kept, places_for, kept_at, with_look_up, found_in, IsHeld};
 ghost use Rattle.tz_access.specs.Permitted.{permitted_by};
 
 use tz_model::Side;
@@ -162,7 +162,8 @@ impl LookUps {
     #[tactic(auto, using(crate::proofs::LookUps::who_by_key))]
     #[inline(always)]
     pub(crate) fn find(&self, block: u32, who: Who) -> Option<LookUp>
-        ensures { IfSome result (λ k. IsHeld self.now who block k) }
+        ensures held { IfSome result (λ k. IsHeld self.now who block k) }
+        ensures found { result ≡ found_in self.now who block }
     {
         match self.held(who.fetch, place_of(block)) {
             None => None,

@@ -6,7 +6,7 @@ ghost use Rattle.tz_state.specs.Access.{may_touch, is_let};
 ghost use Rattle.tz_state.specs.State.{map_in};
 ghost use Rattle.tz_access.specs.Kept.{IsKept, told_of};
 ghost use Rattle.tz_access.specs.Checks.{last_of};
-ghost use Rattle.tz_access.specs.Places.{kept_at, with_look_up, for_data, IsHeld, Holds};
+ghost use Rattle.tz_access.specs.Places.{kept_at, with_look_up, for_data, found_in, IsHeld, Holds};
 ghost use Rattle.tz_access.specs.LookUps.{Tells, admits, admits_data, guards_of};
 
 use crate::bus::Bus;
@@ -87,6 +87,7 @@ impl Bus {
     pub(crate) fn find(&self, addr: u32, who: Who) -> Option<LookUp>
         ensures told { IfSome result (λ k. Tells (guards_of self.now.state) who addr k) }
         ensures held { IfSome result (λ k. IsHeld self.now.kept who (addr / 32) k) }
+        ensures found { result ≡ found_in self.now.kept who (addr / 32) }
     {
         self.kept.find(addr / 32, who)
     }
