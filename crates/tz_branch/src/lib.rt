@@ -1,4 +1,4 @@
-//! Branches, and IT (DDI0553, chapter C2).
+//! Branches, and IT (DDI0553, chapter C2), with what its blocks let stand and skip.
 //!
 //! An instruction answers how its code goes on, and leaves what it writes but for PC: a call leaves LR and
 //! T, IT the IT state. Over any port: a table branch makes the one load of this family.
@@ -10,9 +10,11 @@ ghost use Rattle.tz_sem.specs.Branch.{plan_branch, finish_branch};
 ghost use Rattle.tz_sem.specs.Exec.{branch_over};
 
 mod calls;
+mod it_rules;
 mod jumps;
 
 use calls::{branch_link, call_exchange, if_then};
+pub use it_rules::{ignores_condition, is_misplaced, is_passed_over};
 use jumps::{branch_if, branch_zero, exchange, table_branch};
 use tz_model::{Fault, Insn, Outcome, Port};
 use tz_regs::Core;

@@ -11,7 +11,7 @@ use Rattle.tz_sem.specs.Run.{Events, state_after}
 use Rattle.tz_text.specs.Line.{line}
 use Rattle.tz_twin.specs.Trace.{text_from}
 use Rattle.tz_run.specs.Events.{events_of}
-use Rattle.tz_full.specs.Full.{full_from}
+use Rattle.tz_run.specs.FullRun.{full_from}
 use Rattle.tz_gates.specs.Gates.{gates_of}
 use Rattle.tz_gates.specs.Entries.{entries_at}
 use Rattle.tz_gates.specs.GatesText.{gates_text}

@@ -10,7 +10,7 @@ use Rattle.tz_iso.specs.Runs.{difference}
 use Rattle.tz_run.specs.Events.{events_of}
 use Rattle.tz_text.specs.Text.{dis_text}
 use Rattle.tz_words.specs.StartWords.{StartWords}
-use Rattle.tz_full.specs.Full.{full_from}
+use Rattle.tz_run.specs.FullRun.{full_from}
 use Rattle.tz_gates.specs.Gates.{gates_of}
 use Rattle.tz_gates.specs.Entries.{entries_at, other_entries}
 use Rattle.tz_gates.specs.GatesText.{gates_text}

@@ -7,7 +7,7 @@
 ghost use Rattle.std.specs.Prelude.{◌≡◌, ◌≢◌, ◌⊎◌, ◌<◌, ◌≤◌, ◌+◌, ◌-◌, ◌++◌, ℕ, List, [], length, map, Ok, Some, None, IsTrue, IfSome, codes};
 ghost use Rattle.tz_state.specs.State.{State};
 ghost use Rattle.tz_sem.specs.Run.{state_after};
-ghost use Rattle.tz_full.specs.Full.{full_from};
+ghost use Rattle.tz_run.specs.FullRun.{full_from};
 ghost use Rattle.tz_gates.specs.Gates.{gates_of};
 ghost use Rattle.tz_gates.specs.Entries.{entries_at};
 ghost use Rattle.tz_gates.specs.GatesText.{gates_text};

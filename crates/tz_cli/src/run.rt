@@ -13,12 +13,12 @@ ghost use Rattle.tz_files.specs.Faults.{start_value};
 use std::alloc::{AllocError, Global};
 use tz_core::Machine;
 use tz_files::{Files, load, put_status, refuse, refuse_fault};
-use tz_full::run_full;
 use tz_gates::{count, list, put_gates};
 use tz_model::{Shelf, Sink, View};
-use tz_run::{make_steps, run};
+use tz_run::{make_steps, run, run_full};
 use tz_show::{Range, show};
 use tz_snap::save;
+use tz_tell::LentState;
 use tz_words::{StartWords, Work};
 
 /// The most steps of a run.
@@ -116,7 +116,8 @@ fn page_started<O: Sink>(
         Err(error) => return Err(error),
     };
     make_steps(&mut reached, &files.script, words.steps);
-    Ok(put_status(show(&reached, words.steps, ranges, out)))
+    let state = LentState::new(reached.core(), reached.exceptions(), reached.bus());
+    Ok(put_status(show(&state, words.steps, ranges, out)))
 }
 
 /// Does the work with a machine of the files: 0, or 4 where its text can't be written. Its error is want of

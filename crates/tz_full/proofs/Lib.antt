@@ -2,4 +2,3 @@ pub mod Before
 pub mod EventLines
 pub mod Handing
 pub mod LoadLines
-pub mod Told

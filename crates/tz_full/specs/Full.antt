@@ -1,14 +1,9 @@
 -- What view `full` shows of a step under its line.
-use Rattle.std.specs.Prelude.{ℕ, zero, suc, ◌+◌, List, [], ◌++◌}
+use Rattle.std.specs.Prelude.{ℕ, List, ◌++◌}
 use Rattle.tz_model.specs.declared.report.Report.{Report}
 use Rattle.tz_model.specs.declared.report.ScriptEvent.{ScriptEvent}
-use Rattle.tz_model.specs.declared.report.View.TheVariants.{All}
 use Rattle.tz_state.specs.State.{State}
 use Rattle.tz_sem.specs.declared.account.Account.{Account}
-use Rattle.tz_sem.specs.Account.{account}
-use Rattle.tz_sem.specs.Run.{Events}
-use Rattle.tz_sem.specs.Step.{step}
-use Rattle.tz_text.specs.Line.{line}
 use Rattle.tz_full.specs.BegunLines.{events_text, begun_text}
 use Rattle.tz_full.specs.CrossingLine.{crossing_text}
 use Rattle.tz_full.specs.LoadLines.{loads_by, store_lines}
@@ -31,12 +26,3 @@ rest_text t r s = begun_text t r ++ ran_text t r s ++ handled_text t r s
 -- by the account of the step, the events that were due, the report, and the state after the step
 unfoldable pub full : Account → List ScriptEvent → Report → State → List ℕ
 full t due r s = events_text due ++ rest_text t r s
-
--- a step from a state: its line in view `all`, and what is shown under it
-abbrev pub step_text : List ScriptEvent → ℕ → State → List ℕ
-step_text due k s = line All k (step s due).report ++ full (account s due) due (step s due).report (step s due).state
-
--- the text of n steps from step k on, with the events that are due at each
-abbrev pub full_from : Events → ℕ → State → ℕ → List ℕ
-full_from events k s zero = []
-full_from events k s (suc n) = step_text (events k) k s ++ full_from events (k + 1) (step s (events k)).state n

@@ -8,13 +8,13 @@ use crate::escalation::push_raised;
 use crate::faults::push_word_fault;
 use crate::frames::{push_additional, push_frame};
 use crate::text::{Text, push_mode, push_place, push_side, push_stack};
-use tz_core::Machine;
 use tz_excret::{frame_exception, side_of_bit};
 use tz_frames::{Entering, FrameFault, Returning, StackFault};
 use tz_model::{Fault, Side};
 use tz_regs::Core;
 use tz_stack::{basic_base, splim_of};
 use tz_syntax::push_hex_word;
+use tz_tell::LentState;
 
 /// The address at which the code that is interrupted goes on.
 fn back_of(fault: Option<Fault>, pc: u32) -> u32
@@ -90,16 +90,16 @@ fn basic_process(core: &Core) -> bool
 
 /// The basic frame that was written.
 #[tactic(auto, unfolding(crate::specs::EntryFrames::basic_written))]
-fn push_basic_written(text: &mut Text, core: &Core, machine: &Machine)
+fn push_basic_written(text: &mut Text, core: &Core, state: &LentState)
     requires { array_string_len text.old + 165 ≤ 4096 }
-    ensures bytes { text.new.bytes ≡ text.old.bytes ++ basic_written core.now machine.now }
+    ensures bytes { text.new.bytes ≡ text.old.bytes ++ basic_written core.now state.now }
     ensures len { array_string_len text.new ≤ array_string_len text.old + 165 }
 {
     text.push_str("    ");
     let base = basic_base(core.pointer());
     push_frame(
         text,
-        machine.bus(),
+        state.bus(),
         core.run.side,
         basic_process(core),
         base,
@@ -153,38 +153,38 @@ fn push_basic_unwritten(text: &mut Text, core: &Core, fault: StackFault)
 fn push_basic_faulted(
     text: &mut Text,
     core: &Core,
-    machine: &Machine,
+    state: &LentState,
     taken: usize,
     fault: StackFault,
 )
     requires { array_string_len text.old + 176 ≤ 4096 }
-    ensures bytes { text.new.bytes ≡ text.old.bytes ++ basic_faulted core.now machine.now taken fault }
+    ensures bytes { text.new.bytes ≡ text.old.bytes ++ basic_faulted core.now state.now taken fault }
     ensures len { array_string_len text.new ≤ array_string_len text.old + 176 }
 {
     push_basic_unwritten(text, core, fault);
-    let slot = frame_exception(machine.exceptions(), core.run.side, fault);
-    push_raised(text, machine, taken, slot);
+    let slot = frame_exception(state.exceptions(), core.run.side, fault);
+    push_raised(text, state, taken, slot);
 }
 
 /// The basic frame of the core before the step, which was interrupted.
 pub fn push_basic(
     text: &mut Text,
     core: &Core,
-    machine: &Machine,
+    state: &LentState,
     taken: usize,
     frame: Option<FrameFault>,
 )
     requires { array_string_len text.old + 176 ≤ 4096 }
-    ensures bytes { text.new.bytes ≡ text.old.bytes ++ basic_lines core.now machine.now taken frame }
+    ensures bytes { text.new.bytes ≡ text.old.bytes ++ basic_lines core.now state.now taken frame }
     ensures len { array_string_len text.new ≤ array_string_len text.old + 176 }
 {
     match frame {
-        None => push_basic_written(text, core, machine),
+        None => push_basic_written(text, core, state),
         Some(faulted) => {
             if faulted.additional {
-                push_basic_written(text, core, machine);
+                push_basic_written(text, core, state);
             } else {
-                push_basic_faulted(text, core, machine, taken, faulted.fault);
+                push_basic_faulted(text, core, state, taken, faulted.fault);
             }
         }
     }
@@ -211,14 +211,14 @@ pub fn additional_process(core: &Core, entry: &Entering, chain: bool, returning:
 
 /// The additional frame that was written.
 #[tactic(auto, unfolding(crate::specs::EntryFrames::additional_written))]
-fn push_additional_written(text: &mut Text, machine: &Machine, process: bool)
+fn push_additional_written(text: &mut Text, state: &LentState, process: bool)
     requires { array_string_len text.old + 165 ≤ 4096 }
-    ensures bytes { text.new.bytes ≡ text.old.bytes ++ additional_written machine.now process }
+    ensures bytes { text.new.bytes ≡ text.old.bytes ++ additional_written state.now process }
     ensures len { array_string_len text.new ≤ array_string_len text.old + 165 }
 {
     text.push_str("    ");
-    let base = machine.core().sp(Side::Secure, process);
-    push_additional(text, machine.bus(), Side::Secure, process, base);
+    let base = state.core().sp(Side::Secure, process);
+    push_additional(text, state.bus(), Side::Secure, process, base);
     text.push_str("\n");
 }
 
@@ -257,18 +257,18 @@ fn push_additional_unwritten(text: &mut Text, core: &Core, process: bool, fault:
 #[tactic(auto, unfolding(crate::specs::EntryFrames::additional_faulted))]
 fn push_additional_faulted(
     text: &mut Text,
-    machine: &Machine,
+    state: &LentState,
     process: bool,
     taken: usize,
     fault: StackFault,
 )
     requires { array_string_len text.old + 200 ≤ 4096 }
-    ensures bytes { text.new.bytes ≡ text.old.bytes ++ additional_faulted machine.now process taken fault }
+    ensures bytes { text.new.bytes ≡ text.old.bytes ++ additional_faulted state.now process taken fault }
     ensures len { array_string_len text.new ≤ array_string_len text.old + 200 }
 {
-    push_additional_unwritten(text, machine.core(), process, fault);
-    let slot = frame_exception(machine.exceptions(), Side::Secure, fault);
-    push_raised(text, machine, taken, slot);
+    push_additional_unwritten(text, state.core(), process, fault);
+    let slot = frame_exception(state.exceptions(), Side::Secure, fault);
+    push_raised(text, state, taken, slot);
 }
 
 /// That an additional frame was tried behind a frame that has faulted.
@@ -288,22 +288,22 @@ fn push_additional_uncounted(text: &mut Text, process: bool, base: u32)
 /// The additional frame of an entry that tried to write it.
 pub fn push_additional_lines(
     text: &mut Text,
-    machine: &Machine,
+    state: &LentState,
     process: bool,
     taken: usize,
     frame: Option<FrameFault>,
 )
     requires { array_string_len text.old + 200 ≤ 4096 }
-    ensures bytes { text.new.bytes ≡ text.old.bytes ++ additional_lines machine.now process taken frame }
+    ensures bytes { text.new.bytes ≡ text.old.bytes ++ additional_lines state.now process taken frame }
     ensures len { array_string_len text.new ≤ array_string_len text.old + 200 }
 {
     match frame {
-        None => push_additional_written(text, machine, process),
+        None => push_additional_written(text, state, process),
         Some(faulted) => {
             if faulted.additional {
-                push_additional_faulted(text, machine, process, taken, faulted.fault);
+                push_additional_faulted(text, state, process, taken, faulted.fault);
             } else {
-                push_additional_uncounted(text, process, machine.core().sp(Side::Secure, process));
+                push_additional_uncounted(text, process, state.core().sp(Side::Secure, process));
             }
         }
     }

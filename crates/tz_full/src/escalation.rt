@@ -8,12 +8,12 @@ ghost use Rattle.tz_full.specs.Escalation.{was_active, active_before, execution_
 
 use crate::names::{push_exception_name, push_priority, push_slot};
 use crate::text::{Text, push_side};
-use tz_core::Machine;
 use tz_model::{Side, Slot};
 use tz_nvic::{Exceptions, PLACES};
 use tz_prio::{Taken, hard_side, side_priority};
 use tz_regs::Masks;
 use tz_state::exception::{HARD_FAULT, IDLE_PRIORITY};
+use tz_tell::LentState;
 
 /// Whether a slot stands at a place that was active before the exception at another one was taken.
 fn was_active(exceptions: &Exceptions, taken: usize, index: usize) -> bool
@@ -173,13 +173,13 @@ fn push_raised_at(text: &mut Text, exceptions: &Exceptions, execution: u32, inde
 
 /// What an exception that a fault raised became, in a step that took the one at a place.
 #[tactic(auto, unfolding(crate::specs::Escalation::raised_text))]
-pub fn push_raised(text: &mut Text, machine: &Machine, taken: usize, slot: Slot)
-    requires exists { exists machine.now.exceptions slot ≡ true }
+pub fn push_raised(text: &mut Text, state: &LentState, taken: usize, slot: Slot)
+    requires exists { exists state.now.exceptions slot ≡ true }
     requires room { array_string_len text.old + 104 ≤ 4096 }
-    ensures bytes { text.new.bytes ≡ text.old.bytes ++ raised_text machine.now taken slot }
+    ensures bytes { text.new.bytes ≡ text.old.bytes ++ raised_text state.now taken slot }
     ensures len { array_string_len text.new ≤ array_string_len text.old + 104 }
 {
-    let exceptions = machine.exceptions();
-    let execution = execution_before(exceptions, &machine.core().masks, taken);
+    let exceptions = state.exceptions();
+    let execution = execution_before(exceptions, &state.core().masks, taken);
     push_raised_at(text, exceptions, execution, exceptions.place_of(slot));
 }

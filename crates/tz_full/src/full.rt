@@ -16,46 +16,46 @@ use crate::loads::{push_loads_by, push_stores};
 use crate::taken::push_taken;
 use crate::text::Text;
 use crate::ways::{push_resumed, push_ways};
-use tz_core::Machine;
 use tz_model::{Report, ScriptEvent, Sink, SinkError, View};
 use tz_sem::Account;
+use tz_tell::LentState;
 use tz_text::Lines;
 
 /// The accesses of the instruction, then SG, a call or a return from one.
 #[tactic(auto, unfolding(crate::specs::Full::ran_text))]
-fn push_ran(text: &mut Text, account: &Account, report: &Report, machine: &Machine)
+fn push_ran(text: &mut Text, account: &Account, report: &Report, state: &LentState)
     requires { array_string_len text.old + 1730 ≤ 4096 }
-    ensures bytes { text.new.bytes ≡ text.old.bytes ++ ran_text account.now report.now machine.now }
+    ensures bytes { text.new.bytes ≡ text.old.bytes ++ ran_text account.now report.now state.now }
     ensures len { array_string_len text.new ≤ array_string_len text.old + 1730 }
 {
     let insn = done_by(&account.core, &report.kind);
-    push_loads_by(text, account, machine, &insn);
-    push_stores(text, machine.board().mover, report.stores.as_slice());
-    push_ways(text, account, report, machine);
+    push_loads_by(text, account, state, &insn);
+    push_stores(text, state.board().mover, report.stores.as_slice());
+    push_ways(text, account, report, state);
 }
 
 /// What exceptions did, and the crossing to Non-secure code.
 #[tactic(auto, unfolding(crate::specs::Full::handled_text))]
-fn push_handled(text: &mut Text, account: &Account, report: &Report, machine: &Machine)
+fn push_handled(text: &mut Text, account: &Account, report: &Report, state: &LentState)
     requires { array_string_len text.old + 1756 ≤ 4096 }
-    ensures bytes { text.new.bytes ≡ text.old.bytes ++ handled_text account.now report.now machine.now }
+    ensures bytes { text.new.bytes ≡ text.old.bytes ++ handled_text account.now report.now state.now }
     ensures len { array_string_len text.new ≤ array_string_len text.old + 1756 }
 {
-    push_taken(text, account, machine);
-    push_resumed(text, account, report, machine);
-    push_crossing(text, &report.way, &machine.core().registers);
+    push_taken(text, account, state);
+    push_resumed(text, account, report, state);
+    push_crossing(text, &report.way, &state.core().registers);
 }
 
 /// All lines but those of events.
 #[tactic(auto, unfolding(crate::specs::Full::rest_text))]
-fn push_rest(text: &mut Text, account: &Account, report: &Report, machine: &Machine)
+fn push_rest(text: &mut Text, account: &Account, report: &Report, state: &LentState)
     requires { array_string_len text.old + 3826 ≤ 4096 }
-    ensures bytes { text.new.bytes ≡ text.old.bytes ++ rest_text account.now report.now machine.now }
+    ensures bytes { text.new.bytes ≡ text.old.bytes ++ rest_text account.now report.now state.now }
     ensures len { array_string_len text.new ≤ array_string_len text.old + 3826 }
 {
     push_begun(text, account, report);
-    push_ran(text, account, report, machine);
-    push_handled(text, account, report, machine);
+    push_ran(text, account, report, state);
+    push_handled(text, account, report, state);
 }
 
 // ---- what goes out
@@ -100,14 +100,14 @@ fn put_rest<O: Sink>(
     text: &mut Text,
     account: &Account,
     report: &Report,
-    machine: &Machine,
+    state: &LentState,
     out: &mut O,
 ) -> Result<(), SinkError>
-    ensures put { Put (O.written out.old) (O.written out.new) (O.space out.old) (O.space out.new) (rest_text account.now report.now machine.now) result }
+    ensures put { Put (O.written out.old) (O.written out.new) (O.space out.old) (O.space out.new) (rest_text account.now report.now state.now) result }
     ensures cause { HasCause (O.faults out.old) (O.faults out.new) (result ≡ Err SinkError.Failed) }
 {
     text.clear();
-    push_rest(text, account, report, machine);
+    push_rest(text, account, report, state);
     put_some(text, out)
 }
 
@@ -152,20 +152,20 @@ fn put_under<O: Sink>(
     account: &Account,
     due: &[ScriptEvent],
     report: &Report,
-    machine: &Machine,
+    state: &LentState,
     out: &mut O,
 ) -> Result<(), SinkError>
-    ensures put { Put (O.written out.old) (O.written out.new) (O.space out.old) (O.space out.new) (full account.now due.now report.now machine.now) result }
+    ensures put { Put (O.written out.old) (O.written out.new) (O.space out.old) (O.space out.new) (full account.now due.now report.now state.now) result }
     ensures cause { HasCause (O.faults out.old) (O.faults out.new) (result ≡ Err SinkError.Failed) }
 {
     if let Err(error) = put_events(text, due, out) {
         return Err(error);
     }
-    put_rest(text, account, report, machine, out)
+    put_rest(text, account, report, state, out)
 }
 
 /// Writes a step as view `full` shows it: its line, and under it what the line doesn't say. `step` counts from 0, `due`
-/// has the events that were due, and the machine stands after the step.
+/// has the events that were due, and `state` is the one after the step.
 ///
 /// A text that can't be written is the one error: what stands before it went out.
 pub fn put_step<O: Sink>(
@@ -174,14 +174,14 @@ pub fn put_step<O: Sink>(
     account: &Account,
     due: &[ScriptEvent],
     report: &Report,
-    machine: &Machine,
+    state: &LentState,
     out: &mut O,
 ) -> Result<(), SinkError>
-    ensures put { Put (O.written out.old) (O.written out.new) (O.space out.old) (O.space out.new) (line All step report.now ++ full account.now due.now report.now machine.now) result }
+    ensures put { Put (O.written out.old) (O.written out.new) (O.space out.old) (O.space out.new) (line All step report.now ++ full account.now due.now report.now state.now) result }
     ensures cause { HasCause (O.faults out.old) (O.faults out.new) (result ≡ Err SinkError.Failed) }
 {
     if let Err(error) = put_line(&mut texts.lines, report, step, out) {
         return Err(error);
     }
-    put_under(&mut texts.text, account, due, report, machine, out)
+    put_under(&mut texts.text, account, due, report, state, out)
 }

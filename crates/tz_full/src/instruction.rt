@@ -9,7 +9,7 @@ ghost use Rattle.tz_sem.specs.LoadStore.{based_past, is_listed, listed, past_wor
 ghost use Rattle.tz_full.specs.Instruction.{unskipped, meant, done_by, popped, popped_by};
 
 use arrayvec::ArrayVec;
-use tz_core::is_passed_over;
+use tz_branch::is_passed_over;
 use tz_decode::{Decoded, decode};
 use tz_loadstore::{is_listed, listed, past_words, reg, write_back, write_back_past};
 use tz_model::{Code, Insn, StepKind};

@@ -1,8 +1,8 @@
 //! View `full`: the line of a step as in view `all`, and under it what the line doesn't say.
 //!
-//! `run_full` writes exactly what the definition `full_from` says. What is shown of a step is a function of the account of
-//! it, its report, the events that were due and the state after it. No memory is taken, and nothing here knows where bytes
-//! go.
+//! `put_step` writes exactly the line and what the definition `full` says. That is a function of the account of the step,
+//! its report, the events that were due and the state after it; what makes steps stands above. No memory is taken, and
+//! nothing here knows where bytes go.
 #![tactic(auto)]
 
 mod begun;
@@ -18,10 +18,9 @@ mod moves;
 mod names;
 mod refusals;
 mod register_names;
-mod run;
 mod taken;
 mod text;
 mod ways;
 
 pub use crossing::kind_word;
-pub use run::run_full;
+pub use full::{Texts, put_step};

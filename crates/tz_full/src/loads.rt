@@ -16,13 +16,13 @@ use crate::instruction::filled_of;
 use crate::register_names::push_name_at;
 use crate::text::Text;
 use tz_access::Bus;
-use tz_core::Machine;
 use tz_loadstore::{at_offset, lowest, place, reg};
 use tz_model::address_map::{PRIVATE_FIRST, PRIVATE_LAST};
 use tz_model::{Insn, Size, Store, cut_to};
 use tz_regs::{Core, Registers};
 use tz_sem::{Account, Cause, Handling};
 use tz_syntax::push_hex_word;
+use tz_tell::LentState;
 
 // ---- what registers tell of a word that was read
 
@@ -153,15 +153,15 @@ fn push_load(text: &mut Text, bus: &Bus, size: Size, addr: u32, word: Option<u32
 
 /// The lines of words in a row, each by the register that it went to.
 #[tactic(auto, unfolding(crate::specs::LoadLines::loads_text))]
-fn push_words(text: &mut Text, account: &Account, machine: &Machine, addr: u32, numbers: &[u8])
+fn push_words(text: &mut Text, account: &Account, state: &LentState, addr: u32, numbers: &[u8])
     requires { array_string_len text.old + 60 * length numbers.now ≤ 4096 }
-    ensures bytes { text.new.bytes ≡ text.old.bytes ++ loads_text machine.now.bus (map (told_of account.now machine.now.core) numbers.now) (word_loads addr (length numbers.now)) }
+    ensures bytes { text.new.bytes ≡ text.old.bytes ++ loads_text state.now.bus (map (told_of account.now state.now.core) numbers.now) (word_loads addr (length numbers.now)) }
     ensures len { array_string_len text.new ≤ array_string_len text.old + 60 * length numbers.now }
 {
     let mut next = addr;
     for number in numbers {
-        let word = told_of(account, machine.core(), *number);
-        push_load(text, machine.bus(), Size::Word, next, word);
+        let word = told_of(account, state.core(), *number);
+        push_load(text, state.bus(), Size::Word, next, word);
         next = next.wrapping_add(4);
     }
 }
@@ -171,49 +171,49 @@ fn push_words(text: &mut Text, account: &Account, machine: &Machine, addr: u32, 
 fn push_pair(
     text: &mut Text,
     account: &Account,
-    machine: &Machine,
+    state: &LentState,
     addr: u32,
     first: u8,
     second: u8,
 )
     requires { array_string_len text.old + 120 ≤ 4096 }
-    ensures bytes { text.new.bytes ≡ text.old.bytes ++ loads_text machine.now.bus (told_of account.now machine.now.core first ∷ told_of account.now machine.now.core second ∷ []) (pair_loads addr) }
+    ensures bytes { text.new.bytes ≡ text.old.bytes ++ loads_text state.now.bus (told_of account.now state.now.core first ∷ told_of account.now state.now.core second ∷ []) (pair_loads addr) }
     ensures len { array_string_len text.new ≤ array_string_len text.old + 120 }
 {
-    let low = told_of(account, machine.core(), first);
-    push_load(text, machine.bus(), Size::Word, addr, low);
-    let high = told_of(account, machine.core(), second);
-    push_load(text, machine.bus(), Size::Word, addr.wrapping_add(4), high);
+    let low = told_of(account, state.core(), first);
+    push_load(text, state.bus(), Size::Word, addr, low);
+    let high = told_of(account, state.core(), second);
+    push_load(text, state.bus(), Size::Word, addr.wrapping_add(4), high);
 }
 
 /// The line of the load of a register.
-fn push_one(text: &mut Text, account: &Account, machine: &Machine, size: Size, addr: u32, rt: u8)
+fn push_one(text: &mut Text, account: &Account, state: &LentState, size: Size, addr: u32, rt: u8)
     requires { array_string_len text.old + 60 ≤ 4096 }
-    ensures bytes { text.new.bytes ≡ text.old.bytes ++ load_line machine.now.bus size addr (told_of account.now machine.now.core rt) }
+    ensures bytes { text.new.bytes ≡ text.old.bytes ++ load_line state.now.bus size addr (told_of account.now state.now.core rt) }
     ensures len { array_string_len text.new ≤ array_string_len text.old + 60 }
 {
-    let word = told_of(account, machine.core(), rt);
-    push_load(text, machine.bus(), size, addr, word);
+    let word = told_of(account, state.core(), rt);
+    push_load(text, state.bus(), size, addr, word);
 }
 
 /// The line of a table branch.
 #[tactic(auto, using(crate::proofs::LoadLines::one_load))]
-fn push_entry(text: &mut Text, account: &Account, machine: &Machine, half: bool, rn: u8, rm: u8)
+fn push_entry(text: &mut Text, account: &Account, state: &LentState, half: bool, rn: u8, rm: u8)
     requires { array_string_len text.old + 60 ≤ 4096 }
-    ensures bytes { text.new.bytes ≡ text.old.bytes ++ loads_of account.now machine.now (TableBranch half rn rm) }
+    ensures bytes { text.new.bytes ≡ text.old.bytes ++ loads_of account.now state.now (TableBranch half rn rm) }
     ensures len { array_string_len text.new ≤ array_string_len text.old + 60 }
 {
     let core = &account.core;
-    let word = entry_word(core, machine.core());
+    let word = entry_word(core, state.core());
     let index = reg(core, rm);
     let base = reg(core, rn);
     if half {
         let addr = base.wrapping_add(index.wrapping_mul(2));
-        push_load(text, machine.bus(), Size::Half, addr, word);
+        push_load(text, state.bus(), Size::Half, addr, word);
     } else {
         push_load(
             text,
-            machine.bus(),
+            state.bus(),
             Size::Byte,
             base.wrapping_add(index),
             word,
@@ -222,22 +222,22 @@ fn push_entry(text: &mut Text, account: &Account, machine: &Machine, half: bool,
 }
 
 /// The lines of a load of a list.
-fn push_many(text: &mut Text, account: &Account, machine: &Machine, rn: u8, list: u16, down: bool)
+fn push_many(text: &mut Text, account: &Account, state: &LentState, rn: u8, list: u16, down: bool)
     requires { array_string_len text.old + 900 ≤ 4096 }
-    ensures bytes { text.new.bytes ≡ text.old.bytes ++ loads_text machine.now.bus (map (told_of account.now machine.now.core) (listed list ++ (if is_listed list 15 then 15 ∷ [] else []))) (word_loads (lowest down (reg (local_of account.now.core) rn) (words_loaded list)) (words_loaded list)) }
+    ensures bytes { text.new.bytes ≡ text.old.bytes ++ loads_text state.now.bus (map (told_of account.now state.now.core) (listed list ++ (if is_listed list 15 then 15 ∷ [] else []))) (word_loads (lowest down (reg (local_of account.now.core) rn) (words_loaded list)) (words_loaded list)) }
     ensures len { array_string_len text.new ≤ array_string_len text.old + 900 }
 {
     let numbers = filled_of(list);
     let count = numbers.len() as u32;
     let addr = lowest(down, reg(&account.core, rn), count);
-    push_words(text, account, machine, addr, &numbers);
+    push_words(text, account, state, addr, &numbers);
 }
 
 /// The lines of the loads of an instruction.
 #[tactic(auto, using(crate::proofs::LoadLines::one_load, crate::proofs::LoadLines::no_loads))]
-fn push_loads_of(text: &mut Text, account: &Account, machine: &Machine, insn: &Insn)
+fn push_loads_of(text: &mut Text, account: &Account, state: &LentState, insn: &Insn)
     requires { array_string_len text.old + 900 ≤ 4096 }
-    ensures bytes { text.new.bytes ≡ text.old.bytes ++ loads_of account.now machine.now insn.now }
+    ensures bytes { text.new.bytes ≡ text.old.bytes ++ loads_of account.now state.now insn.now }
     ensures len { array_string_len text.new ≤ array_string_len text.old + 900 }
 {
     let core = &account.core;
@@ -247,12 +247,12 @@ fn push_loads_of(text: &mut Text, account: &Account, machine: &Machine, insn: &I
             rt,
             address,
             ..
-        } => push_one(text, account, machine, size, place(core, &address), rt),
+        } => push_one(text, account, state, size, place(core, &address), rt),
         Insn::LoadPair { rt, rt2, address } => {
-            push_pair(text, account, machine, place(core, &address), rt, rt2);
+            push_pair(text, account, state, place(core, &address), rt, rt2);
         }
         Insn::LoadMany { rn, list, down, .. } => {
-            push_many(text, account, machine, rn, list, down);
+            push_many(text, account, state, rn, list, down);
         }
         Insn::LoadExclusive {
             size,
@@ -263,29 +263,29 @@ fn push_loads_of(text: &mut Text, account: &Account, machine: &Machine, insn: &I
         } => push_one(
             text,
             account,
-            machine,
+            state,
             size,
             at_offset(core, rn, offset),
             rt,
         ),
         Insn::LoadAcquire { size, rt, rn } => {
-            push_one(text, account, machine, size, reg(core, rn), rt);
+            push_one(text, account, state, size, reg(core, rn), rt);
         }
         Insn::TableBranch { half, rn, rm } => {
-            push_entry(text, account, machine, half, rn, rm);
+            push_entry(text, account, state, half, rn, rm);
         }
         _ => {}
     }
 }
 
 /// The lines of the loads of the instruction that ran.
-pub fn push_loads_by(text: &mut Text, account: &Account, machine: &Machine, insn: &Option<Insn>)
+pub fn push_loads_by(text: &mut Text, account: &Account, state: &LentState, insn: &Option<Insn>)
     requires { array_string_len text.old + 900 ≤ 4096 }
-    ensures bytes { text.new.bytes ≡ text.old.bytes ++ loads_by account.now machine.now insn.now }
+    ensures bytes { text.new.bytes ≡ text.old.bytes ++ loads_by account.now state.now insn.now }
     ensures len { array_string_len text.new ≤ array_string_len text.old + 900 }
 {
     if let Some(insn) = insn {
-        push_loads_of(text, account, machine, insn);
+        push_loads_of(text, account, state, insn);
     }
 }
 

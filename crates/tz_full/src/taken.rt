@@ -18,7 +18,6 @@ use crate::names::{push_priority, push_slot};
 use crate::refusals::{flag_digit, push_exc_return, push_refused};
 use crate::text::Text;
 use tz_access::Bus;
-use tz_core::Machine;
 use tz_excret::{exception_of, frame_exception, is_exc_return, returning_by, side_of_bit};
 use tz_frames::return_bits::EXC_RETURN_DCRS;
 use tz_frames::{Entering, Refusal, Returning};
@@ -27,6 +26,7 @@ use tz_nvic::{Exceptions, PLACES};
 use tz_regs::Core;
 use tz_sem::{Account, Cause, Handling};
 use tz_syntax::{push_decimal, push_hex_word};
+use tz_tell::LentState;
 
 fn is_taken(cause: Cause) -> bool
     ensures { result ≡ is_taken cause }
@@ -45,11 +45,11 @@ fn slot_handled(core: &Core) -> Slot
 }
 
 /// The place of the exception that a step took; `PLACES` where it took none.
-fn place_taken(cause: Cause, machine: &Machine) -> usize
-    ensures { result ≡ place_taken cause machine.now }
+fn place_taken(cause: Cause, state: &LentState) -> usize
+    ensures { result ≡ place_taken cause state.now }
 {
-    let slot = slot_handled(machine.core());
-    let exceptions = machine.exceptions();
+    let slot = slot_handled(state.core());
+    let exceptions = state.exceptions();
     if is_taken(cause) && exceptions.exists(slot) {
         exceptions.place_of(slot)
     } else {
@@ -90,30 +90,30 @@ fn push_fault_line(text: &mut Text, bus: &Bus, pc: u32, fault: Fault)
 
 /// The fault of an instruction of the core before the step, and what it became.
 #[tactic(auto, unfolding(crate::specs::TakenLines::fault_lines))]
-fn push_fault_lines(text: &mut Text, core: &Core, machine: &Machine, taken: usize, fault: Fault)
+fn push_fault_lines(text: &mut Text, core: &Core, state: &LentState, taken: usize, fault: Fault)
     requires { array_string_len text.old + 137 ≤ 4096 }
-    ensures bytes { text.new.bytes ≡ text.old.bytes ++ fault_lines core.now machine.now taken fault }
+    ensures bytes { text.new.bytes ≡ text.old.bytes ++ fault_lines core.now state.now taken fault }
     ensures len { array_string_len text.new ≤ array_string_len text.old + 137 }
 {
-    push_fault_line(text, machine.bus(), core.registers.pc, fault);
-    let slot = exception_of(machine.exceptions(), core.run.side, fault);
-    push_raised(text, machine, taken, slot);
+    push_fault_line(text, state.bus(), core.registers.pc, fault);
+    let slot = exception_of(state.exceptions(), core.run.side, fault);
+    push_raised(text, state, taken, slot);
 }
 
 fn push_fault_part(
     text: &mut Text,
     core: &Core,
-    machine: &Machine,
+    state: &LentState,
     taken: usize,
     fault: Option<Fault>,
 )
     requires { array_string_len text.old + 137 ≤ 4096 }
-    ensures bytes { text.new.bytes ≡ text.old.bytes ++ fault_part core.now machine.now taken fault }
+    ensures bytes { text.new.bytes ≡ text.old.bytes ++ fault_part core.now state.now taken fault }
     ensures len { array_string_len text.new ≤ array_string_len text.old + 137 }
 {
     match fault {
         None => {}
-        Some(fault) => push_fault_lines(text, core, machine, taken, fault),
+        Some(fault) => push_fault_lines(text, core, state, taken, fault),
     }
 }
 
@@ -137,35 +137,35 @@ fn refusal_exception(exceptions: &Exceptions, core: &Core, value: u32, refusal: 
 fn push_refusal_lines(
     text: &mut Text,
     core: &Core,
-    machine: &Machine,
+    state: &LentState,
     taken: usize,
     value: u32,
     refusal: Refusal,
 )
     requires { array_string_len text.old + 168 ≤ 4096 }
-    ensures bytes { text.new.bytes ≡ text.old.bytes ++ refusal_lines core.now machine.now taken value refusal }
+    ensures bytes { text.new.bytes ≡ text.old.bytes ++ refusal_lines core.now state.now taken value refusal }
     ensures len { array_string_len text.new ≤ array_string_len text.old + 168 }
 {
-    push_refused(text, core, machine.core(), value, refusal);
-    let slot = refusal_exception(machine.exceptions(), core, value, refusal);
-    push_raised(text, machine, taken, slot);
+    push_refused(text, core, state.core(), value, refusal);
+    let slot = refusal_exception(state.exceptions(), core, value, refusal);
+    push_raised(text, state, taken, slot);
 }
 
 fn push_refusal_part(
     text: &mut Text,
     core: &Core,
-    machine: &Machine,
+    state: &LentState,
     taken: usize,
     value: u32,
     refused: Option<Refusal>,
 )
     requires { array_string_len text.old + 168 ≤ 4096 }
-    ensures bytes { text.new.bytes ≡ text.old.bytes ++ refusal_part core.now machine.now taken value refused }
+    ensures bytes { text.new.bytes ≡ text.old.bytes ++ refusal_part core.now state.now taken value refused }
     ensures len { array_string_len text.new ≤ array_string_len text.old + 168 }
 {
     match refused {
         None => {}
-        Some(refusal) => push_refusal_lines(text, core, machine, taken, value, refusal),
+        Some(refusal) => push_refusal_lines(text, core, state, taken, value, refusal),
     }
 }
 
@@ -184,36 +184,36 @@ fn is_return(value: Option<u32>) -> bool
 fn push_return_lines(
     text: &mut Text,
     core: &Core,
-    machine: &Machine,
+    state: &LentState,
     taken: usize,
     value: u32,
     refused: Option<Refusal>,
 )
     requires { array_string_len text.old + 232 ≤ 4096 }
-    ensures bytes { text.new.bytes ≡ text.old.bytes ++ return_lines core.now machine.now taken value refused }
+    ensures bytes { text.new.bytes ≡ text.old.bytes ++ return_lines core.now state.now taken value refused }
     ensures len { array_string_len text.new ≤ array_string_len text.old + 232 }
 {
     push_exc_return(text, value);
-    push_refusal_part(text, core, machine, taken, value, refused);
+    push_refusal_part(text, core, state, taken, value, refused);
 }
 
 fn push_return_part(
     text: &mut Text,
     core: &Core,
-    machine: &Machine,
+    state: &LentState,
     taken: usize,
     cause: Cause,
     handling: &Handling,
 )
     requires { array_string_len text.old + 232 ≤ 4096 }
-    ensures bytes { text.new.bytes ≡ text.old.bytes ++ return_part core.now machine.now taken cause handling.now }
+    ensures bytes { text.new.bytes ≡ text.old.bytes ++ return_part core.now state.now taken cause handling.now }
     ensures len { array_string_len text.new ≤ array_string_len text.old + 232 }
 {
     if is_return(handling.value) && !is_resumed(cause) {
         push_return_lines(
             text,
             core,
-            machine,
+            state,
             taken,
             handling.value.unwrap_or(0),
             handling.refused,
@@ -308,17 +308,17 @@ fn push_takes_line(text: &mut Text, core: &Core, exceptions: &Exceptions, taken:
 
 /// The vector of the exception that was taken.
 #[tactic(auto, unfolding(crate::specs::TakenLines::vector_line))]
-fn push_vector_line(text: &mut Text, machine: &Machine)
+fn push_vector_line(text: &mut Text, state: &LentState)
     requires { array_string_len text.old + 30 ≤ 4096 }
-    ensures bytes { text.new.bytes ≡ text.old.bytes ++ vector_line machine.now }
+    ensures bytes { text.new.bytes ≡ text.old.bytes ++ vector_line state.now }
     ensures len { array_string_len text.new ≤ array_string_len text.old + 30 }
 {
-    let core = machine.core();
+    let core = state.core();
     let addr = vector_address(core, slot_handled(core));
     text.push_str("    vector ");
     push_hex_word(text, addr);
     text.push_str(" ");
-    push_hex_word(text, known_word(machine.bus(), addr));
+    push_hex_word(text, known_word(state.bus(), addr));
     text.push_str("\n");
 }
 
@@ -344,24 +344,24 @@ fn cleared_text(profile: Profile, side: Side, secure: bool) -> &'static str
 
 /// The exception that was taken, its vector, and what was cleared.
 #[tactic(auto, unfolding(crate::specs::TakenLines::taken_lines))]
-fn push_taken_lines(text: &mut Text, machine: &Machine, taken: usize, entry: &Entering)
+fn push_taken_lines(text: &mut Text, state: &LentState, taken: usize, entry: &Entering)
     requires { array_string_len text.old + 136 ≤ 4096 }
-    ensures bytes { text.new.bytes ≡ text.old.bytes ++ taken_lines machine.now taken entry.now }
+    ensures bytes { text.new.bytes ≡ text.old.bytes ++ taken_lines state.now taken entry.now }
     ensures len { array_string_len text.new ≤ array_string_len text.old + 136 }
 {
-    push_takes_line(text, machine.core(), machine.exceptions(), taken);
-    push_vector_line(text, machine);
-    let profile = machine.board().profile;
-    text.push_str(cleared_text(profile, machine.core().run.side, entry.secure));
+    push_takes_line(text, state.core(), state.exceptions(), taken);
+    push_vector_line(text, state);
+    let profile = state.board().profile;
+    text.push_str(cleared_text(profile, state.core().run.side, entry.secure));
 }
 
-fn push_taken_part(text: &mut Text, machine: &Machine, taken: usize, cause: Cause, entry: &Entering)
+fn push_taken_part(text: &mut Text, state: &LentState, taken: usize, cause: Cause, entry: &Entering)
     requires { array_string_len text.old + 136 ≤ 4096 }
-    ensures bytes { text.new.bytes ≡ text.old.bytes ++ taken_part machine.now taken cause entry.now }
+    ensures bytes { text.new.bytes ≡ text.old.bytes ++ taken_part state.now taken cause entry.now }
     ensures len { array_string_len text.new ≤ array_string_len text.old + 136 }
 {
     if is_taken(cause) {
-        push_taken_lines(text, machine, taken, entry);
+        push_taken_lines(text, state, taken, entry);
     }
 }
 
@@ -381,37 +381,37 @@ fn push_chain_part(text: &mut Text, cause: Cause, entry: &Entering)
 fn push_running_lines(
     text: &mut Text,
     core: &Core,
-    machine: &Machine,
+    state: &LentState,
     taken: usize,
     fault: Option<Fault>,
     entry: &Entering,
 )
     requires { array_string_len text.old + 212 ≤ 4096 }
-    ensures bytes { text.new.bytes ≡ text.old.bytes ++ running_lines core.now machine.now taken fault entry.now }
+    ensures bytes { text.new.bytes ≡ text.old.bytes ++ running_lines core.now state.now taken fault entry.now }
     ensures len { array_string_len text.new ≤ array_string_len text.old + 212 }
 {
     push_interrupted(text, fault, core.registers.pc, entry);
-    push_basic(text, core, machine, taken, entry.frame);
+    push_basic(text, core, state, taken, entry.frame);
 }
 
 /// What an entry begins with: a tail-chain writes no basic frame.
 fn push_begin_part(
     text: &mut Text,
     core: &Core,
-    machine: &Machine,
+    state: &LentState,
     taken: usize,
     cause: Cause,
     handling: &Handling,
     entry: &Entering,
 )
     requires { array_string_len text.old + 212 ≤ 4096 }
-    ensures bytes { text.new.bytes ≡ text.old.bytes ++ begin_part core.now machine.now taken cause handling.now entry.now }
+    ensures bytes { text.new.bytes ≡ text.old.bytes ++ begin_part core.now state.now taken cause handling.now entry.now }
     ensures len { array_string_len text.new ≤ array_string_len text.old + 212 }
 {
     if is_return(handling.value) {
         push_chain_part(text, cause, entry);
     } else {
-        push_running_lines(text, core, machine, taken, handling.fault, entry);
+        push_running_lines(text, core, state, taken, handling.fault, entry);
     }
 }
 
@@ -426,20 +426,20 @@ fn returning_of(core: &Core, handling: &Handling) -> Returning
 fn push_additional_part(
     text: &mut Text,
     core: &Core,
-    machine: &Machine,
+    state: &LentState,
     taken: usize,
     handling: &Handling,
     entry: &Entering,
 )
     requires { array_string_len text.old + 200 ≤ 4096 }
-    ensures bytes { text.new.bytes ≡ text.old.bytes ++ additional_part core.now machine.now taken handling.now entry.now }
+    ensures bytes { text.new.bytes ≡ text.old.bytes ++ additional_part core.now state.now taken handling.now entry.now }
     ensures len { array_string_len text.new ≤ array_string_len text.old + 200 }
 {
     let chain = is_return(handling.value);
     let returning = returning_of(core, handling);
     if has_additional(entry, chain, &returning) {
         let process = additional_process(core, entry, chain, &returning);
-        push_additional_lines(text, machine, process, taken, entry.frame);
+        push_additional_lines(text, state, process, taken, entry.frame);
     }
 }
 
@@ -448,18 +448,18 @@ fn push_additional_part(
 fn push_frame_lines(
     text: &mut Text,
     core: &Core,
-    machine: &Machine,
+    state: &LentState,
     taken: usize,
     cause: Cause,
     handling: &Handling,
     entry: &Entering,
 )
     requires { array_string_len text.old + 412 ≤ 4096 }
-    ensures bytes { text.new.bytes ≡ text.old.bytes ++ frame_lines core.now machine.now taken cause handling.now entry.now }
+    ensures bytes { text.new.bytes ≡ text.old.bytes ++ frame_lines core.now state.now taken cause handling.now entry.now }
     ensures len { array_string_len text.new ≤ array_string_len text.old + 412 }
 {
-    push_begin_part(text, core, machine, taken, cause, handling, entry);
-    push_additional_part(text, core, machine, taken, handling, entry);
+    push_begin_part(text, core, state, taken, cause, handling, entry);
+    push_additional_part(text, core, state, taken, handling, entry);
 }
 
 /// An entry: its frames, vectors that can't be read, and the exception that was taken.
@@ -467,38 +467,38 @@ fn push_frame_lines(
 fn push_entry_lines(
     text: &mut Text,
     core: &Core,
-    machine: &Machine,
+    state: &LentState,
     taken: usize,
     cause: Cause,
     handling: &Handling,
     entry: &Entering,
 )
     requires { array_string_len text.old + 684 ≤ 4096 }
-    ensures bytes { text.new.bytes ≡ text.old.bytes ++ entry_lines core.now machine.now taken cause handling.now entry.now }
+    ensures bytes { text.new.bytes ≡ text.old.bytes ++ entry_lines core.now state.now taken cause handling.now entry.now }
     ensures len { array_string_len text.new ≤ array_string_len text.old + 684 }
 {
-    push_frame_lines(text, core, machine, taken, cause, handling, entry);
-    push_missing_part(text, machine.core(), entry.vector);
-    push_taken_part(text, machine, taken, cause, entry);
-    push_last_part(text, machine.core(), entry.last);
+    push_frame_lines(text, core, state, taken, cause, handling, entry);
+    push_missing_part(text, state.core(), entry.vector);
+    push_taken_part(text, state, taken, cause, entry);
+    push_last_part(text, state.core(), entry.last);
 }
 
 fn push_entry_part(
     text: &mut Text,
     core: &Core,
-    machine: &Machine,
+    state: &LentState,
     taken: usize,
     cause: Cause,
     handling: &Handling,
     entry: Option<Entering>,
 )
     requires { array_string_len text.old + 684 ≤ 4096 }
-    ensures bytes { text.new.bytes ≡ text.old.bytes ++ entry_part core.now machine.now taken cause handling.now entry }
+    ensures bytes { text.new.bytes ≡ text.old.bytes ++ entry_part core.now state.now taken cause handling.now entry }
     ensures len { array_string_len text.new ≤ array_string_len text.old + 684 }
 {
     match entry {
         None => {}
-        Some(entry) => push_entry_lines(text, core, machine, taken, cause, handling, &entry),
+        Some(entry) => push_entry_lines(text, core, state, taken, cause, handling, &entry),
     }
 }
 
@@ -507,33 +507,33 @@ fn push_entry_part(
 fn push_handled_lines(
     text: &mut Text,
     core: &Core,
-    machine: &Machine,
+    state: &LentState,
     taken: usize,
     cause: Cause,
     handling: &Handling,
 )
     requires { array_string_len text.old + 1053 ≤ 4096 }
-    ensures bytes { text.new.bytes ≡ text.old.bytes ++ handled_lines core.now machine.now taken cause handling.now }
+    ensures bytes { text.new.bytes ≡ text.old.bytes ++ handled_lines core.now state.now taken cause handling.now }
     ensures len { array_string_len text.new ≤ array_string_len text.old + 1053 }
 {
-    push_fault_part(text, core, machine, taken, handling.fault);
-    push_return_part(text, core, machine, taken, cause, handling);
-    push_entry_part(text, core, machine, taken, cause, handling, handling.entry);
+    push_fault_part(text, core, state, taken, handling.fault);
+    push_return_part(text, core, state, taken, cause, handling);
+    push_entry_part(text, core, state, taken, cause, handling, handling.entry);
 }
 
-/// The lines of faults, refused returns and exceptions that are taken, by the account of a step and the machine after it.
+/// The lines of faults, refused returns and exceptions that are taken, by the account of a step and the state after it.
 #[tactic(auto, unfolding(crate::specs::TakenLines::taken_text))]
-pub fn push_taken(text: &mut Text, account: &Account, machine: &Machine)
+pub fn push_taken(text: &mut Text, account: &Account, state: &LentState)
     requires { array_string_len text.old + 1053 ≤ 4096 }
-    ensures bytes { text.new.bytes ≡ text.old.bytes ++ taken_text account.now machine.now }
+    ensures bytes { text.new.bytes ≡ text.old.bytes ++ taken_text account.now state.now }
     ensures len { array_string_len text.new ≤ array_string_len text.old + 1053 }
 {
     let cause = account.ending.cause;
     match &account.ending.handling {
         None => {}
         Some(handling) => {
-            let taken = place_taken(cause, machine);
-            push_handled_lines(text, &account.core, machine, taken, cause, handling);
+            let taken = place_taken(cause, state);
+            push_handled_lines(text, &account.core, state, taken, cause, handling);
         }
     }
 }

@@ -12,7 +12,6 @@ use crate::loads::{push_held, value_in};
 use crate::refusals::push_exc_return;
 use crate::text::{Text, push_place};
 use tz_access::Bus;
-use tz_core::Machine;
 use tz_excret::{has_callee, returning_by, side_of_bit};
 use tz_frames::{ADDITIONAL_FRAME_SIZE, Returning};
 use tz_gate::{is_fnc_return, return_base};
@@ -20,33 +19,33 @@ use tz_model::{Report, Side, Size, StepKind};
 use tz_regs::Core;
 use tz_sem::{Account, Cause};
 use tz_syntax::{push_decimal, push_hex_word};
-use tz_tell::{frame_pointer, frame_uses_process};
+use tz_tell::{LentState, frame_pointer, frame_uses_process};
 
 // ---- SG
 
 /// Where SG was reached, and where Secure code goes on.
 #[tactic(auto, unfolding(crate::specs::WayLines::gateway_text))]
-fn push_gateway(text: &mut Text, pc: u32, machine: &Machine)
+fn push_gateway(text: &mut Text, pc: u32, state: &LentState)
     requires { array_string_len text.old + 60 ≤ 4096 }
-    ensures bytes { text.new.bytes ≡ text.old.bytes ++ gateway_text pc machine.now }
+    ensures bytes { text.new.bytes ≡ text.old.bytes ++ gateway_text pc state.now }
     ensures len { array_string_len text.new ≤ array_string_len text.old + 60 }
 {
     text.push_str("    SG from ");
     push_hex_word(text, pc);
     text.push_str(": Secure code goes on at ");
-    push_hex_word(text, machine.core().registers.pc);
+    push_hex_word(text, state.core().registers.pc);
     text.push_str("\n");
 }
 
 /// The line of SG, where Non-secure code ran on into Secure code.
-fn push_entered(text: &mut Text, report: &Report, machine: &Machine)
+fn push_entered(text: &mut Text, report: &Report, state: &LentState)
     requires { array_string_len text.old + 60 ≤ 4096 }
-    ensures bytes { text.new.bytes ≡ text.old.bytes ++ entered_by report.now.start report.now.end report.now.kind machine.now }
+    ensures bytes { text.new.bytes ≡ text.old.bytes ++ entered_by report.now.start report.now.end report.now.kind state.now }
     ensures len { array_string_len text.new ≤ array_string_len text.old + 60 }
 {
     match (report.start, report.end, report.kind) {
         (Side::NonSecure, Side::Secure, StepKind::Ran { pc, .. }) => {
-            push_gateway(text, pc, machine);
+            push_gateway(text, pc, state);
         }
         _ => {}
     }
@@ -83,17 +82,17 @@ fn push_call_frame(text: &mut Text, bus: &Bus, base: u32)
 
 /// What BLXNS has left at the Secure stack pointer.
 #[tactic(auto, unfolding(crate::specs::WayLines::called_text))]
-fn push_called(text: &mut Text, account: &Account, machine: &Machine)
+fn push_called(text: &mut Text, account: &Account, state: &LentState)
     requires { array_string_len text.old + 68 ≤ 4096 }
-    ensures bytes { text.new.bytes ≡ text.old.bytes ++ called_text account.now machine.now }
+    ensures bytes { text.new.bytes ≡ text.old.bytes ++ called_text account.now state.now }
     ensures len { array_string_len text.new ≤ array_string_len text.old + 68 }
 {
-    let base = machine
+    let base = state
         .core()
         .stacks(Side::Secure)
         .pointer(account.core.registers.ipsr);
     text.push_str("    ");
-    push_call_frame(text, machine.bus(), base);
+    push_call_frame(text, state.bus(), base);
     text.push_str("\n");
 }
 
@@ -133,43 +132,43 @@ fn push_from_call(text: &mut Text, bus: &Bus, base: Option<u32>)
 
 /// The value by which code returned from a call, and the frame.
 #[tactic(auto, unfolding(crate::specs::WayLines::fnc_text))]
-fn push_fnc(text: &mut Text, account: &Account, report: &Report, machine: &Machine, value: u32)
+fn push_fnc(text: &mut Text, account: &Account, report: &Report, state: &LentState, value: u32)
     requires { array_string_len text.old + 90 ≤ 4096 }
-    ensures bytes { text.new.bytes ≡ text.old.bytes ++ fnc_text account.now report.now machine.now value }
+    ensures bytes { text.new.bytes ≡ text.old.bytes ++ fnc_text account.now report.now state.now value }
     ensures len { array_string_len text.new ≤ array_string_len text.old + 90 }
 {
     text.push_str("    FNC_RETURN ");
     push_hex_word(text, value);
-    push_from_call(text, machine.bus(), came_from(account, report));
+    push_from_call(text, state.bus(), came_from(account, report));
     text.push_str("\n");
 }
 
 /// The line of FNC_RETURN, where code returned by it or tried to.
-fn push_fnc_by(text: &mut Text, account: &Account, report: &Report, machine: &Machine)
+fn push_fnc_by(text: &mut Text, account: &Account, report: &Report, state: &LentState)
     requires { array_string_len text.old + 90 ≤ 4096 }
-    ensures bytes { text.new.bytes ≡ text.old.bytes ++ fnc_by account.now report.now machine.now (value_in account.now.ending.handling) }
+    ensures bytes { text.new.bytes ≡ text.old.bytes ++ fnc_by account.now report.now state.now (value_in account.now.ending.handling) }
     ensures len { array_string_len text.new ≤ array_string_len text.old + 90 }
 {
     if let Some(value) = value_in(&account.ending.handling) {
         if is_fnc_return(value) {
-            push_fnc(text, account, report, machine, value);
+            push_fnc(text, account, report, state, value);
         }
     }
 }
 
 /// The lines of SG, of BLXNS and of FNC_RETURN.
 #[tactic(auto, unfolding(crate::specs::WayLines::ways_text))]
-pub fn push_ways(text: &mut Text, account: &Account, report: &Report, machine: &Machine)
+pub fn push_ways(text: &mut Text, account: &Account, report: &Report, state: &LentState)
     requires { array_string_len text.old + 158 ≤ 4096 }
-    ensures bytes { text.new.bytes ≡ text.old.bytes ++ ways_text account.now report.now machine.now }
+    ensures bytes { text.new.bytes ≡ text.old.bytes ++ ways_text account.now report.now state.now }
     ensures len { array_string_len text.new ≤ array_string_len text.old + 158 }
 {
     match account.ending.cause {
-        Cause::Went => push_entered(text, report, machine),
-        Cause::Called => push_called(text, account, machine),
+        Cause::Went => push_entered(text, report, state),
+        Cause::Called => push_called(text, account, state),
         _ => {}
     }
-    push_fnc_by(text, account, report, machine);
+    push_fnc_by(text, account, report, state);
 }
 
 // ---- the return of an exception
@@ -252,30 +251,30 @@ fn push_resumed_by(
     text: &mut Text,
     account: &Account,
     report: &Report,
-    machine: &Machine,
+    state: &LentState,
     value: u32,
 )
     requires { array_string_len text.old + 439 ≤ 4096 }
-    ensures bytes { text.new.bytes ≡ text.old.bytes ++ resumed_with account.now report.now machine.now value }
+    ensures bytes { text.new.bytes ≡ text.old.bytes ++ resumed_with account.now report.now state.now value }
     ensures len { array_string_len text.new ≤ array_string_len text.old + 439 }
 {
     push_exc_return(text, value);
     let core = returning_core(account, report);
     let returning = returning_by(account.core.run.side, value);
-    push_frames_read(text, machine.bus(), &core, &returning);
-    push_goes_on(text, machine.core());
+    push_frames_read(text, state.bus(), &core, &returning);
+    push_goes_on(text, state.core());
 }
 
 /// The lines of the return of an exception: its value, the frames, and where the code goes on that it had interrupted.
 #[tactic(auto, unfolding(crate::specs::WayLines::resumed_text))]
-pub fn push_resumed(text: &mut Text, account: &Account, report: &Report, machine: &Machine)
+pub fn push_resumed(text: &mut Text, account: &Account, report: &Report, state: &LentState)
     requires { array_string_len text.old + 439 ≤ 4096 }
-    ensures bytes { text.new.bytes ≡ text.old.bytes ++ resumed_text account.now report.now machine.now }
+    ensures bytes { text.new.bytes ≡ text.old.bytes ++ resumed_text account.now report.now state.now }
     ensures len { array_string_len text.new ≤ array_string_len text.old + 439 }
 {
     if let Cause::Resumed = account.ending.cause {
         if let Some(value) = value_in(&account.ending.handling) {
-            push_resumed_by(text, account, report, machine, value);
+            push_resumed_by(text, account, report, state, value);
         }
     }
 }

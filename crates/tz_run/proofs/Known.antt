@@ -1,7 +1,6 @@
 -- What is known of the states of a run so far.
-use Rattle.std.proofs.Common.{◌≡◌, ℕ, suc, ◌+◌, ◌-◌, ◌<◌, ◌≤◌, List, refl, sym, ap, ◌∙◌, subst, arith}
+use Rattle.std.proofs.Common.{◌≡◌, ℕ, ◌+◌, ◌-◌, ◌<◌, ◌≤◌, refl, sym, ap, ◌∙◌, arith}
 use Rattle.tz_model.specs.declared.report.Report.{Report}
-use Rattle.tz_model.specs.declared.report.ScriptEvent.{ScriptEvent}
 use Rattle.tz_state.specs.State.{State}
 use Rattle.tz_sem.specs.Run.{Events, state_after}
 use Rattle.tz_sem.specs.Step.{Stepped, step}

@@ -1,3 +1,4 @@
 pub mod Events
+pub mod FullRun
 pub mod Generated
 pub mod Tallies

@@ -1,4 +1,5 @@
-//! The run: steps of a machine, each shown as a line, made in silence or tallied, and jobs to run.
+//! The run: steps of a machine, each shown as a line, shown with what is told of it, made in silence or tallied, and jobs
+//! to run.
 //!
 //! Each line goes out as one put as soon as its step is done, and what goes out is exactly the lines of
 //! the steps from the machine's state on. It takes no memory, and knows nothing of where bytes go.
@@ -14,11 +15,13 @@ ghost use Rattle.tz_twin.specs.Trace.{text_from};
 ghost use Rattle.tz_run.specs.Events.{events_of};
 
 mod due;
+mod full;
 mod images;
 mod job;
 mod tally;
 
 pub use due::due_at_step;
+pub use full::run_full;
 pub use job::{Job, make_job};
 use std::marker::Brand;
 use std::sync::ledger::{Blank, Ledger};

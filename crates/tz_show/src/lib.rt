@@ -31,10 +31,10 @@ use crate::registers::{push_head, push_registers, push_stacks};
 use crate::rows::Text;
 use crate::units::{push_mpus, push_sau, push_timers};
 use tz_access::Bus;
-use tz_core::Machine;
 use tz_model::{Sink, SinkError};
 use tz_nvic::Exceptions;
 use tz_regs::Core;
+use tz_tell::LentState;
 pub use tz_words::Range;
 
 /// The sections about the core.
@@ -68,19 +68,19 @@ fn push_rest(text: &mut Text, core: &Core, exceptions: &Exceptions, bus: &Bus)
 }
 
 /// Writes the sections of a state as one put.
-fn put_state<O: Sink>(machine: &Machine, step: u32, out: &mut O) -> Result<(), SinkError>
-    ensures put { Put (O.written out.old) (O.written out.new) (O.space out.old) (O.space out.new) (state_text machine.now step) result }
+fn put_state<O: Sink>(state: &LentState, step: u32, out: &mut O) -> Result<(), SinkError>
+    ensures put { Put (O.written out.old) (O.written out.new) (O.space out.old) (O.space out.new) (state_text state.now step) result }
     ensures cause { HasCause (O.faults out.old) (O.faults out.new) (result ≡ Err SinkError.Failed) }
 {
     let mut text = Text::new();
-    let core = machine.core();
-    let exceptions = machine.exceptions();
+    let core = state.core();
+    let exceptions = state.exceptions();
     push_core(&mut text, core, exceptions, step);
-    push_rest(&mut text, core, exceptions, machine.bus());
+    push_rest(&mut text, core, exceptions, state.bus());
     out.put(text.as_str().as_bytes())
 }
 
-/// Writes the page of a machine's state after `step` steps, with ranges of memory. The sections go out as one put, and
+/// Writes the page of a state after `step` steps, with ranges of memory. The sections go out as one put, and
 /// each line of memory as one more.
 ///
 /// An address of a range that is past the last one goes on at 0. What asks for ranges refuses such ones, and empty ones,
@@ -90,16 +90,16 @@ fn put_state<O: Sink>(machine: &Machine, step: u32, out: &mut O) -> Result<(), S
 /// A text that can't be written is the one error: what stands before it went out.
 #[tactic(auto, unfolding(crate::specs::Page::page))]
 pub fn show<O: Sink>(
-    machine: &Machine,
+    state: &LentState,
     step: u32,
     ranges: &[Range],
     out: &mut O,
 ) -> Result<(), SinkError>
-    ensures put { Put (O.written out.old) (O.written out.new) (O.space out.old) (O.space out.new) (page machine.now step ranges.now) result }
+    ensures put { Put (O.written out.old) (O.written out.new) (O.space out.old) (O.space out.new) (page state.now step ranges.now) result }
     ensures cause { HasCause (O.faults out.old) (O.faults out.new) (result ≡ Err SinkError.Failed) }
 {
-    if let Err(error) = put_state(machine, step, out) {
+    if let Err(error) = put_state(state, step, out) {
         return Err(error);
     }
-    put_ranges(machine.bus(), ranges, out)
+    put_ranges(state.bus(), ranges, out)
 }

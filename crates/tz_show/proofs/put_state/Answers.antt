@@ -14,7 +14,7 @@ state_of_parts s c e b step p q r = rw (p, q, r) refl
 
 pub returns-clause-put : goal.returns-clause-put
 returns-clause-put g c =
-    let s = c.args.machine.now in
+    let s = c.args.state.now in
     let k = c.core-core.result.now in
     let e = c.exceptions-exceptions.result.now in
     let b = c.bus.result.now.state in

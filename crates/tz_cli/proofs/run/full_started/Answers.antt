@@ -1,7 +1,7 @@
 use Rattle.std.proofs.Common.{subst}
 use Rattle.tz_model.specs.Outside.{Put}
 use Rattle.tz_state.specs.State.{State}
-use Rattle.tz_full.specs.Full.{full_from}
+use Rattle.tz_run.specs.FullRun.{full_from}
 use Rattle.tz_run.specs.Events.{events_of}
 use Rattle.tz_cli.proofs.Exits.{gains_nothing, told_put}
 use Rattle.tz_cli.proofs.run.full_started.Goals as goal

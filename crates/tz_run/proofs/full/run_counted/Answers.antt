@@ -1,9 +1,9 @@
-use Rattle.std.proofs.Common.{◌≡◌, ◌∙◌, ap, sym, subst, List, arith}
+use Rattle.std.proofs.Common.{◌∙◌, ap, sym, List, arith}
 use Rattle.tz_model.specs.declared.report.ScriptEvent.{ScriptEvent}
 use Rattle.tz_sem.specs.Step.{Stepped, step}
 use Rattle.tz_board.specs.Scripts.{due_at}
-use Rattle.tz_full.proofs.Told.{text_told, so_far_start, so_far_step, so_far_end, so_far_failed, state_at_end}
-use Rattle.tz_full.proofs.run.run_counted.Goals as goal
+use Rattle.tz_run.proofs.FullTold.{text_told, so_far_start, so_far_step, so_far_end, so_far_failed, state_at_end}
+use Rattle.tz_run.proofs.full.run_counted.Goals as goal
 
 pub loop-step-init : goal.loop-step-init
 loop-step-init g c = record { lines = so_far_start _ _ _ _ _; later = omega arith }

@@ -1,5 +1,5 @@
 -- What the run over a ledger says, by name: a body that runs otherwise is then refused at once.
-use Rattle.tz_full.proofs.run.run_full.Goals as goal
+use Rattle.tz_run.proofs.full.run_full.Goals as goal
 
 pub returns-clause-put : goal.returns-clause-put
 returns-clause-put g c = c.run_counted.ensures.put

@@ -1,7 +1,7 @@
 use Rattle.std.proofs.Common.{◌≤◌}
 use Rattle.tz_board.specs.Scripts.{due_at}
-use Rattle.tz_full.proofs.Told.{SoFar}
-use Rattle.tz_full.proofs.run.run_counted.Given as goal
+use Rattle.tz_run.proofs.FullTold.{SoFar}
+use Rattle.tz_run.proofs.full.run_counted.Given as goal
 
 abbrev pub invariant-loop-step : goal.invariant-loop-step
 invariant-loop-step g l = record {

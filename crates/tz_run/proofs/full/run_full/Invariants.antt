@@ -1,4 +1,4 @@
-use Rattle.tz_full.proofs.run.run_full.Given as goal
+use Rattle.tz_run.proofs.full.run_full.Given as goal
 
 abbrev pub ghosts-run_counted : goal.ghosts-run_counted
 ghosts-run_counted g a = record { name = a.blank.name; parts = a.blank.parts }

@@ -4,15 +4,16 @@ ghost use Rattle.std.specs.Prelude.{◌≡◌, ◌<◌, OnOk};
 ghost use Rattle.tz_model.specs.Outside.{HasCause, Put};
 ghost use Rattle.tz_sem.specs.Run.{state_after};
 ghost use Rattle.tz_board.specs.Scripts.{due_at};
-ghost use Rattle.tz_full.specs.Full.{full_from};
+ghost use Rattle.tz_run.specs.FullRun.{full_from};
 
-use crate::full::{Texts, put_step};
 use std::marker::Brand;
 use std::sync::ledger::{Blank, Ledger};
 use tz_board::Script;
 use tz_core::Machine;
+use tz_full::{Texts, put_step};
 use tz_model::{Report, Sink, SinkError};
 use tz_ready::Steps;
+use tz_tell::LentState;
 
 /// Runs `steps` steps and writes of each its line as in view `all`, numbered from 0, and under it what the line doesn't
 /// say. At each step its events of the script are due.
@@ -53,7 +54,8 @@ fn run_counted<L: Ledger, O: Sink>(
     for step in 0..steps {
         let due = script.due(step, &mut looks);
         let account = machine.step_told(due, &mut report);
-        if let Err(error) = put_step(&mut texts, step, &account, due, &report, machine, out) {
+        let state = LentState::new(machine.core(), machine.exceptions(), machine.bus());
+        if let Err(error) = put_step(&mut texts, step, &account, due, &report, &state, out) {
             return Err(error);
         }
     }

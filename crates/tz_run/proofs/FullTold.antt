@@ -12,7 +12,8 @@ use Rattle.tz_sem.specs.Account.{account}
 use Rattle.tz_sem.specs.Run.{Events, state_after}
 use Rattle.tz_sem.specs.Step.{Stepped, step}
 use Rattle.tz_text.specs.Line.{line}
-use Rattle.tz_full.specs.Full.{full, step_text, full_from}
+use Rattle.tz_full.specs.Full.{full}
+use Rattle.tz_run.specs.FullRun.{step_text, full_from}
 
 -- what is written of a step is its text
 pub text_told : (events : Events) (k : ℕ) (s s' : State) (due : List ScriptEvent) (r : Report) (t : Account) →
