@@ -8,7 +8,6 @@ use std::alloc::Global;
 use tz_files::{load_shown, put_status, refuse_fault};
 use tz_model::{Shelf, Sink};
 use tz_show::show;
-use tz_tell::LentState;
 use tz_words::SavedWords;
 
 /// Does what the words of `show --state` say, and tells the answer with what it says of the outside.
@@ -26,7 +25,6 @@ pub fn page_files<H: Shelf, O: Sink, E: Sink>(
         Ok(saved) => saved,
         Err(fault) => return refuse_fault(alloc, fault, err),
     };
-    let machine = &saved.machine;
-    let state = LentState::new(machine.core(), machine.exceptions(), machine.bus());
+    let state = saved.machine.lent();
     put_status(show(&state, saved.step, &words.ranges, out))
 }

@@ -18,7 +18,6 @@ use tz_model::{Shelf, Sink, View};
 use tz_run::{make_steps, run, run_full};
 use tz_show::{Range, show};
 use tz_snap::save;
-use tz_tell::LentState;
 use tz_words::{StartWords, Work};
 
 /// The most steps of a run.
@@ -116,7 +115,7 @@ fn page_started<O: Sink>(
         Err(error) => return Err(error),
     };
     make_steps(&mut reached, &files.script, words.steps);
-    let state = LentState::new(reached.core(), reached.exceptions(), reached.bus());
+    let state = reached.lent();
     Ok(put_status(show(&state, words.steps, ranges, out)))
 }
 

@@ -1,11 +1,7 @@
 mod Alone
-mod Blank
 mod Exchanging
-mod Indexed
 mod Named
 mod OneRegister
-mod Order
 mod Private
-mod Reading
 mod Undoes
 mod Unwritten

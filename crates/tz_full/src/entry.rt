@@ -97,13 +97,7 @@ fn push_basic_written(text: &mut Text, core: &Core, state: &LentState)
 {
     text.push_str("    ");
     let base = basic_base(core.pointer());
-    push_frame(
-        text,
-        state.bus(),
-        core.run.side,
-        basic_process(core),
-        base,
-    );
+    push_frame(text, state.bus(), core.run.side, basic_process(core), base);
     text.push_str("\n");
 }
 

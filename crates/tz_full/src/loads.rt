@@ -260,14 +260,7 @@ fn push_loads_of(text: &mut Text, account: &Account, state: &LentState, insn: &I
             rn,
             offset,
             ..
-        } => push_one(
-            text,
-            account,
-            state,
-            size,
-            at_offset(core, rn, offset),
-            rt,
-        ),
+        } => push_one(text, account, state, size, at_offset(core, rn, offset), rt),
         Insn::LoadAcquire { size, rt, rn } => {
             push_one(text, account, state, size, reg(core, rn), rt);
         }

@@ -13,7 +13,6 @@ use tz_core::Machine;
 use tz_full::{Texts, put_step};
 use tz_model::{Report, Sink, SinkError};
 use tz_ready::Steps;
-use tz_tell::LentState;
 
 /// Runs `steps` steps and writes of each its line as in view `all`, numbered from 0, and under it what the line doesn't
 /// say. At each step its events of the script are due.
@@ -54,7 +53,7 @@ fn run_counted<L: Ledger, O: Sink>(
     for step in 0..steps {
         let due = script.due(step, &mut looks);
         let account = machine.step_told(due, &mut report);
-        let state = LentState::new(machine.core(), machine.exceptions(), machine.bus());
+        let state = machine.lent();
         if let Err(error) = put_step(&mut texts, step, &account, due, &report, &state, out) {
             return Err(error);
         }

@@ -6,9 +6,9 @@ use Rattle.tz_table.specs.declared.units.Side.TheVariants.{Secure, NonSecure}
 use Rattle.tz_model.specs.Board.{BoardValue}
 use Rattle.tz_state.specs.State.{State, mpu_of}
 use Rattle.tz_state.specs.UnitRegisters.{rlar_bits}
-use Rattle.tz_core.specs.declared.fields.Field.{Field}
-use Rattle.tz_core.specs.declared.fields.Field.TheVariants.{Running, Banked, Shared}
-use Rattle.tz_core.specs.Fields.{fields, running_fields, banked_fields, banked_last, shared_fields, shared_last, mpu_region_fields, sau_region_fields}
+use Rattle.tz_fields.specs.declared.fields.Field.{Field}
+use Rattle.tz_fields.specs.declared.fields.Field.TheVariants.{Running, Banked, Shared}
+use Rattle.tz_fields.specs.Fields.{fields, running_fields, banked_fields, banked_last, shared_fields, shared_last, mpu_region_fields, sau_region_fields}
 use Rattle.tz_snap.proofs.Counts.{mpu_regions, sau_regions}
 use Rattle.tz_snap.proofs.FieldsRead.{written_by, Fit, Each, written_both, fit_both, fit_apart, each_both, each_apart}
 use Rattle.tz_snap.proofs.UnitBounds.{bounds_from, Kept, kept_fit, fit_kept, all_kept}

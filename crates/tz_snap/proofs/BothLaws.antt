@@ -4,8 +4,8 @@ use Rattle.std.specs.Prelude.{slice_get}
 use Rattle.std.proofs.lemmas.Option.{get_or_from_slice_get}
 use Rattle.tz_model.specs.Board.{BoardValue, IsBoard}
 use Rattle.tz_state.specs.State.{State}
-use Rattle.tz_core.specs.StateWords.{state_words, word_count}
-use Rattle.tz_core.specs.ReadWords.{words_of, AreWords, IsState}
+use Rattle.tz_fields.specs.StateWords.{state_words, word_count}
+use Rattle.tz_fields.specs.ReadWords.{words_of, AreWords, IsState}
 use Rattle.tz_snap.specs.FileWords.{AreBytes, bytes_of_words}
 use Rattle.tz_snap.specs.StateFile.{SavedState, Refusal, head_words, head_count, file_words, file_of, saved_of, most_steps}
 use Rattle.tz_snap.proofs.Words.{fewer_words, length_words}

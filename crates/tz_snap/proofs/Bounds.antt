@@ -3,11 +3,11 @@ use Rattle.std.proofs.Common.{◌≡◌, ◌⊎◌, inl, inr, ⊎_elim, ℕ, ◌
 use Rattle.tz_model.specs.Board.{BoardValue}
 use Rattle.tz_state.specs.State.{State}
 use Rattle.tz_state.specs.Zeros.{zero_memory}
-use Rattle.tz_core.specs.declared.fields.ChannelField.{ChannelField}
-use Rattle.tz_core.specs.declared.fields.Field.{Field}
-use Rattle.tz_core.specs.StateWords.{field_count, slot_count, channel_count, word_count}
-use Rattle.tz_core.specs.Fields.{fields, slot_places, channel_fields}
-use Rattle.tz_core.specs.ReadWords.{read_words, read_fields, read_slots, read_channels, and_slots, and_channels, with_regions, blank, fits, slot_fits, channel_fits, written, slot_written, channel_written}
+use Rattle.tz_fields.specs.declared.fields.ChannelField.{ChannelField}
+use Rattle.tz_fields.specs.declared.fields.Field.{Field}
+use Rattle.tz_fields.specs.StateWords.{field_count, slot_count, channel_count, word_count}
+use Rattle.tz_fields.specs.Fields.{fields, slot_places, channel_fields}
+use Rattle.tz_fields.specs.ReadWords.{read_words, read_fields, read_slots, read_channels, and_slots, and_channels, with_regions, blank, fits, slot_fits, channel_fits, written, slot_written, channel_written}
 
 -- a word that passes its test or is the first that doesn't
 by_test : (t : Bool) (r : Result State ℕ) (k i : ℕ) → (if t then r else Err k) ≡ Err i → (r ≡ Err i) ⊎ (i ≡ k)

@@ -10,10 +10,10 @@ use Rattle.tz_regs.specs.Reset.{no_channel}
 use Rattle.tz_state.specs.declared.register.MoverRegister.{MoverRegister}
 use Rattle.tz_state.specs.declared.register.MoverRegister.TheVariants.{Src, Dst, Count, Ctrl}
 use Rattle.tz_state.specs.State.{State, with_core}
-use Rattle.tz_core.specs.declared.fields.ChannelField.{ChannelField}
-use Rattle.tz_core.specs.Fields.{channel_fields}
-use Rattle.tz_core.specs.StateWords.{channel_word}
-use Rattle.tz_core.specs.ReadWords.{IsChannelTold, channel_fits, channel_written, read_channels}
+use Rattle.tz_fields.specs.declared.fields.ChannelField.{ChannelField}
+use Rattle.tz_fields.specs.Fields.{channel_fields}
+use Rattle.tz_fields.specs.StateWords.{channel_word}
+use Rattle.tz_fields.specs.ReadWords.{IsChannelTold, channel_fits, channel_written, read_channels}
 use Rattle.tz_snap.proofs.FieldsRead.{at_index, first_of, passed, same_state}
 
 -- a state with these channels

@@ -13,9 +13,9 @@ use Rattle.tz_model.specs.Board.{BoardValue, IsBoard, bytes_of, most_bytes, with
 use Rattle.tz_state.specs.Memory.{Memory}
 use Rattle.tz_state.specs.State.{State}
 use Rattle.tz_state.specs.Slots.{first_interrupt_place}
-use Rattle.tz_core.specs.declared.fields.Field.TheVariants.{Running, Banked, Shared}
-use Rattle.tz_core.specs.Fields.{fields, slot_places, channel_fields, system_places, running_fields, banked_fields, banked_last, shared_fields, shared_last, mpu_region_fields, sau_region_fields}
-use Rattle.tz_core.specs.StateWords.{word_of, slot_word, channel_word, words_from, memory_words, state_words, field_count, memory_count, word_count}
+use Rattle.tz_fields.specs.declared.fields.Field.TheVariants.{Running, Banked, Shared}
+use Rattle.tz_fields.specs.Fields.{fields, slot_places, channel_fields, system_places, running_fields, banked_fields, banked_last, shared_fields, shared_last, mpu_region_fields, sau_region_fields}
+use Rattle.tz_fields.specs.StateWords.{word_of, slot_word, channel_word, words_from, memory_words, state_words, field_count, memory_count, word_count}
 use Rattle.tz_snap.specs.StateFile.{file_words, head_words, head_count}
 use Rattle.tz_snap.proofs.HeadWords.{length_head}
 

@@ -7,7 +7,7 @@ use Rattle.tz_model.specs.declared.channel.Channels.{Channels}
 use Rattle.tz_state.specs.declared.slot.SlotState.{SlotState}
 use Rattle.tz_state.specs.State.{State}
 use Rattle.tz_state.specs.UnitRegisters.{rlar_bits}
-use Rattle.tz_core.specs.Fields.{fields}
+use Rattle.tz_fields.specs.Fields.{fields}
 use Rattle.tz_snap.proofs.FieldsRead.{written_by, Fit, Each, Has, Leaves}
 use Rattle.tz_snap.proofs.UnitBounds.{Kept, told_bounds, bounds_told, settled_kept, kept_settled}
 use Rattle.tz_snap.proofs.UnitFields.{all_bits, sau_rbar_bits, sau_rlar_bits, mpu_told, told_mpu, mpu_settled, settled_mpu, sau_told, told_sau, sau_settled, settled_sau}

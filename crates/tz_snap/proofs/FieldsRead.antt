@@ -4,9 +4,9 @@ use Rattle.std.specs.Prelude.{slice_get, slice_index}
 use Rattle.std.proofs.lemmas.Bool.{eqb-true, eq-eqb}
 use Rattle.std.proofs.lemmas.Option.{slice_get-get_or}
 use Rattle.tz_state.specs.State.{State}
-use Rattle.tz_core.specs.declared.fields.Field.{Field}
-use Rattle.tz_core.specs.StateWords.{word_of}
-use Rattle.tz_core.specs.ReadWords.{IsTold, fits, read_fields, written}
+use Rattle.tz_fields.specs.declared.fields.Field.{Field}
+use Rattle.tz_fields.specs.StateWords.{word_of}
+use Rattle.tz_fields.specs.ReadWords.{IsTold, fits, read_fields, written}
 use Rattle.tz_snap.proofs.Lists.{drop_some}
 
 -- the state after all of them are written

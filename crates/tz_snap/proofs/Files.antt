@@ -5,10 +5,10 @@ use Rattle.std.proofs.lemmas.Option.{cond_some}
 use Rattle.std.proofs.lemmas.List.{drop_at, take_rest}
 use Rattle.tz_model.specs.Board.{BoardValue, IsBoard}
 use Rattle.tz_state.specs.State.{State}
-use Rattle.tz_core.specs.StateWords.{word_count}
-use Rattle.tz_core.specs.ReadWords.{read_words, words_of, AreWords, IsWordsRefusal}
-use Rattle.tz_core.specs.declared.from_words.WordsError.{WordsError}
-use Rattle.tz_core.specs.declared.from_words.WordsError.TheVariants as WordsErrors
+use Rattle.tz_fields.specs.StateWords.{word_count}
+use Rattle.tz_fields.specs.ReadWords.{read_words, words_of, AreWords, IsWordsRefusal}
+use Rattle.tz_fields.specs.declared.from_words.WordsError.{WordsError}
+use Rattle.tz_fields.specs.declared.from_words.WordsError.TheVariants as WordsErrors
 use Rattle.tz_snap.specs.FileWords.{AreBytes, bytes_of_words}
 use Rattle.tz_snap.specs.StateFile.{SavedState, Refusal, Board, Length, Value, board_words, head_words, begins_with, step_in, head_count, file_length, behind_head, values_of, saved_by, saved_of, most_steps, magic}
 use Rattle.tz_snap.proofs.Words.{both_words, words_of_bytes, bytes_of_words_of, length_bytes, drop_words, length_words}

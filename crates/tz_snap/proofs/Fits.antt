@@ -10,7 +10,7 @@ use Rattle.tz_model.specs.declared.board.Profile.{Profile}
 use Rattle.tz_model.specs.declared.board.Profile.TheVariants.{V80, V81}
 use Rattle.tz_model.specs.Board.{BoardValue, IsBoard, are_regions, is_region, is_multiple, is_vtor, within}
 use Rattle.tz_snap.specs.StateFile.{kind_number, side_number, profile_number, profile_word, region_words, board_words, head_words, magic, most_steps}
-use Rattle.tz_core.specs.ReadWords.{AreWords}
+use Rattle.tz_fields.specs.ReadWords.{AreWords}
 use Rattle.tz_snap.proofs.Words.{no_words, one_more_word}
 
 kind_fits : (k : RegionKind) → kind_number k < 2 ^ 32

@@ -11,12 +11,12 @@ use Rattle.tz_regs.specs.Banks.{channels_of}
 use Rattle.tz_state.specs.declared.slot.SlotState.{SlotState}
 use Rattle.tz_state.specs.declared.units.Bounds.{Bounds}
 use Rattle.tz_state.specs.State.{State, with_bus, with_registers, with_monitor}
-use Rattle.tz_core.specs.declared.fields.Field.{Field}
-use Rattle.tz_core.specs.declared.fields.Field.TheVariants.{Running, Banked, Shared}
-use Rattle.tz_core.specs.declared.fields.RunningField.TheVariants as run
-use Rattle.tz_core.specs.Fields.{banked_first, banked_last, shared_first, shared_last}
-use Rattle.tz_core.specs.StateWords.{held_size, held_address, size_number}
-use Rattle.tz_core.specs.ReadWords.{held_from, with_held_address}
+use Rattle.tz_fields.specs.declared.fields.Field.{Field}
+use Rattle.tz_fields.specs.declared.fields.Field.TheVariants.{Running, Banked, Shared}
+use Rattle.tz_fields.specs.declared.fields.RunningField.TheVariants as run
+use Rattle.tz_fields.specs.Fields.{banked_first, banked_last, shared_first, shared_last}
+use Rattle.tz_fields.specs.StateWords.{held_size, held_address, size_number}
+use Rattle.tz_fields.specs.ReadWords.{held_from, with_held_address}
 use Rattle.tz_snap.proofs.FieldsRead.{written_by, Fit, Each, Has, Leaves, stays}
 use Rattle.tz_snap.proofs.SlotsRead.{with_slots}
 use Rattle.tz_snap.proofs.ChannelsRead.{with_channels_in}

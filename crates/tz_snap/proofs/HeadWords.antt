@@ -5,7 +5,7 @@ use Rattle.std.proofs.lemmas.Option.{slice_get-get_or, slice_get_past}
 use Rattle.tz_model.specs.declared.board.Region.{Region}
 use Rattle.tz_model.specs.Board.{BoardValue}
 use Rattle.tz_state.specs.State.{State}
-use Rattle.tz_core.specs.StateWords.{state_words}
+use Rattle.tz_fields.specs.StateWords.{state_words}
 use Rattle.tz_snap.proofs.Lists.{get_left, get_right}
 use Rattle.tz_snap.specs.StateFile.{file_words, kind_number, side_number, region_words, board_words, head_words, head_count, step_in, magic}
 

@@ -17,8 +17,8 @@ use Rattle.tz_model.specs.Words.{wrap}
 use Rattle.tz_state.specs.Access.{is_mapped}
 use Rattle.tz_state.specs.Memory.{Memory, byte_at, word_at, with_byte, with_word}
 use Rattle.tz_state.specs.Zeros.{zero_entries, zero_memory}
-use Rattle.tz_core.specs.StateWords.{words_from, memory_words, memory_count}
-use Rattle.tz_core.specs.ReadWords.{with_words, with_regions, AreWords}
+use Rattle.tz_fields.specs.StateWords.{words_from, memory_words, memory_count}
+use Rattle.tz_fields.specs.ReadWords.{with_words, with_regions, AreWords}
 use Rattle.tz_snap.proofs.Counts.{from_count}
 use Rattle.tz_snap.proofs.Words.{fewer_words}
 

@@ -8,9 +8,9 @@ use Rattle.tz_regs.specs.Special.{number_of}
 use Rattle.tz_state.specs.declared.slot.SlotState.{SlotState}
 use Rattle.tz_state.specs.State.{State, with_exceptions}
 use Rattle.tz_state.specs.Slots.{ExceptionsValue, idle, exception_number, is_always_enabled, is_banked, is_system, is_place}
-use Rattle.tz_core.specs.Fields.{slot_places, system_places}
-use Rattle.tz_core.specs.StateWords.{side_number, slot_word}
-use Rattle.tz_core.specs.ReadWords.{IsSlotTold, slot_fits, slot_from, slot_written, read_slots}
+use Rattle.tz_fields.specs.Fields.{slot_places, system_places}
+use Rattle.tz_fields.specs.StateWords.{side_number, slot_word}
+use Rattle.tz_fields.specs.ReadWords.{IsSlotTold, slot_fits, slot_from, slot_written, read_slots}
 use Rattle.tz_snap.proofs.FieldsRead.{at_index, first_of, passed, same_state}
 
 -- the word of what stands at a place

@@ -22,11 +22,11 @@ use Rattle.tz_state.specs.State.{State, mpu_of, with_bus, with_core, with_regist
 use Rattle.tz_state.specs.UnitRegisters.{bounds_at, bounds_of, reset_mpu, reset_sau, rlar_bits, started, with_rlar, with_rbar}
 use Rattle.tz_state.specs.Zeros.{zero_memory}
 use Rattle.tz_sem.specs.Boot.{boot, boot_memory, has_vectors, reset, with_segments}
-use Rattle.tz_core.specs.declared.fields.Field.{Field}
-use Rattle.tz_core.specs.declared.fields.Field.TheVariants.{Running}
-use Rattle.tz_core.specs.declared.fields.RunningField.TheVariants as run
-use Rattle.tz_core.specs.Fields.{fields, slot_places, mpu_region_fields, sau_region_fields}
-use Rattle.tz_core.specs.ReadWords.{IsState, IsTold, IsSlotTold, is_set, side_from, slot_from}
+use Rattle.tz_fields.specs.declared.fields.Field.{Field}
+use Rattle.tz_fields.specs.declared.fields.Field.TheVariants.{Running}
+use Rattle.tz_fields.specs.declared.fields.RunningField.TheVariants as run
+use Rattle.tz_fields.specs.Fields.{fields, slot_places, mpu_region_fields, sau_region_fields}
+use Rattle.tz_fields.specs.ReadWords.{IsState, IsTold, IsSlotTold, is_set, side_from, slot_from}
 use Rattle.tz_snap.specs.FileWords.{AreBytes, HasBytes}
 use Rattle.tz_snap.proofs.AllFields.{starts_of, grouped_all}
 use Rattle.tz_snap.proofs.ChannelsRead.{start_told}

@@ -11,11 +11,11 @@ use Rattle.tz_regs.specs.Special.{number_of}
 use Rattle.tz_state.specs.Memory.{Memory, byte_at, word_at}
 use Rattle.tz_state.specs.State.{State}
 use Rattle.tz_state.specs.Slots.{at, idle, exception_number, has_fixed_priority, is_enabled}
-use Rattle.tz_core.specs.declared.fields.ChannelField.{ChannelField}
-use Rattle.tz_core.specs.declared.fields.Field.{Field}
-use Rattle.tz_core.specs.Fields.{fields, slot_places, channel_fields}
-use Rattle.tz_core.specs.StateWords.{side_number, word_of, slot_word, channel_word, words_from, memory_words, state_words}
-use Rattle.tz_core.specs.ReadWords.{AreWords, IsState, IsTold, IsSlotTold, IsChannelTold, slot_from}
+use Rattle.tz_fields.specs.declared.fields.ChannelField.{ChannelField}
+use Rattle.tz_fields.specs.declared.fields.Field.{Field}
+use Rattle.tz_fields.specs.Fields.{fields, slot_places, channel_fields}
+use Rattle.tz_fields.specs.StateWords.{side_number, word_of, slot_word, channel_word, words_from, memory_words, state_words}
+use Rattle.tz_fields.specs.ReadWords.{AreWords, IsState, IsTold, IsSlotTold, IsChannelTold, slot_from}
 use Rattle.tz_snap.proofs.Words.{no_words, one_more_word, both_words}
 
 -- ---- fields

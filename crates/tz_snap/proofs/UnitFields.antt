@@ -5,12 +5,12 @@ use Rattle.tz_table.specs.declared.units.Side.TheVariants.{Secure, NonSecure}
 use Rattle.tz_state.specs.declared.units.Bounds.{Bounds}
 use Rattle.tz_state.specs.State.{State, mpu_of, with_mpu, with_bus}
 use Rattle.tz_state.specs.UnitRegisters.{rlar_bits}
-use Rattle.tz_core.specs.declared.fields.Field.{Field}
-use Rattle.tz_core.specs.declared.fields.Field.TheVariants.{Banked, Shared}
-use Rattle.tz_core.specs.declared.fields.BankedField.TheVariants.{MpuRbar, MpuRlar}
-use Rattle.tz_core.specs.declared.fields.SharedField.TheVariants.{SauRbar, SauRlar}
-use Rattle.tz_core.specs.Fields.{mpu_region_fields, sau_region_fields}
-use Rattle.tz_core.specs.ReadWords.{written}
+use Rattle.tz_fields.specs.declared.fields.Field.{Field}
+use Rattle.tz_fields.specs.declared.fields.Field.TheVariants.{Banked, Shared}
+use Rattle.tz_fields.specs.declared.fields.BankedField.TheVariants.{MpuRbar, MpuRlar}
+use Rattle.tz_fields.specs.declared.fields.SharedField.TheVariants.{SauRbar, SauRlar}
+use Rattle.tz_fields.specs.Fields.{mpu_region_fields, sau_region_fields}
+use Rattle.tz_fields.specs.ReadWords.{written}
 use Rattle.tz_snap.proofs.FieldsRead.{written_by, Fit, Each, Has, Leaves}
 use Rattle.tz_snap.proofs.UnitBounds.{bounds_written, FitBounds, ToldBounds, SettledBounds}
 

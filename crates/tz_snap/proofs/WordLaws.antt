@@ -14,9 +14,9 @@ use Rattle.tz_state.specs.Slots.{places, idle}
 use Rattle.tz_state.specs.Regions.{no_bounds}
 use Rattle.tz_state.specs.UnitRegisters.{bounds_of, reset_sau, reset_mpu}
 use Rattle.tz_state.specs.Zeros.{zero_memory}
-use Rattle.tz_core.specs.Fields.{fields, slot_places, channel_fields}
-use Rattle.tz_core.specs.StateWords.{word_of, slot_word, channel_word, memory_words, state_words, field_count, slot_count, channel_count, word_count}
-use Rattle.tz_core.specs.ReadWords.{AreWords, IsState, blank, read_fields, read_slots, read_channels, read_words, and_slots, and_channels, with_regions}
+use Rattle.tz_fields.specs.Fields.{fields, slot_places, channel_fields}
+use Rattle.tz_fields.specs.StateWords.{word_of, slot_word, channel_word, memory_words, state_words, field_count, slot_count, channel_count, word_count}
+use Rattle.tz_fields.specs.ReadWords.{AreWords, IsState, blank, read_fields, read_slots, read_channels, read_words, and_slots, and_channels, with_regions}
 use Rattle.tz_snap.proofs.Counts.{fields_count, slots_count, channels_count, state_count}
 use Rattle.tz_snap.proofs.Words.{fewer_words}
 use Rattle.tz_snap.proofs.FieldsRead.{Each, Has, Leaves, written_by, words_told, told_words, told_settled, settled_told}

@@ -3,7 +3,7 @@ use Rattle.std.proofs.Common.{◌≡◌, ℕ, zero, suc, ◌+◌, ◌*◌, ◌^�
 use Rattle.std.specs.Prelude.{slice_get, slice_index}
 use Rattle.std.specs.Int.{w32, from_le_bytes}
 use Rattle.std.proofs.lemmas.Nat.{from_le_bytes-to_le_bytes_4, le_bytes_4}
-use Rattle.tz_core.specs.ReadWords.{words_of, AreWords}
+use Rattle.tz_fields.specs.ReadWords.{words_of, AreWords}
 use Rattle.tz_snap.specs.FileWords.{AreBytes, bytes_of_words}
 
 pub no_words : AreWords []

@@ -10,8 +10,8 @@ use Rattle.tz_model.specs.declared.board.RegionKind.TheVariants.{Rom, Ram}
 use Rattle.tz_model.specs.declared.board.RegionSide.{RegionSide}
 use Rattle.tz_model.specs.declared.board.RegionSide.TheVariants.{Secure, Nsc, NonSecure}
 use Rattle.tz_state.specs.State.{State}
-use Rattle.tz_core.specs.StateWords.{state_words, word_count}
-use Rattle.tz_core.specs.ReadWords.{read_words, words_of}
+use Rattle.tz_fields.specs.StateWords.{state_words, word_count}
+use Rattle.tz_fields.specs.ReadWords.{read_words, words_of}
 use Rattle.tz_snap.specs.FileWords.{bytes_of_words}
 
 -- the word that a state file begins with

@@ -4,10 +4,10 @@
 //! read.
 
 ghost use Rattle.std.specs.Prelude.{◌≡◌, ◌+◌, ◌^◌, ◌<◌, length, slice_get};
-ghost use Rattle.tz_core.specs.StateWords.{word_count};
+ghost use Rattle.tz_fields.specs.StateWords.{word_count};
 ghost use Rattle.tz_snap.specs.StateFile.{profile_number, profile_word, kind_number, side_number, region_words, board_words, head_words, head_count};
 
-use tz_core::word_count;
+use tz_fields::word_count;
 use tz_model::{Board, Profile, Region, RegionKind, RegionSide};
 
 /// The word that a state file begins with.

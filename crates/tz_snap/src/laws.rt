@@ -5,12 +5,12 @@ ghost use Rattle.tz_model.specs.Board.{BoardValue, IsBoard};
 ghost use Rattle.tz_model.specs.Image.{ImageValue};
 ghost use Rattle.tz_state.specs.State.{State};
 ghost use Rattle.tz_sem.specs.Boot.{boot};
-ghost use Rattle.tz_core.specs.StateWords.{state_words, word_count};
-ghost use Rattle.tz_core.specs.ReadWords.{AreWords, IsState, read_words};
+ghost use Rattle.tz_fields.specs.StateWords.{state_words, word_count};
+ghost use Rattle.tz_fields.specs.ReadWords.{AreWords, IsState, read_words};
 ghost use Rattle.tz_snap.specs.FileWords.{AreBytes, HasBytes};
 ghost use Rattle.tz_snap.specs.StateFile.{SavedState, file_of, most_steps, saved_of};
 
-use tz_core::words_are_counted;
+use tz_fields::words_are_counted;
 
 /// Reading words is the inverse of writing them: the words of a state of a board make that state again, so that they
 /// tell all of it; and words that make a state are those of that state, which is one of the board.

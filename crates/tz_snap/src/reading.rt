@@ -1,14 +1,15 @@
 //! A state file as it is read: its first word, its board, its length, and each word of the state.
 
 ghost use Rattle.std.specs.Prelude.{◌≡◌, ◌^◌, ◌<◌, length, drop, slice_get, Ok, IfOk, IfErr};
-ghost use Rattle.tz_core.specs.ReadWords.{words_of};
+ghost use Rattle.tz_fields.specs.ReadWords.{words_of};
 ghost use Rattle.tz_snap.specs.StateFile.{board_words, begins_with, step_in, file_length, values_of, saved_of};
 ghost use Rattle.tz_snap.specs.Refusals.{IsStateRefusal};
 
 use crate::error::SnapError;
 use crate::head::{MAGIC, MOST_STEPS, board_word, file_count, head_count};
 use std::alloc::Global;
-use tz_core::{Machine, WordsError};
+use tz_core::Machine;
+use tz_fields::WordsError;
 use tz_model::Board;
 
 /// A machine as a file has it, and how many steps led to its state.

@@ -26,6 +26,6 @@ returns g c =
     _ saved (saved_task words saved) refl c.in-Ok.ensures.answer refl
     (told_put _ _ _ (g.O.Sink.space c.show.new.out) (page saved.state saved.step words.ranges) _ _ c.show.result _ c.put_status.ensures
     (subst (λ (ranges : List Range). Put (g.O.Sink.written c.args.out.now) (g.O.Sink.written c.show.new.out) (g.O.Sink.space c.args.out.now) (g.O.Sink.space c.show.new.out)
-    (page saved.state saved.step ranges) c.show.result) c.deref.ensures.value c.show.ensures.put)
+    (page saved.state saved.step ranges) c.show.result) c.deref.ensures.value (rw c.lent-state.ensures at c.show.ensures.put))
     c.show.ensures.cause)
     refl

@@ -15,7 +15,7 @@ loop-step-preserved g c =
     let moved = ap (λ (d : List ScriptEvent). (step c.loop-step.machine d).state) (sym due) ∙ ap (λ (x : Stepped). x.state) made in
     let told = text_told (λ k. due_at k c.args.script.now) c.loop-step.step _ _ _ _ _ due made c.step_told-account.ensures.account in
     record {
-      lines = so_far_step _ _ _ _ _ _ _ _ _ _ _ _ _ c.loop-step-test.true moved told c.loop-step.invariant.lines c.in_default.ensures.put;
+      lines = so_far_step _ _ _ _ _ _ _ _ _ _ _ _ _ c.loop-step-test.true moved told c.loop-step.invariant.lines (rw c.lent-state.ensures at c.in_default.ensures.put);
       later = let l = c.in_default.ensures.cause.later in omega (arith, l, c.loop-step.invariant.later);
     }
 
@@ -25,7 +25,7 @@ returns-in-Err-clause-put g c =
     let made = c.step_told-account.ensures.step in
     let moved = ap (λ (d : List ScriptEvent). (step c.loop-step.machine d).state) (sym due) ∙ ap (λ (x : Stepped). x.state) made in
     let told = text_told (λ k. due_at k c.args.script.now) c.loop-step.step _ _ _ _ _ due made c.step_told-account.ensures.account in
-    so_far_failed _ _ _ _ _ _ _ _ _ _ _ _ _ c.in-Err.error c.loop-step-test.true moved told c.loop-step.invariant.lines c.in-Err.ensures.put
+    so_far_failed _ _ _ _ _ _ _ _ _ _ _ _ _ c.in-Err.error c.loop-step-test.true moved told c.loop-step.invariant.lines (rw c.lent-state.ensures at c.in-Err.ensures.put)
 
 pub returns-clause-put : goal.returns-clause-put
 returns-clause-put g c = so_far_end _ _ _ _ _ _ _ _ _ c.loop-step-test.false c.loop-step.invariant.lines

@@ -1,5 +1,5 @@
 use Rattle.std.proofs.Common.{◌∙◌, arith, sym}
-use Rattle.tz_core.specs.ReadWords.{words_of}
+use Rattle.tz_fields.specs.ReadWords.{words_of}
 use Rattle.tz_snap.specs.StateFile.{board_words}
 use Rattle.tz_snap.proofs.Lists.{compared_other, compared_same}
 use Rattle.tz_snap.proofs.reading.has_board.Goals as goal

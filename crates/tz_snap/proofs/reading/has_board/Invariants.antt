@@ -1,5 +1,5 @@
 use Rattle.std.proofs.Common.{◌≡◌, drop}
-use Rattle.tz_core.specs.ReadWords.{words_of}
+use Rattle.tz_fields.specs.ReadWords.{words_of}
 use Rattle.tz_snap.specs.StateFile.{board_words, begins_with}
 use Rattle.tz_snap.proofs.reading.has_board.Given as goal
 

@@ -1,5 +1,5 @@
 use Rattle.std.proofs.Common.{◌-◌, ◌*◌, arith, drop, length, take}
-use Rattle.tz_core.specs.ReadWords.{read_words, words_of}
+use Rattle.tz_fields.specs.ReadWords.{read_words, words_of}
 use Rattle.tz_snap.proofs.Files.{place_small, read_err, read_ok, refused}
 use Rattle.tz_snap.proofs.reading.read_state.Goals as goal
 

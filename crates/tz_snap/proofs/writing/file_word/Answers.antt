@@ -1,6 +1,6 @@
 use Rattle.std.proofs.Common.{◌∙◌, ◌-◌, ℕ, ap, arith}
 use Rattle.std.specs.Prelude.{slice_get}
-use Rattle.tz_core.specs.StateWords.{state_words}
+use Rattle.tz_fields.specs.StateWords.{state_words}
 use Rattle.tz_snap.proofs.HeadWords.{in_head, in_state}
 use Rattle.tz_snap.proofs.writing.file_word.Goals as goal
 

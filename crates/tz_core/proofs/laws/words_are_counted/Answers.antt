@@ -1,9 +1,0 @@
-use Rattle.tz_core.proofs.Indexed.{length_state}
-use Rattle.tz_core.proofs.Reading.{words_small}
-use Rattle.tz_core.proofs.laws.words_are_counted.Goals as goal
-
-pub returns-clause-count : goal.returns-clause-count
-returns-clause-count c = length_state
-
-pub returns-clause-words : goal.returns-clause-words
-returns-clause-words c = words_small

@@ -1,6 +1,0 @@
-use Rattle.std.proofs.Common.{◌≡◌, take}
-use Rattle.tz_core.specs.StateWords.{memory_count}
-use Rattle.tz_core.proofs.words.word_count.Given as goal
-
-abbrev pub invariant-loop-region : goal.invariant-loop-region
-invariant-loop-region l = l.memory ≡ memory_count (take l.region-index l.region-items)

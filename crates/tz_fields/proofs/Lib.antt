@@ -1,0 +1,4 @@
+mod Blank
+mod Indexed
+mod Order
+mod Reading
