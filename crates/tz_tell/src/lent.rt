@@ -30,6 +30,7 @@ impl<'a> Model for LentState<'a> {
 }
 
 impl<'a> LentState<'a> {
+    /// The state that has these parts.
     pub fn new(core: &'a Core, exceptions: &'a Exceptions, bus: &'a Bus) -> LentState<'a>
         ensures { result ≡ record { core = core.now; exceptions = exceptions.now; bus = bus.now.state } }
     {
