@@ -1,5 +1,5 @@
 -- Loads and stores of one register, by what the bus answers to their one access.
-use Rattle.std.specs.Prelude.{ℕ, ◌^◌, ◌==◌, Bool, true, false, [], ◌∷◌, Option, Some, None, Result, Ok, Err}
+use Rattle.std.specs.Prelude.{ℕ, ◌^◌, ◌==◌, Bool, false, [], ◌∷◌, Option, Some, None, Result, Ok, Err}
 use Rattle.std.proofs.Common.{◌≡◌, refl, ap, ◌∙◌}
 use Rattle.std.proofs.Math.Nat.{mod-mod}
 use Rattle.tz_table.specs.declared.units.Size.{Size}
@@ -14,11 +14,11 @@ use Rattle.tz_model.specs.Ports.{answers, aligned_by_ccr, cut_to}
 use Rattle.tz_regs.specs.declared.parts.Core.{Core}
 use Rattle.tz_state.specs.declared.request.Kind.TheVariants.{Read, Write}
 use Rattle.tz_state.specs.Memory.{Memory, value_at, with_byte, with_half, with_value}
-use Rattle.tz_state.specs.State.{Bus, State, asker_in, with_memory}
+use Rattle.tz_state.specs.State.{State, asker_in, with_memory}
 use Rattle.tz_state.specs.Access.{access, is_private, reached_in, request_by, verdict}
 use Rattle.tz_sem.specs.Local.{Finished, finished_in, local_of, reg, with_local}
 use Rattle.tz_sem.specs.LoadStore.{based, extended_to, place_of, refusal, refusal_of, register_loaded}
-use Rattle.tz_sem.specs.Exec.{Executed, alone, loads_stores, ported, through, unless_refused}
+use Rattle.tz_sem.specs.Exec.{alone, loads_stores, ported, through}
 
 -- why an access of one register isn't made
 abbrev pub load_verdict : State → Size → ℕ → Address → Bool → Option Fault

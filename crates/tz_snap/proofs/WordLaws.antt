@@ -19,11 +19,11 @@ use Rattle.tz_fields.specs.StateWords.{word_of, slot_word, channel_word, memory_
 use Rattle.tz_fields.specs.ReadWords.{AreWords, IsState, blank, read_fields, read_slots, read_channels, read_words, and_slots, and_channels, with_regions}
 use Rattle.tz_snap.proofs.Counts.{fields_count, slots_count, channels_count, state_count}
 use Rattle.tz_snap.proofs.Words.{fewer_words}
-use Rattle.tz_snap.proofs.FieldsRead.{Each, Has, Leaves, written_by, words_told, told_words, told_settled, settled_told}
+use Rattle.tz_snap.proofs.FieldsRead.{Each, Has, words_told, told_words, told_settled, settled_told}
 use Rattle.tz_snap.proofs.FieldsRead as one_field
 use Rattle.tz_snap.proofs.SlotsRead.{ArePlaces, SlotsTold, SlotsMade, SlotsFit, slots_by, with_slots, is_in, length_by, others_stay, fit_told, all_told, told_made, told_fit, made_alike, board_places, places_are}
 use Rattle.tz_snap.proofs.SlotsRead as one_slot
-use Rattle.tz_snap.proofs.ChannelsRead.{with_channels_in, ChannelsTold, ChannelsLeave, ChannelsFit, channels_by, channels_from, channels_are, told_leave, leave_told, fit_leave, told_alike, still_from}
+use Rattle.tz_snap.proofs.ChannelsRead.{with_channels_in, ChannelsTold, ChannelsLeave, ChannelsFit, channels_from, channels_are, told_leave, leave_told, fit_leave, told_alike, still_from}
 use Rattle.tz_snap.proofs.ChannelsRead as one_channel
 use Rattle.tz_snap.proofs.MemoryRead.{IsMade, memory_made, memory_back}
 use Rattle.tz_snap.proofs.AllFields.{HasUnits, AllFit, each_fits, all_written, starts_of, units_from}

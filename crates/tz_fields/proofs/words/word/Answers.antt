@@ -1,6 +1,5 @@
 use Rattle.std.proofs.Common.{◌≡◌, ◌-◌, Some, sym, ap, ◌∙◌, arith}
 use Rattle.tz_model.specs.Board.{BoardValue}
-use Rattle.tz_state.specs.State.{State}
 use Rattle.tz_fields.specs.StateWords.{field_count, slot_count, channel_count}
 use Rattle.tz_fields.proofs.Indexed.{slot_told, channel_told, memory_told}
 use Rattle.tz_fields.proofs.words.word.Goals as goal
