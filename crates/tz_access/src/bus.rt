@@ -135,6 +135,7 @@ impl Bus {
         self.memory.put_segment(segment);
     }
 
+    /// The board.
     pub fn board(&self) -> &Board
         ensures { result.now ≡ self.now.state.board }
     {

@@ -337,7 +337,7 @@ impl Bus {
 
     /// The instruction at PC for code of a side, as tests ask for it. `secure_privileged` says that Secure code would be
     /// privileged, which a gateway asks; `negative` that the execution priority is below 0. It changes
-    /// nothing.
+    /// nothing but what is kept of look-ups.
     ///
     /// # Errors
     ///

@@ -56,7 +56,7 @@ fn for_data(side: Side, privileged: bool, negative: bool) -> Who
 impl Bus {
     /// The look-up that is kept at a place, of which there are 16: the one of a block as data, or else as code. The
     /// place of a block is that of its number, modulo 16. Nothing is kept of it where nobody asked, where another
-    /// look-up came there, or where a register of the SAU or of an MPU has been written since.
+    /// look-up came there, or where a register of the SAU or of an MPU has been written since. Tests are its users.
     pub fn kept(&self, index: usize) -> Option<Kept>
         ensures kept { result ≡ option_map (told_of self.now.state) (kept_at self.now.kept index) }
         ensures past { 16 ≤ index → result ≡ None }

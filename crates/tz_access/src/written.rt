@@ -142,7 +142,8 @@ impl Bus {
         }
     }
 
-    /// Writes as `write` does, and notes what it overwrote, where that is wanted.
+    /// Writes as `write` does, and notes what it overwrote, where that is wanted. Fails as `write` does; nothing is noted
+    /// then.
     #[inline(always)]
     pub fn write_noted(
         &mut self,

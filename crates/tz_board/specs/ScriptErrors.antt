@@ -5,13 +5,13 @@ use Rattle.tz_model.specs.declared.report.ScriptEvent.TheVariants as events
 use Rattle.tz_board.specs.Scripts.{ScriptRefusal, BadLine, OutOfOrder, NoSuchInterrupt, TooMany, Read, Line, Passed, Event, Bad}
 use Rattle.tz_board.specs.declared.error.ScriptError.{ScriptError}
 use Rattle.tz_board.specs.declared.error.ScriptError.TheVariants as errors
-use Rattle.tz_board.specs.declared.line.Named.{Named}
-use Rattle.tz_board.specs.declared.line.Named.TheVariants as named
+use Rattle.tz_board.specs.declared.line.NamedEvent.{NamedEvent}
+use Rattle.tz_board.specs.declared.line.NamedEvent.TheVariants as named
 use Rattle.tz_board.specs.declared.line.LineRead.{LineRead}
 use Rattle.tz_board.specs.declared.line.LineRead.TheVariants as lines
 
 -- the event that a line names; its interrupt may be one that the board hasn't
-abbrev pub event_named : Named → ScriptEvent
+abbrev pub event_named : NamedEvent → ScriptEvent
 event_named (named.Irq number) = events.Irq number
 event_named named.Nmi = events.Nmi
 

@@ -8,7 +8,7 @@ use crate::text;
 
 /// The event that a line names.
 #[derive(Clone, Copy)]
-pub enum Named {
+pub enum NamedEvent {
     Irq(u32),
     Nmi,
 }
@@ -19,28 +19,28 @@ pub enum LineRead {
     /// Nothing: it is empty or a comment.
     Passed,
     /// This event at this step.
-    Event(u32, Named),
+    Event(u32, NamedEvent),
     /// Something else.
     Bad,
 }
 
 /// The event that the parts after the step name.
 #[tactic(auto, unfolding(crate::specs::Scripts::event_of))]
-fn read_event(parts: &[u8]) -> Option<Named>
+fn read_event(parts: &[u8]) -> Option<NamedEvent>
     ensures { event_of (parts_of parts.now) ≡ option_map event_named result }
 {
     let (name, rest) = text::first_part(parts)?;
     match text::first_part(rest) {
         None => {
             if name == b"nmi".as_slice() {
-                Some(Named::Nmi)
+                Some(NamedEvent::Nmi)
             } else {
                 None
             }
         }
         Some((number, rest)) => {
             if name == b"irq".as_slice() && text::first_part(rest).is_none() {
-                text::number(number).map(Named::Irq)
+                text::number(number).map(NamedEvent::Irq)
             } else {
                 None
             }

@@ -166,7 +166,7 @@ impl Script {
         }
     }
 
-    /// The script of these events.
+    /// The script of these events. Fails for want of memory alone.
     pub fn of(alloc: Global, events: &[(u32, ScriptEvent)]) -> Result<Script, AllocError>
         requires { IsScript events.now }
         ensures { IfOk result (λ s. s ≡ events.now) }

@@ -6,7 +6,7 @@ ghost use Rattle.tz_board.specs.Scripts.{are_on, exists_on, line_of, parts_of, s
 ghost use Rattle.tz_board.specs.ScriptErrors.{IsScriptRefusal, event_named, line_read};
 
 use crate::error::ScriptError;
-use crate::line::{LineRead, Named};
+use crate::line::{LineRead, NamedEvent};
 use crate::script::Script;
 use crate::{line, text};
 use std::alloc::Global;
@@ -23,7 +23,7 @@ fn with_named(
     interrupts: u16,
     number: u32,
     step: u32,
-    named: Named,
+    named: NamedEvent,
 ) -> Result<Script, ScriptError>
     ensures ok { IfOk result (λ s. with_event interrupts number script (step, event_named named) ≡ Ok s) }
     ensures err { IfErr result (λ e. IsScriptRefusal e (with_event interrupts number script (step, event_named named))) }
@@ -32,8 +32,8 @@ fn with_named(
         return Err(ScriptError::OutOfOrder(number));
     }
     let event = match named {
-        Named::Nmi => ScriptEvent::Nmi,
-        Named::Irq(interrupt) => {
+        NamedEvent::Nmi => ScriptEvent::Nmi,
+        NamedEvent::Irq(interrupt) => {
             if interrupt >= u32::from(interrupts) {
                 return Err(ScriptError::NoSuchInterrupt(number));
             }

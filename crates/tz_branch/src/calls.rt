@@ -65,7 +65,7 @@ pub fn call_exchange(core: &mut Core, rm: u8, ns: bool) -> Result<Outcome, Fault
     }
 }
 
-/// IT.
+/// Begins an IT block: the state of the condition and the mask, which the next instructions read.
 #[tactic(auto, using(tz_sem::proofs::Local::registers_put))]
 pub fn if_then(core: &mut Core, cond: u8, mask: u8) -> Result<Outcome, Fault>
     ensures { finished_in core.old (finish_it cond mask (local_of core.old)) ≡ (core.new, result) }

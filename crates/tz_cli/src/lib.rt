@@ -1,6 +1,7 @@
 //! tzrun: runs a Secure and a Non-secure image on a board and writes the trace of their steps, where they enter
 //! Secure code, or the file of the state after them, from which a run goes on; tells where the runs of two Secure
-//! images disagree; writes an image from its source, or an image as the text of its instructions.
+//! images disagree; writes the last lines of a run, or its state as a page; makes an image from its source, the
+//! text of an image's instructions, or a job from a number.
 //!
 //! `top` does all that the program does, over any shelf of files and any two sinks.
 //!

@@ -35,7 +35,8 @@ fn read_words(rt: &(impl Env + AllocGlobal)) -> Result<Vec<String>, AllocError> 
 }
 
 /// Does what the words of the command line say, over the files of the system and two streams, and gives the exit status:
-/// that of `top`, 7 where no memory is found for the words, or 4 where the last of standard output can't be passed on.
+/// that of `top`, 7 where no memory is found for the words or to gather standard output in, or 4 where the last of standard
+/// output can't be passed on.
 pub fn run_process<R: Env + Files + AllocGlobal, O: Write + Drop, E: Write + Drop>(
     rt: &R,
     stdout: O,

@@ -111,7 +111,8 @@ impl Machine {
         );
     }
 
-    /// Makes one step as `step` does, and notes what takes it back. It takes no memory.
+    /// Makes one step as `step` does, and notes what takes it back. It takes no memory. A history makes its steps by
+    /// `step_noted_into`.
     pub fn step_noted(&mut self, due: &[ScriptEvent], note: &mut Note) -> Report
         ensures steps { step self.old due.now ≡ record { state = self.new; report = result } }
         ensures leaves_secure { LeavesSecure self.old (record { state = self.new; report = result }) }

@@ -97,12 +97,14 @@ impl Machine {
         self.core.run.locked
     }
 
+    /// The board.
     pub fn board(&self) -> &Board
         ensures { result.now ≡ self.now.bus.board }
     {
         self.bus.board()
     }
 
+    /// The core.
     pub fn core(&self) -> &Core
         ensures { result.now ≡ self.now.core }
     {
@@ -578,7 +580,8 @@ impl Machine {
     /// as it was, but for the count of the Secure timer and for what pends and is active; where Non-secure code gets to
     /// Secure code, SG ran where it may call, an exception of the Secure side was taken and is active, it returned by
     /// FNC_RETURN to what the Secure stack of the mode holds, with a number that agrees, or it returned by EXC_RETURN to
-    /// frames with the integrity signature there, and has their registers.
+    /// frames with the integrity signature there, and has their registers. Runs make their steps by `step_over`; tests
+    /// are the users of this call.
     pub fn step(&mut self, due: &[ScriptEvent]) -> Report
         ensures steps { step self.old due.now ≡ record { state = self.new; report = result } }
         ensures leaves_secure { LeavesSecure self.old (record { state = self.new; report = result }) }

@@ -174,14 +174,14 @@ pub fn condition_offset(first: u16, second: u16) -> u32
     sign * 0x10_0000 + k * 0x8_0000 + j * 0x4_0000 + high * 0x1000 + low * 2
 }
 
-/// Both tests: a load of a byte into PC preloads.
+/// Whether a load of this size into this register is a preload: one of a byte, into PC.
 pub fn is_preload(size: u8, rt: u8) -> bool
     ensures { result ≡ (size == 0 && rt == 15) }
 {
     size == 0 && rt == 15
 }
 
-/// Both tests: a word has no sign.
+/// Whether a load would be of a signed word, which no instruction loads.
 pub fn is_signed_word(signed: u8, size: u8) -> bool
     ensures { result ≡ (signed == 1 && size == 2) }
 {

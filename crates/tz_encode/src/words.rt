@@ -102,7 +102,7 @@ pub fn can_load(size: u32, rt: u32) -> bool
     (size == 2) | plain(rt)
 }
 
-/// A store.
+/// Whether a store of this size has this register: never PC, and SP for a word alone.
 pub fn can_store(size: u32, rt: u32) -> bool
     ensures { result ≡ can_store_of size rt }
 {

@@ -24,7 +24,7 @@ use Rattle.tz_frames.specs.declared.entering.Choice.{Choice}
 use Rattle.tz_frames.specs.declared.entering.Choice.TheVariants as choices
 use Rattle.tz_frames.specs.Status.{slot, with_status, frame_status, frame_exception, raised_as}
 use Rattle.tz_frames.specs.Stack.{Pushed, pushed_additional}
-use Rattle.tz_frames.specs.Enter.{Work, Chosen, Done, is_last_resort, vector_choice, vector_failed, vectored_by, vectored, vector_touched, falls, fallen, callee_process, callee_privileged, stacked_by, taking, choosing_from, choosing, goes_on, tries}
+use Rattle.tz_frames.specs.Enter.{Work, Chosen, Done, is_last_resort, vector_choice, vector_failed, vectored_by, vectored, vector_touched, needs_additional, with_additional, callee_process, callee_privileged, stacked_by, taking, choosing_from, choosing, goes_on, tries}
 
 -- ---- slots
 
@@ -188,14 +188,14 @@ stacked_by_last answering profile w given first None h d s is again = absurd (ve
 
 -- the work whose additional frame was written, well or not
 abbrev Stacked : {H : Type 0} → Work H → Pushed H → Work H
-Stacked w p = record w { core = p.core; held = p.held; entry = fallen w.entry }
+Stacked w p = record w { core = p.core; held = p.held; entry = with_additional w.entry }
 
 abbrev pushed_by : {H : Type 0} → FrameAnswering H → Work H → Pushed H
 pushed_by answering w = pushed_additional answering w.core w.held (callee_process w.core w.entry) (callee_privileged w.core w.entry)
 
 -- without the additional frame
 abbrev unstacked : {H : Type 0} → Work H → Slot → Work H
-unstacked w given = record w { entry = record w.entry { fell = w.entry.fell || falls w.entry given } }
+unstacked w given = record w { entry = record w.entry { needed_additional = w.entry.needed_additional || needs_additional w.entry given } }
 
 no_frame : (f s : Bool) → s ≡ true → (f && not s) ≡ true → ⊥
 no_frame true true e h = cc
@@ -210,22 +210,22 @@ taking_first : {H : Type 0} (answering : FrameAnswering H) (profile : Profile) (
 unfolding taking
 taking_first answering profile w given h =
     let p = pushed_by answering w in
-    again_cond Second (falls w.entry given && not w.entry.skip) _ _
+    again_cond Second (needs_additional w.entry given && not w.entry.skip) _ _
     (λ e again. let k = stacked_by_again answering profile (Stacked w p) given w.entry.frame p.fault h refl again in (k.0, inr k.1))
     (λ e again. let k = vectored_again answering profile (unstacked w given) given h again in (k.placed, inl k.hardened))
 
 taking_framed : {H : Type 0} (answering : FrameAnswering H) (profile : Profile) (w : Work H) (given : Slot) → Placed w.exceptions → Skips w → Again Ending (taking answering profile w given)
 unfolding taking
 taking_framed answering profile w given h s =
-    again_cond Ending (falls w.entry given && not w.entry.skip) _ _
-    (λ e again. absurd (no_frame (falls w.entry given) w.entry.skip s e))
+    again_cond Ending (needs_additional w.entry given && not w.entry.skip) _ _
+    (λ e again. absurd (no_frame (needs_additional w.entry given) w.entry.skip s e))
     (λ e again. let k = vectored_again answering profile (unstacked w given) given h again in (k.placed, k.hardened, k.skip ∙ s))
 
 taking_hard : {H : Type 0} (answering : FrameAnswering H) (profile : Profile) (w : Work H) (given : Slot) → Placed w.exceptions → Hardened w.exceptions → is_last_resort given ≡ true → Again Ending (taking answering profile w given)
 unfolding taking
 taking_hard answering profile w given h d is =
     let p = pushed_by answering w in
-    again_cond Ending (falls w.entry given && not w.entry.skip) _ _
+    again_cond Ending (needs_additional w.entry given && not w.entry.skip) _ _
     (λ e again. stacked_by_last answering profile (Stacked w p) given w.entry.frame p.fault h d refl is again)
     (λ e again. absurd (vectored_ends answering profile (unstacked w given) given is again))
 
@@ -235,8 +235,8 @@ Never w = ⊥
 taking_last : {H : Type 0} (answering : FrameAnswering H) (profile : Profile) (w : Work H) (given : Slot) → Skips w → is_last_resort given ≡ true → Again Never (taking answering profile w given)
 unfolding taking
 taking_last answering profile w given s is =
-    again_cond Never (falls w.entry given && not w.entry.skip) _ _
-    (λ e again. no_frame (falls w.entry given) w.entry.skip s e)
+    again_cond Never (needs_additional w.entry given && not w.entry.skip) _ _
+    (λ e again. no_frame (needs_additional w.entry given) w.entry.skip s e)
     (λ e again. vectored_ends answering profile (unstacked w given) given is again)
 
 -- ---- a choice

@@ -4,7 +4,7 @@
 ghost use Rattle.std.specs.Prelude.{◌≡◌, ◌≤◌, ◌+◌, true, false};
 ghost use Rattle.tz_state.specs.Slots.{exists};
 ghost use Rattle.tz_frames.specs.declared.entering.Entered.TheVariants as entered;
-ghost use Rattle.tz_frames.specs.Enter.{falls, callee_process, callee_privileged, raised_choice, stacked, taking, choosing, tries, with_lock, without_frame};
+ghost use Rattle.tz_frames.specs.Enter.{needs_additional, callee_process, callee_privileged, raised_choice, stacked, taking, choosing, tries, with_lock, without_frame};
 ghost use Rattle.tz_frames.specs.Stack.{pushed_additional};
 ghost use Rattle.tz_excret.specs.Lent.{work_of, SameLoans};
 ghost use Rattle.tz_excret.specs.Room.{need};
@@ -39,8 +39,8 @@ pub(crate) fn fail_frame(entry: &mut Entering, additional: bool, fault: StackFau
 }
 
 /// Whether an exception calls for the additional frame.
-fn falls(entry: &Entering, slot: Slot) -> bool
-    ensures { result ≡ falls entry.now slot }
+fn needs_additional(entry: &Entering, slot: Slot) -> bool
+    ensures { result ≡ needs_additional entry.now slot }
 {
     entry.secure && !is_secure(slot.side)
 }
@@ -80,7 +80,7 @@ fn take_stacked<P: Frames>(work: &mut Work<'_, P>, entry: &mut Entering, slot: S
     let process = callee_process(work.core, entry);
     let privileged = callee_privileged(work.core, entry);
     entry.skip = true;
-    entry.fell = true;
+    entry.needed_additional = true;
     if let Err(fault) = push_additional(work.core, work.port, process, privileged) {
         if entry.frame.is_none() {
             fail_frame(entry, true, fault);
@@ -101,11 +101,11 @@ fn take<P: Frames>(work: &mut Work<'_, P>, entry: &mut Entering, slot: Slot) -> 
     ensures room { P.room work.old.port.now + need entry.new ≤ P.room work.new.port.now + need entry.old }
     ensures lent { P.lent work.new.port.now ≡ P.lent work.old.port.now }
 {
-    let falls = falls(entry, slot);
-    if falls && !entry.skip {
+    let needs = needs_additional(entry, slot);
+    if needs && !entry.skip {
         return take_stacked(work, entry, slot);
     }
-    entry.fell = entry.fell || falls;
+    entry.needed_additional = entry.needed_additional || needs;
     take_vector(work, entry, slot)
 }
 

@@ -23,7 +23,7 @@ fn interrupted(core: &Core) -> Entering
         thread: !core.handler(),
         dcrs: true,
         skip: false,
-        fell: false,
+        needed_additional: false,
         frame: None,
         vector: None,
         last: None,

@@ -11,7 +11,7 @@ use crate::choices::{CHOICES, make_choices};
 use crate::exc_return::{exc_return_fault, returning_by, slot_returning};
 use crate::frame::{modes_agree, resume, unstack};
 use crate::raise::{raise_fault_of, raise_frame_fault};
-use crate::release::{free, unhandle};
+use crate::release::{free, return_core};
 use crate::sides::side_of_bit;
 use crate::work::Work;
 use tz_frames::{Entered, Entering, Frames, Left, Refusal, Returning, Unstacked};
@@ -29,7 +29,7 @@ fn chaining(returning: &Returning, touched: bool) -> Entering
         thread: returning.thread,
         dcrs: returning.dcrs && (returning.es || !returning.secure),
         skip: !returning.es || !returning.dcrs,
-        fell: false,
+        needed_additional: false,
         frame: None,
         vector: None,
         last: None,
@@ -188,7 +188,7 @@ pub fn leave<P: Frames>(
     let returning = returning_by(side, value);
     let noted = exc_return_fault(core, exceptions, value);
     let slot = slot_returning(core, &returning);
-    unhandle(core, exceptions, &returning);
+    return_core(core, exceptions, &returning);
     free(exceptions, slot);
     let mut work = Work {
         core,

@@ -3,7 +3,7 @@
 ghost use Rattle.std.specs.Prelude.{◌≡◌, true};
 ghost use Rattle.tz_state.specs.Slots.{exists};
 ghost use Rattle.tz_state.specs.Execution.{raw_priority};
-ghost use Rattle.tz_frames.specs.Leave.{is_urgent, urgent_slot, freed, keeps_faultmask, unmasked, unhandled};
+ghost use Rattle.tz_frames.specs.Leave.{is_urgent, urgent_slot, freed, keeps_faultmask, unmasked, core_returning};
 
 use crate::sides::{set_spsel, side_of_bit};
 use tz_frames::Returning;
@@ -79,8 +79,8 @@ fn unmask(masks: &mut Masks, keeps: bool, side: Side)
 }
 
 /// Writes what a return writes of masks and of CONTROL, on the side of ES. The exceptions are those before it.
-pub(crate) fn unhandle(core: &mut Core, exceptions: &Exceptions, returning: &Returning)
-    ensures { core.new ≡ unhandled exceptions.now returning.now core.old }
+pub(crate) fn return_core(core: &mut Core, exceptions: &Exceptions, returning: &Returning)
+    ensures { core.new ≡ core_returning exceptions.now returning.now core.old }
 {
     let side = side_of_bit(returning.es);
     let keeps = keeps_faultmask(core, exceptions);

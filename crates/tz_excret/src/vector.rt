@@ -10,7 +10,7 @@ ghost use Rattle.tz_state.specs.Priority.{hard_priority};
 ghost use Rattle.tz_state.specs.Execution.{execution};
 ghost use Rattle.tz_frames.specs.Status.{slot as slot_of, with_hfsr, with_status};
 ghost use Rattle.tz_frames.specs.Registers.{taken_registers, scratch_cleared, all_cleared};
-ghost use Rattle.tz_frames.specs.Enter.{exc_return, dcrs_of, handling, is_last_resort, vector_choice, can_harden, without_vector, vectored};
+ghost use Rattle.tz_frames.specs.Enter.{exc_return, dcrs_of, handling, is_last_resort, vector_choice, can_be_hard_fault, without_vector, vectored};
 ghost use Rattle.tz_excret.specs.Lent.{work_of, SameLoans};
 
 use crate::sides::{is_secure, set_spsel};
@@ -78,7 +78,7 @@ fn clear_taken(registers: &mut Registers, profile: Profile, side: Side, secure: 
 fn dcrs_of(entry: &Entering, side: Side) -> bool
     ensures { result ≡ dcrs_of entry.now side }
 {
-    if entry.fell {
+    if entry.needed_additional {
         !is_secure(side)
     } else {
         entry.dcrs
@@ -147,8 +147,8 @@ fn is_last_resort(slot: Slot) -> bool
 }
 
 /// Whether HardFault can be taken in place of an exception whose vector can't be read.
-fn can_harden(core: &Core, exceptions: &Exceptions, slot: Slot) -> bool
-    ensures { result ≡ can_harden core.now exceptions.now slot }
+fn can_be_hard_fault(core: &Core, exceptions: &Exceptions, slot: Slot) -> bool
+    ensures { result ≡ can_be_hard_fault core.now exceptions.now slot }
 {
     !is_last_resort(slot) && can_take_hard(core, exceptions, hard_side(exceptions, slot.side))
 }
@@ -168,9 +168,9 @@ fn note_vector(entry: &mut Entering, slot: Slot)
 fn fail_vector(core: &mut Core, exceptions: &mut Exceptions, slot: Slot) -> Choice
     ensures core { core.new ≡ with_status core.old (with_hfsr vecttbl core.old.status) }
     ensures exceptions { exceptions.new ≡ pended exceptions.old (slot_of hard_fault (hard_side exceptions.old slot.side)) }
-    ensures result { result ≡ vector_choice (can_harden core.old exceptions.old slot) }
+    ensures result { result ≡ vector_choice (can_be_hard_fault core.old exceptions.old slot) }
 {
-    let taken = can_harden(core, exceptions, slot);
+    let taken = can_be_hard_fault(core, exceptions, slot);
     let side = hard_side(exceptions, slot.side);
     set_hfsr(&mut core.status, VECTTBL);
     exceptions.pend(Slot {

@@ -173,7 +173,7 @@ fn load_script<'a, H: Shelf>(
     }
 }
 
-/// The files of a run, in the order of its words.
+/// The files of a run, in the order of its words. The error is the first fault, in that order.
 pub fn load<'a, H: Shelf>(
     alloc: Global,
     shelf: &mut H,
@@ -204,7 +204,7 @@ pub fn load<'a, H: Shelf>(
     }
 }
 
-/// The files of a pair, in the order of its words.
+/// The files of a pair, in the order of its words. The error is the first fault, in that order.
 pub fn load_pair<'a, H: Shelf>(
     alloc: Global,
     shelf: &mut H,
@@ -240,7 +240,7 @@ pub fn load_pair<'a, H: Shelf>(
     }
 }
 
-/// The files of a run that goes on, in the order of its words.
+/// The files of a run that goes on, in the order of its words. The error is the first fault, in that order.
 pub fn load_saved<'a, H: Shelf>(
     alloc: Global,
     shelf: &mut H,
@@ -267,7 +267,8 @@ pub fn load_saved<'a, H: Shelf>(
     }
 }
 
-/// The state of a page, for the board that is read first.
+/// The state of a page, for the board that is read first. The error is the first fault, the board's before the
+/// other's.
 pub fn load_shown<'a, H: Shelf>(
     alloc: Global,
     shelf: &mut H,
@@ -285,7 +286,8 @@ pub fn load_shown<'a, H: Shelf>(
     }
 }
 
-/// The image of a disassembly, for the board that is read first.
+/// The image of a disassembly, for the board that is read first. The error is the first fault, the board's before the
+/// other's.
 pub fn load_listed<'a, H: Shelf>(
     alloc: Global,
     shelf: &mut H,
@@ -334,7 +336,7 @@ fn assembly_in(alloc: Global, form: AsmForm, source: &[u8]) -> Result<Vec<u8>, A
     }
 }
 
-/// What an assembly writes.
+/// What an assembly writes. Fails where the source can't be read, and where it is refused.
 pub fn load_assembled<'a, H: Shelf>(
     alloc: Global,
     shelf: &mut H,

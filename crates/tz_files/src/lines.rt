@@ -261,7 +261,7 @@ fn line_length(text: &[u8]) -> usize
     text.len()
 }
 
-/// Writes a text, each line with its line feed as one put.
+/// Writes a text, each line with its line feed as one put. Fails where a line can't be written; nothing is put after it.
 pub fn put_lines<O: Sink>(text: &[u8], out: &mut O) -> Result<(), SinkError>
     ensures put { Put (O.written out.old) (O.written out.new) (O.space out.old) (O.space out.new) text.now result }
     ensures cause { HasCause (O.faults out.old) (O.faults out.new) (result ≡ Err SinkError.Failed) }

@@ -51,7 +51,7 @@ is_secure side = not (is_nonsecure_side side)
 
 -- DCRS: where a choice called for the additional frame, whether a Secure exception is not taken after all
 abbrev pub dcrs_of : Entering → Side → Bool
-dcrs_of x side = if x.fell then is_nonsecure_side side else x.dcrs
+dcrs_of x side = if x.needed_additional then is_nonsecure_side side else x.dcrs
 
 -- EXC_RETURN: ones from bit 7 up, S, DCRS, FType 1, Mode, SPSEL, and ES
 abbrev pub exc_return : Entering → Bool → Side → ℕ
@@ -84,8 +84,8 @@ is_last_resort given = given.number == nmi || given.number == hard_fault
 abbrev pub vector_choice : Bool → Choice
 vector_choice taken = if taken then choices.Again else choices.Lockup
 
-abbrev pub can_harden : Core → ExceptionsValue → Slot → Bool
-can_harden c e given = not (is_last_resort given) && nat_lt (hard_priority e (hard_side e given.side)) (execution e c.masks)
+abbrev pub can_be_hard_fault : Core → ExceptionsValue → Slot → Bool
+can_be_hard_fault c e given = not (is_last_resort given) && nat_lt (hard_priority e (hard_side e given.side)) (execution e c.masks)
 
 -- an entry that can't read the vector of an exception
 abbrev pub without_vector : Entering → Slot → Entering
@@ -104,7 +104,7 @@ vector_failed w given =
         exceptions = pended w.exceptions (slot hard_fault (hard_side w.exceptions given.side));
         entry = without_vector w.entry given;
       };
-      choice = vector_choice (can_harden w.core w.exceptions given);
+      choice = vector_choice (can_be_hard_fault w.core w.exceptions given);
     }
 
 abbrev pub vectored_by : {H : Type 0} → Profile → Work H → Slot → Result ℕ Fault → Chosen H
@@ -126,8 +126,8 @@ vectored answering profile w given =
 -- ---- the additional frame
 
 -- a Non-secure exception of Secure code calls for it
-abbrev pub falls : Entering → Slot → Bool
-falls x given = x.secure && is_nonsecure_side given.side
+abbrev pub needs_additional : Entering → Slot → Bool
+needs_additional x given = x.secure && is_nonsecure_side given.side
 
 -- the Secure stack of the mode that was interrupted, and its privilege
 abbrev pub callee_process : Core → Entering → Bool
@@ -157,20 +157,20 @@ stacked_by answering profile w given None (Some fault) = after_raise w.held (wit
 stacked_by answering profile w given (Some first) (Some fault) = vectored answering profile w given
 stacked_by answering profile w given first None = vectored answering profile w given
 
-abbrev pub fallen : Entering → Entering
-fallen x = record x { skip = true; fell = true }
+abbrev pub with_additional : Entering → Entering
+with_additional x = record x { skip = true; needed_additional = true }
 
 abbrev pub stacked : {H : Type 0} → FrameAnswering H → Profile → Work H → Slot → Pushed H → Chosen H
 stacked answering profile w given p =
-    stacked_by answering profile (record w { core = p.core; held = p.held; entry = fallen w.entry }) given w.entry.frame p.fault
+    stacked_by answering profile (record w { core = p.core; held = p.held; entry = with_additional w.entry }) given w.entry.frame p.fault
 
 -- ---- one choice
 
 unfoldable pub taking : {H : Type 0} → FrameAnswering H → Profile → Work H → Slot → Chosen H
 taking answering profile w given =
-    if falls w.entry given && not w.entry.skip
+    if needs_additional w.entry given && not w.entry.skip
     then stacked answering profile w given (pushed_additional answering w.core w.held (callee_process w.core w.entry) (callee_privileged w.core w.entry))
-    else vectored answering profile (record w { entry = record w.entry { fell = w.entry.fell || falls w.entry given } }) given
+    else vectored answering profile (record w { entry = record w.entry { needed_additional = w.entry.needed_additional || needs_additional w.entry given } }) given
 
 abbrev pub choosing_from : {H : Type 0} → FrameAnswering H → Profile → Work H → Option Slot → Chosen H
 choosing_from answering profile w None = record { work = w; choice = choices.Lockup }
@@ -219,7 +219,7 @@ interrupted c =
       thread = not (is_handler c.registers.ipsr);
       dcrs = true;
       skip = false;
-      fell = false;
+      needed_additional = false;
       frame = None;
       vector = None;
       last = None;

@@ -121,8 +121,8 @@ abbrev pub unmasked : Bool → Side → Masks → Masks
 unmasked keeps side m = with_masks side m (record (masks_of side m) { faultmask = keeps && (masks_of side m).faultmask })
 
 -- and its CONTROL.SPSEL is that of the value
-abbrev pub unhandled : ExceptionsValue → Returning → Core → Core
-unhandled e r c =
+abbrev pub core_returning : ExceptionsValue → Returning → Core → Core
+core_returning e r c =
     record (with_stacks (side_of_bit r.es) c (record (stacks_of (side_of_bit r.es) c) { spsel = r.process })) {
       masks = unmasked (keeps_faultmask c e) (side_of_bit r.es) c.masks;
     }
@@ -138,7 +138,7 @@ chaining r touched =
       thread = r.thread;
       dcrs = r.dcrs && (r.es || not r.secure);
       skip = not r.es || not r.dcrs;
-      fell = false;
+      needed_additional = false;
       frame = None;
       vector = None;
       last = None;
@@ -240,7 +240,7 @@ leaves_noting answering profile side None r c e h = goes_back answering profile 
 
 abbrev pub leaves_as : {H : Type 0} → FrameAnswering H → Profile → ℕ → Returning → Core → ExceptionsValue → H → Leaving H
 leaves_as answering profile value r c e h =
-    leaves_noting answering profile c.run.side (exc_return_fault c e value) r (unhandled e r c) (freed e (slot_returning c r)) h
+    leaves_noting answering profile c.run.side (exc_return_fault c e value) r (core_returning e r c) (freed e (slot_returning c r)) h
 
 -- the exception that runs returns by a value
 unfoldable pub leaves : {H : Type 0} → FrameAnswering H → Profile → Core → ExceptionsValue → H → ℕ → Leaving H

@@ -24,7 +24,7 @@ pub struct Entering {
     /// No additional frame is to be written, or no more.
     pub skip: bool,
     /// A choice called for the additional frame, written or not.
-    pub fell: bool,
+    pub needed_additional: bool,
     /// The first frame of this entry that has faulted.
     pub frame: Option<FrameFault>,
     /// An exception other than NMI and HardFault whose vector couldn't be read, so that HardFault pends

@@ -82,7 +82,7 @@ basic_lines c s taken (Some f) = if f.additional then basic_written c s else bas
 
 -- an entry tried to write it: a choice called for it, and it was neither there already nor written in vain before
 abbrev pub has_additional : Entering → Bool → Returning → Bool
-has_additional x chain r = x.fell && (not chain || (r.es && r.dcrs))
+has_additional x chain r = x.needed_additional && (not chain || (r.es && r.dcrs))
 
 -- on PSP of the Secure side: by CONTROL.SPSEL, which a return has set by its value
 abbrev pub additional_process : Core → Entering → Bool → Returning → Bool

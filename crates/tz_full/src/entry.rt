@@ -188,7 +188,7 @@ pub fn push_basic(
 pub fn has_additional(entry: &Entering, chain: bool, returning: &Returning) -> bool
     ensures { result ≡ has_additional entry.now chain returning.now }
 {
-    entry.fell && (!chain || (returning.es && returning.dcrs))
+    entry.needed_additional && (!chain || (returning.es && returning.dcrs))
 }
 
 /// Whether the additional frame is on PSP of the Secure side.

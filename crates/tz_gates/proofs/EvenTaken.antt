@@ -37,8 +37,8 @@ use Rattle.tz_frames.specs.FrameAccess.{Vector}
 use Rattle.tz_frames.specs.Machine.{Framed, framed}
 use Rattle.tz_frames.specs.Status.{Raised, exception_of, frame_exception, status_after, frame_status, with_status, raised_as, faulted, frame_faulted}
 use Rattle.tz_frames.specs.Stack.{Pushed, splim_of, with_sp, pushed, pushed_basic, pushed_additional}
-use Rattle.tz_frames.specs.Enter.{Work, Chosen, Done, vector_failed, vectored_by, vector_touched, vectored, falls, callee_process, callee_privileged, stacked_by, fallen, taking, choosing_from, choosing, goes_on, locked_up, tries, chooses, without_frame, interrupted, begins, enters}
-use Rattle.tz_frames.specs.Leave.{returning_by, side_of_bit, exc_return_fault, slot_returning, freed, unhandled, Leaving, chained, chained_raised, modes_agree, resumes, unstacked, goes_back, leaves_noting, leaves}
+use Rattle.tz_frames.specs.Enter.{Work, Chosen, Done, vector_failed, vectored_by, vector_touched, vectored, needs_additional, callee_process, callee_privileged, stacked_by, with_additional, taking, choosing_from, choosing, goes_on, locked_up, tries, chooses, without_frame, interrupted, begins, enters}
+use Rattle.tz_frames.specs.Leave.{returning_by, side_of_bit, exc_return_fault, slot_returning, freed, core_returning, Leaving, chained, chained_raised, modes_agree, resumes, unstacked, goes_back, leaves_noting, leaves}
 use Rattle.tz_sem.specs.declared.ending.Course.{Course}
 use Rattle.tz_sem.specs.Ended.{Passed}
 use Rattle.tz_sem.specs.Taking.{state_of, locks, framed_in, taken_by, preempted, goes_on_at, passed_by, faults, left_by, returns}
@@ -118,9 +118,9 @@ unfolding taking
 even_taking profile w given h =
     let p = pushed_additional framed w.core w.held (callee_process w.core w.entry) (callee_privileged w.core w.entry) in
     let e = additional_same w.core w.held (callee_process w.core w.entry) (callee_privileged w.core w.entry) in
-    even_chosen (falls w.entry given && not w.entry.skip) _ _
-    (even_stacked profile (record w { core = p.core; held = p.held; entry = fallen w.entry }) given w.entry.frame p.fault (same_even p.core.registers w.core.registers e h))
-    (even_vectored profile (record w { entry = record w.entry { fell = w.entry.fell || falls w.entry given } }) given h)
+    even_chosen (needs_additional w.entry given && not w.entry.skip) _ _
+    (even_stacked profile (record w { core = p.core; held = p.held; entry = with_additional w.entry }) given w.entry.frame p.fault (same_even p.core.registers w.core.registers e h))
+    (even_vectored profile (record w { entry = record w.entry { needed_additional = w.entry.needed_additional || needs_additional w.entry given } }) given h)
 
 even_choosing_from : (profile : Profile) (w : Work Framed) (o : Option Slot) → EvenWork w → EvenWork (choosing_from framed profile w o).work
 even_choosing_from profile w None h = h
@@ -230,8 +230,8 @@ even_leaves : (profile : Profile) (c : Core) (e : ExceptionsValue) (f : Framed) 
 unfolding leaves
 even_leaves profile c e f value h =
     let r = returning_by c.run.side value in
-    even_noting profile c.run.side (exc_return_fault c e value) r (unhandled e r c) (freed e (slot_returning c r)) f
-    (same_even (unhandled e r c).registers c.registers (stacks_same (side_of_bit r.es) c (record (stacks_of (side_of_bit r.es) c) { spsel = r.process })) h)
+    even_noting profile c.run.side (exc_return_fault c e value) r (core_returning e r c) (freed e (slot_returning c r)) f
+    (same_even (core_returning e r c).registers c.registers (stacks_same (side_of_bit r.es) c (record (stacks_of (side_of_bit r.es) c) { spsel = r.process })) h)
 
 even_left : (s : State) (course : Course) (code : Code) (value : ℕ) (result : Left) → EvenState s → EvenState (left_by s course code value result).state
 even_left s course code value (left.Resumed touched) h = h

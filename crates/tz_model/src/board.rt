@@ -105,7 +105,7 @@ impl Model for Board {
 }
 
 impl Board {
-    /// A board that is equal to this one.
+    /// A board that is equal to this one. Fails for want of memory alone.
     pub fn duplicate(&self, alloc: Global) -> Result<Board, AllocError>
         ensures { IfOk result (λ b. b ≡ self.now) }
     {

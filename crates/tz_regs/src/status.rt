@@ -1,5 +1,5 @@
-//! Writers of the configuration and of the fault registers, as `Status` has them. The program writes `Status` itself;
-//! tests are the users of these calls.
+//! Writers of the configuration and of the fault registers, as `Status` has them. Faults, entries and stores write `Status`
+//! itself; a state that is read from words, and tests, are the users of these calls.
 
 ghost use Rattle.std.specs.Prelude.{◌≡◌, ◌/◌, ◌*◌, bit_and};
 ghost use Rattle.tz_regs.specs.Banks.{status_of, with_status};

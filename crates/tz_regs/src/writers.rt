@@ -1,5 +1,5 @@
-//! Writers of the parts. Each keeps the bits that the manual's register has, and changes nothing else. The program writes
-//! the parts themselves; tests are the users of these calls.
+//! Writers of the parts. Each keeps the bits that the manual's register has, and changes nothing else. Steps write
+//! the parts themselves. A state that is read from words is a user of the calls from `set_msp` on; of the others tests are.
 
 ghost use Rattle.std.specs.Prelude.{◌≡◌, ◌/◌, ◌*◌, ◌%◌, ◌^◌, ◌==◌};
 ghost use Rattle.tz_model.specs.Words.{even_of};

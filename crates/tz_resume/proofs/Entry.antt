@@ -22,7 +22,7 @@ use Rattle.tz_frames.specs.declared.frame.StackFault.TheVariants.{Limit}
 use Rattle.tz_frames.specs.FrameAccess.{Vector}
 use Rattle.tz_frames.specs.Machine.{Framed, framed}
 use Rattle.tz_frames.specs.Stack.{Pushed, pushed_with, pushed_additional, with_side_sp, splim_of, written, callee_words}
-use Rattle.tz_frames.specs.Enter.{Work, Chosen, Done, goes_on, locked_up, tries, choosing, choosing_from, taking, falls, stacked, stacked_by, fallen, vector_touched, vectored, vectored_by, vector_failed, vector_choice, can_harden, callee_process, callee_privileged, interrupted, enters, begins}
+use Rattle.tz_frames.specs.Enter.{Work, Chosen, Done, goes_on, locked_up, tries, choosing, choosing_from, taking, needs_additional, stacked, stacked_by, with_additional, vector_touched, vectored, vectored_by, vector_failed, vector_choice, can_be_hard_fault, callee_process, callee_privileged, interrupted, enters, begins}
 use Rattle.tz_resume.specs.Resumption.{basic_pushed, both_pushed}
 
 -- ---- the additional frame doesn't hang on what an entry changes besides
@@ -95,7 +95,7 @@ vectored_written profile s h again w given induction k = go (framed w.held (Vect
   go : (v : Result ℕ Fault) → Ends s h (goes_on again (vectored_by profile x given v).work (vectored_by profile x given v).choice)
   go (Ok vector) given' touched e nonsecure =
       (other_side given.side _ w.core.stacks_s nonsecure ∙ k.stacks, k.held)
-  go (Err fault) given' touched e nonsecure = harden (can_harden x.core x.exceptions given) given' touched e nonsecure
+  go (Err fault) given' touched e nonsecure = harden (can_be_hard_fault x.core x.exceptions given) given' touched e nonsecure
 
 -- a Secure exception is taken, or the choice is made again
 vectored_unwritten : (profile : Profile) (c : Core) (f : Framed) (thread : Bool) (s : Stacks) (h : Framed) (again : Work Framed → Done Framed) (w : Work Framed) (given : Slot) → is_nonsecure_side given.side ≡ false
@@ -114,7 +114,7 @@ vectored_unwritten profile c f thread s h again w given is_secure induction k = 
   go (Ok vector) given' touched e nonsecure =
       let wrong : false ≡ true = sym is_secure ∙ nonsecure in
       cc
-  go (Err fault) given' touched e nonsecure = harden (can_harden x.core x.exceptions given) given' touched e nonsecure
+  go (Err fault) given' touched e nonsecure = harden (can_be_hard_fault x.core x.exceptions given) given' touched e nonsecure
 
 -- ---- a choice
 
@@ -135,8 +135,8 @@ taking_written : (profile : Profile) (s : Stacks) (h : Framed) (again : Work Fra
     → Comes s h again (taking framed profile w given)
 unfolding taking
 taking_written profile s h again w given induction k =
-    let off : (falls w.entry given && not w.entry.skip) ≡ false = ap (λ (t : Bool). falls w.entry given && not t) k.skip ∙ and_no (falls w.entry given) in
-    let w' : Work Framed = record w { entry = record w.entry { fell = w.entry.fell || falls w.entry given } } in
+    let off : (needs_additional w.entry given && not w.entry.skip) ≡ false = ap (λ (t : Bool). needs_additional w.entry given && not t) k.skip ∙ and_no (needs_additional w.entry given) in
+    let w' : Work Framed = record w { entry = record w.entry { needed_additional = w.entry.needed_additional || needs_additional w.entry given } } in
     subst (λ (t : Bool). Comes s h again (cond t (stacked framed profile w given (pushed_additional framed w.core w.held (callee_process w.core w.entry) (callee_privileged w.core w.entry))) (vectored framed profile w' given)))
     (sym off) (vectored_written profile s h again w' given induction (record { stacks = k.stacks; held = k.held; skip = k.skip }))
 
@@ -172,22 +172,22 @@ taking_unwritten profile c f x again w given none later same k = by (is_nonsecur
   a = same_frame c f x w k
 
   w1 : Work Framed
-  w1 = record w { core = p.core; held = p.held; entry = fallen w.entry }
+  w1 = record w { core = p.core; held = p.held; entry = with_additional w.entry }
 
   w2 : Work Framed
-  w2 = record w { entry = record w.entry { fell = w.entry.fell || falls w.entry given } }
+  w2 = record w { entry = record w.entry { needed_additional = w.entry.needed_additional || needs_additional w.entry given } }
 
   frame : Comes s h again (stacked framed profile w given p)
   frame =
       subst (λ (d : Chosen Framed). Comes s h again d) (sym (none_faulted profile w1 given w.entry.frame p.fault (a.fault ∙ none)))
       (vectored_written profile s h again w1 given later (record { stacks = a.stacks; held = a.held; skip = refl }))
 
-  by : (t : Bool) → is_nonsecure_side given.side ≡ t → Comes s h again (cond (falls w.entry given && not w.entry.skip) (stacked framed profile w given p) (vectored framed profile w2 given))
+  by : (t : Bool) → is_nonsecure_side given.side ≡ t → Comes s h again (cond (needs_additional w.entry given && not w.entry.skip) (stacked framed profile w given p) (vectored framed profile w2 given))
   by true e =
-      let on : (falls w.entry given && not w.entry.skip) ≡ true = rw (k.secure, k.skip, e) refl in
+      let on : (needs_additional w.entry given && not w.entry.skip) ≡ true = rw (k.secure, k.skip, e) refl in
       subst (λ (t : Bool). Comes s h again (cond t (stacked framed profile w given p) (vectored framed profile w2 given))) (sym on) frame
   by false e =
-      let off : (falls w.entry given && not w.entry.skip) ≡ false = rw (k.secure, k.skip, e) refl in
+      let off : (needs_additional w.entry given && not w.entry.skip) ≡ false = rw (k.secure, k.skip, e) refl in
       subst (λ (t : Bool). Comes s h again (cond t (stacked framed profile w given p) (vectored framed profile w2 given))) (sym off)
       (vectored_unwritten profile c f x.thread s h again w2 given e same
       (record { stacks = k.stacks; registers = k.registers; held = k.held; secure = k.secure; thread = k.thread; skip = k.skip }))

@@ -30,8 +30,8 @@ use Rattle.tz_frames.specs.FrameAccess.{Vector}
 use Rattle.tz_frames.specs.Machine.{Framed, framed}
 use Rattle.tz_frames.specs.Status.{Raised, raised_as, faulted, frame_faulted, with_status, status_after, frame_status, exception_of, frame_exception}
 use Rattle.tz_frames.specs.Stack.{Pushed, pushed, pushed_with, pushed_basic, pushed_additional, with_side_sp, splim_of, written}
-use Rattle.tz_frames.specs.Enter.{Work, Chosen, Done, goes_on, locked_up, with_lock, tries, chooses, choosing, choosing_from, taking, falls, stacked, stacked_by, after_raise, raised_choice, fallen, without_frame, vector_touched, vectored, vectored_by, vector_failed, vector_choice, can_harden, callee_process, callee_privileged, interrupted, enters, begins}
-use Rattle.tz_frames.specs.Leave.{chaining, chained, chained_raised, unstacked, resumed, modes_agree, resumes, goes_back, leaves_noting, leaves, exc_return_fault, freed, slot_returning, returning_by, unhandled, side_of_bit}
+use Rattle.tz_frames.specs.Enter.{Work, Chosen, Done, goes_on, locked_up, with_lock, tries, chooses, choosing, choosing_from, taking, needs_additional, stacked, stacked_by, after_raise, raised_choice, with_additional, without_frame, vector_touched, vectored, vectored_by, vector_failed, vector_choice, can_be_hard_fault, callee_process, callee_privileged, interrupted, enters, begins}
+use Rattle.tz_frames.specs.Leave.{chaining, chained, chained_raised, unstacked, resumed, modes_agree, resumes, goes_back, leaves_noting, leaves, exc_return_fault, freed, slot_returning, returning_by, core_returning, side_of_bit}
 use Rattle.tz_resume.specs.Number.{IsNumbered}
 
 -- ---- the chosen slot
@@ -120,7 +120,7 @@ vectored_numbered profile again w given keeps small k = go (framed w.held (Vecto
 
   go : (v : Result ℕ Fault) → After again (vectored_by profile x given v)
   go (Ok vector) = small
-  go (Err fault) = harden (can_harden x.core x.exceptions given)
+  go (Err fault) = harden (can_be_hard_fault x.core x.exceptions given)
 
 stacked_numbered : (profile : Profile) (again : Work Framed → Done Framed) (w : Work Framed) (given : Slot) (first : Option FrameFault) (o : Option StackFault) → Keeps again → given.number < 2 ^ 9 → IsNumbered w.core
     → After again (stacked_by framed profile w given first o)
@@ -136,16 +136,16 @@ stacked_numbered profile again w given None None keeps small k = vectored_number
 
 taking_numbered : (profile : Profile) (again : Work Framed → Done Framed) (w : Work Framed) (given : Slot) → Keeps again → given.number < 2 ^ 9 → IsNumbered w.core → After again (taking framed profile w given)
 unfolding taking
-taking_numbered profile again w given keeps small k = by (falls w.entry given && not w.entry.skip) where
+taking_numbered profile again w given keeps small k = by (needs_additional w.entry given && not w.entry.skip) where
   p : Pushed Framed
   p = pushed_additional framed w.core w.held (callee_process w.core w.entry) (callee_privileged w.core w.entry)
 
   w2 : Work Framed
-  w2 = record w { entry = record w.entry { fell = w.entry.fell || falls w.entry given } }
+  w2 = record w { entry = record w.entry { needed_additional = w.entry.needed_additional || needs_additional w.entry given } }
 
   by : (t : Bool) → After again (cond t (stacked framed profile w given p) (vectored framed profile w2 given))
   by true =
-      stacked_numbered profile again (record w { core = p.core; held = p.held; entry = fallen w.entry }) given w.entry.frame p.fault keeps small
+      stacked_numbered profile again (record w { core = p.core; held = p.held; entry = with_additional w.entry }) given w.entry.frame p.fault keeps small
       (additional_numbered w.core w.held (callee_process w.core w.entry) (callee_privileged w.core w.entry) k)
   by false = vectored_numbered profile again w2 given keeps small k
 
@@ -213,4 +213,4 @@ pub leaves_numbered : (profile : Profile) (c : Core) (e : ExceptionsValue) (h : 
 unfolding leaves
 leaves_numbered profile c e h value k =
     let r = returning_by c.run.side value in
-    noting_numbered profile c.run.side (exc_return_fault c e value) r (unhandled e r c) (freed e (slot_returning c r)) h k
+    noting_numbered profile c.run.side (exc_return_fault c e value) r (core_returning e r c) (freed e (slot_returning c r)) h k

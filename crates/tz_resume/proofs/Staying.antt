@@ -32,7 +32,7 @@ use Rattle.tz_frames.specs.declared.entering.Entered.{Entered}
 use Rattle.tz_frames.specs.declared.entering.Entered.TheVariants as entered
 use Rattle.tz_frames.specs.declared.frame.StackFault.{StackFault}
 use Rattle.tz_frames.specs.declared.frame.StackFault.TheVariants.{Limit}
-use Rattle.tz_frames.specs.Enter.{Work, Chosen, Done, goes_on, tries, choosing, choosing_from, taking, falls, stacked, vector_touched, vectored, vectored_by, vector_failed, vector_choice, can_harden, callee_process, callee_privileged, interrupted, begins, enters}
+use Rattle.tz_frames.specs.Enter.{Work, Chosen, Done, goes_on, tries, choosing, choosing_from, taking, needs_additional, stacked, vector_touched, vectored, vectored_by, vector_failed, vector_choice, can_be_hard_fault, callee_process, callee_privileged, interrupted, begins, enters}
 use Rattle.tz_frames.specs.FrameAccess.{Vector}
 use Rattle.tz_frames.specs.Machine.{Framed, framed}
 use Rattle.tz_frames.specs.Stack.{Pushed, pushed, pushed_with, pushed_basic, pushed_additional, with_side_sp, splim_of, written}
@@ -121,7 +121,7 @@ IsSecure d = d.core.run.side ≡ Secure
 
 -- its vector is read, or fails; then the choice is made again where HardFault can be taken
 vectored_secure : (profile : Profile) (again : Work Framed → Done Framed) (w : Work Framed) (number : ℕ) → w.core.run.side ≡ Secure
-    → (can_harden w.core w.exceptions (slot number Secure) ≡ true → (v : Work Framed) → v.core.run.side ≡ Secure → v.exceptions ≡ pended w.exceptions (slot 3 (hard_side w.exceptions Secure)) → IsSecure (again v))
+    → (can_be_hard_fault w.core w.exceptions (slot number Secure) ≡ true → (v : Work Framed) → v.core.run.side ≡ Secure → v.exceptions ≡ pended w.exceptions (slot 3 (hard_side w.exceptions Secure)) → IsSecure (again v))
     → IsSecure (goes_on again (vectored framed profile w (slot number Secure)).work (vectored framed profile w (slot number Secure)).choice)
 unfolding vectored vector_failed
 vectored_secure profile again w number side more = go (framed w.held (Vector number Secure)).1 where
@@ -131,24 +131,24 @@ vectored_secure profile again w number side more = go (framed w.held (Vector num
   x : Work Framed
   x = record w { entry = vector_touched w.entry Secure }
 
-  harden : (t : Bool) → can_harden w.core w.exceptions given ≡ t → IsSecure (goes_on again (vector_failed x given).work (vector_choice t))
+  harden : (t : Bool) → can_be_hard_fault w.core w.exceptions given ≡ t → IsSecure (goes_on again (vector_failed x given).work (vector_choice t))
   harden true e = more e (vector_failed x given).work side refl
   harden false e = side
 
   go : (v : Result ℕ Fault) → IsSecure (goes_on again (vectored_by profile x given v).work (vectored_by profile x given v).choice)
   go (Ok vector) = refl
-  go (Err fault) = harden (can_harden w.core w.exceptions given) refl
+  go (Err fault) = harden (can_be_hard_fault w.core w.exceptions given) refl
 
-no_fall : (secure skip : Bool) → (secure && false && not skip) ≡ false
-no_fall true skip = refl
-no_fall false skip = refl
+none_needed : (secure skip : Bool) → (secure && false && not skip) ≡ false
+none_needed true skip = refl
+none_needed false skip = refl
 
 -- no additional frame is written for it
 taking_secure : (profile : Profile) (again : Work Framed → Done Framed) (w : Work Framed) (number : ℕ) → w.core.run.side ≡ Secure
-    → (can_harden w.core w.exceptions (slot number Secure) ≡ true → (v : Work Framed) → v.core.run.side ≡ Secure → v.exceptions ≡ pended w.exceptions (slot 3 (hard_side w.exceptions Secure)) → IsSecure (again v))
+    → (can_be_hard_fault w.core w.exceptions (slot number Secure) ≡ true → (v : Work Framed) → v.core.run.side ≡ Secure → v.exceptions ≡ pended w.exceptions (slot 3 (hard_side w.exceptions Secure)) → IsSecure (again v))
     → IsSecure (goes_on again (taking framed profile w (slot number Secure)).work (taking framed profile w (slot number Secure)).choice)
 unfolding taking
-taking_secure profile again w number side more = by (falls w.entry given && not w.entry.skip) (no_fall w.entry.secure w.entry.skip) where
+taking_secure profile again w number side more = by (needs_additional w.entry given && not w.entry.skip) (none_needed w.entry.secure w.entry.skip) where
   given : Slot
   given = slot number Secure
 
@@ -156,7 +156,7 @@ taking_secure profile again w number side more = by (falls w.entry given && not 
   p = pushed_additional framed w.core w.held (callee_process w.core w.entry) (callee_privileged w.core w.entry)
 
   v : Work Framed
-  v = record w { entry = record w.entry { fell = w.entry.fell || falls w.entry given } }
+  v = record w { entry = record w.entry { needed_additional = w.entry.needed_additional || needs_additional w.entry given } }
 
   ends : Chosen Framed → Type 0
   ends c = IsSecure (goes_on again c.work c.choice)
@@ -166,7 +166,7 @@ taking_secure profile again w number side more = by (falls w.entry given && not 
   by false e = vectored_secure profile again v number side more
 
 choosing_secure : (profile : Profile) (again : Work Framed → Done Framed) (w : Work Framed) (number : ℕ) → w.core.run.side ≡ Secure → chosen w.exceptions ≡ Some (slot number Secure)
-    → (can_harden w.core w.exceptions (slot number Secure) ≡ true → (v : Work Framed) → v.core.run.side ≡ Secure → v.exceptions ≡ pended w.exceptions (slot 3 (hard_side w.exceptions Secure)) → IsSecure (again v))
+    → (can_be_hard_fault w.core w.exceptions (slot number Secure) ≡ true → (v : Work Framed) → v.core.run.side ≡ Secure → v.exceptions ≡ pended w.exceptions (slot 3 (hard_side w.exceptions Secure)) → IsSecure (again v))
     → IsSecure (goes_on again (choosing framed profile w).work (choosing framed profile w).choice)
 unfolding choosing
 choosing_secure profile again w number side is more =

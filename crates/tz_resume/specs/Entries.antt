@@ -12,7 +12,7 @@ use Rattle.tz_frames.specs.declared.leaving.Left.TheVariants as lefts
 use Rattle.tz_frames.specs.declared.leaving.Returning.{Returning}
 use Rattle.tz_frames.specs.Machine.{Framed, framed}
 use Rattle.tz_frames.specs.Enter.{Done, enters}
-use Rattle.tz_frames.specs.Leave.{Leaving, returning_by, unhandled, has_callee, returns_to_process, return_sp, leaves}
+use Rattle.tz_frames.specs.Leave.{Leaving, returning_by, core_returning, has_callee, returns_to_process, return_sp, leaves}
 use Rattle.tz_resume.specs.Words.{SameBytes}
 use Rattle.tz_resume.specs.Resumption.{process_of, IsStacked, GoesOn}
 
@@ -30,7 +30,7 @@ returning c value = returning_by c.run.side value
 
 -- the core from which it takes frames
 abbrev pub leaver : Core → ExceptionsValue → ℕ → Core
-leaver c e value = unhandled e (returning c value) c
+leaver c e value = core_returning e (returning c value) c
 
 -- where Secure code's stack was left
 abbrev pub left_at : Core → Done Framed → ℕ

@@ -2,7 +2,7 @@
 //! to run.
 //!
 //! Each line goes out as one put as soon as its step is done, and what goes out is exactly the lines of
-//! the steps from the machine's state on. It takes no memory, and knows nothing of where bytes go.
+//! the steps from the machine's state on. A run takes no memory, a job does; neither knows where bytes go.
 #![tactic(auto)]
 
 ghost use Rattle.std.specs.Prelude.{◌≡◌, ◌+◌, ◌^◌, ◌<◌, ◌≤◌, OnOk};

@@ -7,8 +7,8 @@ use Rattle.tz_state.specs.SysTickBits.{syst_csr_enable, syst_csr_tickint, syst_c
 use Rattle.tz_state.specs.UnitBits.{sau_ctrl_allns, mpu_ctrl_hfnmiena, mpu_ctrl_privdefena}
 use Rattle.tz_frames.specs.ReturnBits.{exc_return_es, exc_return_spsel, exc_return_mode, exc_return_ftype, exc_return_dcrs, exc_return_s}
 use Rattle.tz_show.specs.declared.bits.Bit.{Bit}
-use Rattle.tz_show.specs.declared.bits.Named.{Named}
-use Rattle.tz_show.specs.declared.bits.Named.TheVariants.{Apsr, Control, Ccr, Ufsr, Mmfsr, Bfsr, Hfsr, Sfsr, SystCsr, MoverCtrl, SauCtrl, MpuCtrl, ExcReturn, Plain}
+use Rattle.tz_show.specs.declared.bits.BitNames.{BitNames}
+use Rattle.tz_show.specs.declared.bits.BitNames.TheVariants.{Apsr, Control, Ccr, Ufsr, Mmfsr, Bfsr, Hfsr, Sfsr, SystCsr, MoverCtrl, SauCtrl, MpuCtrl, ExcReturn, Plain}
 
 -- the word that has a bit alone, and its name
 pub record BitName : Type 0 where
@@ -76,7 +76,7 @@ exc_return_names =
     ∷ bit (2 ^ exc_return_ftype) (codes "FType") ∷ bit (2 ^ exc_return_dcrs) (codes "DCRS") ∷ bit (2 ^ exc_return_s) (codes "S") ∷ []
 
 -- the bits of a register by name; none of a plain one
-abbrev pub bits_of : Named → List BitName
+abbrev pub bits_of : BitNames → List BitName
 bits_of Apsr = apsr_names
 bits_of Control = control_names
 bits_of Ccr = ccr_names

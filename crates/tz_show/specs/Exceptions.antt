@@ -13,7 +13,7 @@ use Rattle.tz_state.specs.Execution.{manual_priority}
 use Rattle.tz_state.specs.ControlRegisters.{ccr_value}
 use Rattle.tz_syntax.specs.Digits.{hex_byte}
 use Rattle.tz_tell.specs.ExceptionNames.{system_name}
-use Rattle.tz_show.specs.declared.bits.Named.TheVariants.{Ccr}
+use Rattle.tz_show.specs.declared.bits.BitNames.TheVariants.{Ccr}
 use Rattle.tz_show.specs.Rows.{pair_row, row, where_so, widened, texts_below}
 
 -- a number below 1000, three characters wide

@@ -1,7 +1,7 @@
 -- The fault registers: which faults there were, bit by bit, and the addresses of those that have one.
 use Rattle.std.specs.Prelude.{ℕ, List, ◌++◌, codes}
 use Rattle.tz_regs.specs.declared.parts.Status.{Status}
-use Rattle.tz_show.specs.declared.bits.Named.TheVariants.{Ufsr, Mmfsr, Bfsr, Hfsr, Sfsr, Plain}
+use Rattle.tz_show.specs.declared.bits.BitNames.TheVariants.{Ufsr, Mmfsr, Bfsr, Hfsr, Sfsr, Plain}
 use Rattle.tz_show.specs.Rows.{row}
 
 -- those that each side has

@@ -13,7 +13,7 @@ use Rattle.tz_frames.specs.Leave.{is_exc_return, is_well_formed, returning_by, h
 use Rattle.tz_syntax.specs.Digits.{hex_word}
 use Rattle.tz_syntax.specs.Names.{or_nothing}
 use Rattle.tz_tell.specs.FramePointer.{frame_pointer}
-use Rattle.tz_show.specs.declared.bits.Named.TheVariants.{ExcReturn}
+use Rattle.tz_show.specs.declared.bits.BitNames.TheVariants.{ExcReturn}
 use Rattle.tz_show.specs.Rows.{row, texts_below}
 
 -- the word at an address, where regions hold all its bytes

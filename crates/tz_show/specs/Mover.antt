@@ -2,7 +2,7 @@
 use Rattle.std.specs.Prelude.{Bool, if◌then◌else◌, List, ℕ, [], ◌++◌, codes}
 use Rattle.tz_model.specs.declared.channel.Channel.{Channel}
 use Rattle.tz_regs.specs.declared.parts.Status.{Status}
-use Rattle.tz_show.specs.declared.bits.Named.TheVariants.{MoverCtrl, Plain}
+use Rattle.tz_show.specs.declared.bits.BitNames.TheVariants.{MoverCtrl, Plain}
 use Rattle.tz_show.specs.Rows.{pair_row, row}
 
 -- the registers of a channel, by what stands before each

@@ -14,7 +14,7 @@ use Rattle.tz_regs.specs.Special.{number_of, control_of, apsr_word}
 use Rattle.tz_state.specs.Slots.{ExceptionsValue}
 use Rattle.tz_state.specs.Execution.{execution, manual_priority}
 use Rattle.tz_syntax.specs.Digits.{hex_word}
-use Rattle.tz_show.specs.declared.bits.Named.TheVariants.{Apsr, Control}
+use Rattle.tz_show.specs.declared.bits.BitNames.TheVariants.{Apsr, Control}
 use Rattle.tz_show.specs.Rows.{cell, pair_row, row, where_so, texts_below}
 
 -- ---- the head

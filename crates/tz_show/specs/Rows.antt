@@ -2,7 +2,7 @@
 use Rattle.std.specs.Prelude.{ℕ, zero, suc, ◌-◌, ◌==◌, Bool, bit_and, if◌then◌else◌, List, [], ◌∷◌, ◌++◌, length, replicate, codes}
 use Rattle.tz_syntax.specs.Digits.{hex_word}
 use Rattle.tz_show.specs.Bits.{BitName, bits_of}
-use Rattle.tz_show.specs.declared.bits.Named.{Named}
+use Rattle.tz_show.specs.declared.bits.BitNames.{BitNames}
 
 -- a value behind its name
 unfoldable pub cell : List ℕ → ℕ → List ℕ
@@ -22,7 +22,7 @@ bits_text value [] = []
 bits_text value (b ∷ bs) = bit_text value b ++ bits_text value bs
 
 -- a value that ends its line, with the bits that are set
-unfoldable pub row : List ℕ → ℕ → Named → List ℕ
+unfoldable pub row : List ℕ → ℕ → BitNames → List ℕ
 row head value named = cell head value ++ bits_text value (bits_of named) ++ codes "\n"
 
 -- a text where something is so

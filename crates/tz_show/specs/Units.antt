@@ -12,7 +12,7 @@ use Rattle.tz_state.specs.State.{Bus, mpu_of}
 use Rattle.tz_state.specs.Slots.{ExceptionsValue}
 use Rattle.tz_state.specs.UnitRegisters.{bounds_at}
 use Rattle.tz_syntax.specs.Digits.{hex_word}
-use Rattle.tz_show.specs.declared.bits.Named.TheVariants.{SystCsr, SauCtrl, MpuCtrl}
+use Rattle.tz_show.specs.declared.bits.BitNames.TheVariants.{SystCsr, SauCtrl, MpuCtrl}
 use Rattle.tz_show.specs.Rows.{pair_row, row, where_so, texts_below}
 
 -- ---- timers

@@ -24,9 +24,9 @@ use tz_state::systick_bits::{
 };
 use tz_state::unit_bits::{MPU_CTRL_HFNMIENA, MPU_CTRL_PRIVDEFENA, SAU_CTRL_ALLNS};
 
-/// A register whose bits have names, or one that is shown as its value alone.
+/// Whose bits are named: those of a register, or of none, which is shown as its value alone.
 #[derive(Clone, Copy)]
-pub enum Named {
+pub enum BitNames {
     Apsr,
     Control,
     Ccr,
@@ -309,25 +309,25 @@ pub static EXC_RETURN: [Bit; 6] = [
 pub static NONE: [Bit; 0] = [];
 
 /// The bits of a register by name.
-pub fn bits_of(named: Named) -> &'static [Bit]
+pub fn bits_of(named: BitNames) -> &'static [Bit]
     ensures bits { map bit_view result.now ≡ bits_of named }
     ensures few { names_most (map bit_view result.now) ≤ 64 }
 {
     match named {
-        Named::Apsr => &APSR,
-        Named::Control => &CONTROL,
-        Named::Ccr => &CCR,
-        Named::Ufsr => &UFSR,
-        Named::Mmfsr => &MMFSR,
-        Named::Bfsr => &BFSR,
-        Named::Hfsr => &HFSR,
-        Named::Sfsr => &SFSR,
-        Named::SystCsr => &SYST_CSR,
-        Named::MoverCtrl => &MOVER_CTRL,
-        Named::SauCtrl => &SAU_CTRL,
-        Named::MpuCtrl => &MPU_CTRL,
-        Named::ExcReturn => &EXC_RETURN,
-        Named::Plain => &NONE,
+        BitNames::Apsr => &APSR,
+        BitNames::Control => &CONTROL,
+        BitNames::Ccr => &CCR,
+        BitNames::Ufsr => &UFSR,
+        BitNames::Mmfsr => &MMFSR,
+        BitNames::Bfsr => &BFSR,
+        BitNames::Hfsr => &HFSR,
+        BitNames::Sfsr => &SFSR,
+        BitNames::SystCsr => &SYST_CSR,
+        BitNames::MoverCtrl => &MOVER_CTRL,
+        BitNames::SauCtrl => &SAU_CTRL,
+        BitNames::MpuCtrl => &MPU_CTRL,
+        BitNames::ExcReturn => &EXC_RETURN,
+        BitNames::Plain => &NONE,
     }
 }
 

@@ -6,7 +6,7 @@ ghost use Rattle.tz_state.specs.Slots.{places};
 ghost use Rattle.tz_show.specs.Exceptions.{wide_number, exception_name, side_mark, flag_text, flags_text, slot_words, priority_words, slot_line, slot_text, is_listed, exception_text, grouping_line, grouping_text, control_text, exceptions_text};
 ghost use Rattle.tz_show.specs.Rows.{texts_below};
 
-use crate::bits::Named;
+use crate::bits::BitNames;
 use crate::rows::{Text, push_pair, push_row, push_signed, push_where, push_wide};
 use tz_model::{Side, Slot};
 use tz_nvic::{Exceptions, PLACES, SlotState};
@@ -213,8 +213,8 @@ fn push_control(text: &mut Text, status: &Status)
         "  VTOR_NS ",
         status.ns.vtor,
     );
-    push_row(text, "  CCR_S  ", status.s.ccr | CCR_RES1, Named::Ccr);
-    push_row(text, "  CCR_NS ", status.ns.ccr | CCR_RES1, Named::Ccr);
+    push_row(text, "  CCR_S  ", status.s.ccr | CCR_RES1, BitNames::Ccr);
+    push_row(text, "  CCR_NS ", status.ns.ccr | CCR_RES1, BitNames::Ccr);
 }
 
 #[tactic(auto, unfolding(crate::specs::Exceptions::exceptions_text))]

@@ -4,7 +4,7 @@ ghost use Rattle.std.specs.Prelude.{◌≡◌, ◌≤◌, ◌+◌, ◌++◌};
 ghost use Rattle.arrayvec.specs.ArrayString.{array_string_len};
 ghost use Rattle.tz_show.specs.Faults.{banked_faults_text, other_faults_text, faults_text};
 
-use crate::bits::Named;
+use crate::bits::BitNames;
 use crate::rows::{Text, push_row};
 use tz_regs::Status;
 
@@ -15,12 +15,12 @@ fn push_banked(text: &mut Text, status: &Status)
     ensures bytes { text.new.bytes ≡ text.old.bytes ++ banked_faults_text status.now }
     ensures len { array_string_len text.new ≤ array_string_len text.old + 504 }
 {
-    push_row(text, "  UFSR_S   ", status.s.ufsr, Named::Ufsr);
-    push_row(text, "  UFSR_NS  ", status.ns.ufsr, Named::Ufsr);
-    push_row(text, "  MMFSR_S  ", status.s.mmfsr, Named::Mmfsr);
-    push_row(text, "  MMFAR_S  ", status.s.mmfar, Named::Plain);
-    push_row(text, "  MMFSR_NS ", status.ns.mmfsr, Named::Mmfsr);
-    push_row(text, "  MMFAR_NS ", status.ns.mmfar, Named::Plain);
+    push_row(text, "  UFSR_S   ", status.s.ufsr, BitNames::Ufsr);
+    push_row(text, "  UFSR_NS  ", status.ns.ufsr, BitNames::Ufsr);
+    push_row(text, "  MMFSR_S  ", status.s.mmfsr, BitNames::Mmfsr);
+    push_row(text, "  MMFAR_S  ", status.s.mmfar, BitNames::Plain);
+    push_row(text, "  MMFSR_NS ", status.ns.mmfsr, BitNames::Mmfsr);
+    push_row(text, "  MMFAR_NS ", status.ns.mmfar, BitNames::Plain);
 }
 
 /// Those that there are once.
@@ -30,11 +30,11 @@ fn push_others(text: &mut Text, status: &Status)
     ensures bytes { text.new.bytes ≡ text.old.bytes ++ other_faults_text status.now }
     ensures len { array_string_len text.new ≤ array_string_len text.old + 420 }
 {
-    push_row(text, "  BFSR     ", status.bus.bfsr, Named::Bfsr);
-    push_row(text, "  BFAR     ", status.bus.bfar, Named::Plain);
-    push_row(text, "  HFSR     ", status.bus.hfsr, Named::Hfsr);
-    push_row(text, "  SFSR     ", status.security.sfsr, Named::Sfsr);
-    push_row(text, "  SFAR     ", status.security.sfar, Named::Plain);
+    push_row(text, "  BFSR     ", status.bus.bfsr, BitNames::Bfsr);
+    push_row(text, "  BFAR     ", status.bus.bfar, BitNames::Plain);
+    push_row(text, "  HFSR     ", status.bus.hfsr, BitNames::Hfsr);
+    push_row(text, "  SFSR     ", status.security.sfsr, BitNames::Sfsr);
+    push_row(text, "  SFAR     ", status.security.sfar, BitNames::Plain);
 }
 
 #[tactic(auto, unfolding(crate::specs::Faults::faults_text))]

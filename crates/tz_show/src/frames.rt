@@ -7,7 +7,7 @@ ghost use Rattle.tz_syntax.specs.Names.{or_nothing};
 ghost use Rattle.tz_show.specs.Frames.{shown_word, word_text, stack_word_text, stack_text, frame_label, has_frame, frame_first, frame_count, frame_word_text, frame_by, frame_text};
 ghost use Rattle.tz_show.specs.Rows.{texts_below};
 
-use crate::bits::Named;
+use crate::bits::BitNames;
 use crate::rows::{Text, push_row};
 use tz_access::Bus;
 use tz_excret::{has_callee, is_exc_return, is_well_formed, returning_by};
@@ -174,7 +174,7 @@ pub fn push_frame(text: &mut Text, core: &Core, bus: &Bus)
 {
     if has_frame(core) {
         let lr = core.registers.lr;
-        push_row(text, "\nFrame of EXC_RETURN ", lr, Named::ExcReturn);
+        push_row(text, "\nFrame of EXC_RETURN ", lr, BitNames::ExcReturn);
         push_frame_by(text, core, bus, &returning_by(core.run.side, lr));
     }
 }

@@ -4,7 +4,7 @@ ghost use Rattle.std.specs.Prelude.{◌≡◌, ◌≤◌, ◌+◌, ◌++◌, len
 ghost use Rattle.arrayvec.specs.ArrayString.{array_string_len};
 ghost use Rattle.tz_show.specs.Mover.{channel_rows, channels_text, mover_text};
 
-use crate::bits::Named;
+use crate::bits::BitNames;
 use crate::rows::{Text, push_pair, push_row};
 use tz_model::Channel;
 use tz_regs::Status;
@@ -16,9 +16,9 @@ fn push_channel(text: &mut Text, channel: &Channel, ctrl: &str, src: &str, dst: 
     ensures bytes { text.new.bytes ≡ text.old.bytes ++ channel_rows channel.now ctrl.now src.now dst.now count.now }
     ensures len { array_string_len text.new ≤ array_string_len text.old + length ctrl.now + length src.now + length dst.now + length count.now + 163 }
 {
-    push_row(text, ctrl, channel.ctrl, Named::MoverCtrl);
+    push_row(text, ctrl, channel.ctrl, BitNames::MoverCtrl);
     push_pair(text, src, channel.src, dst, channel.dst);
-    push_row(text, count, u32::from(channel.count), Named::Plain);
+    push_row(text, count, u32::from(channel.count), BitNames::Plain);
 }
 
 /// The registers of both channels.

@@ -7,7 +7,7 @@ ghost use Rattle.tz_state.specs.Execution.{execution, manual_priority};
 ghost use Rattle.tz_show.specs.Registers.{side_words, mode_words, privilege_words, sleep_words, running_text, priority_text, head_text, general_text, pointers_text, status_text, registers_text, pointer_pairs, control_row, stacks_text};
 ghost use Rattle.tz_show.specs.Rows.{texts_below};
 
-use crate::bits::Named;
+use crate::bits::BitNames;
 use crate::rows::{Text, push_cell, push_pair, push_row, push_signed, push_where};
 use tz_model::{Side, Sleep};
 use tz_nvic::Exceptions;
@@ -168,7 +168,7 @@ fn push_status(text: &mut Text, registers: &Registers)
     ensures bytes { text.new.bytes ≡ text.old.bytes ++ status_text registers.now }
     ensures len { array_string_len text.new ≤ array_string_len text.old + 132 }
 {
-    push_row(text, "  APSR ", registers.apsr.word(), Named::Apsr);
+    push_row(text, "  APSR ", registers.apsr.word(), BitNames::Apsr);
     push_cell(text, "  IPSR ", u32::from(registers.ipsr));
     push_cell(text, "  EPSR.IT ", u32::from(registers.it));
     push_cell(text, "  EPSR.T ", u32::from(registers.t));
@@ -207,7 +207,7 @@ fn push_control(text: &mut Text, head: &str, stacks: &Stacks)
     ensures bytes { text.new.bytes ≡ text.old.bytes ++ control_row head.now stacks.now }
     ensures len { array_string_len text.new ≤ array_string_len text.old + length head.now + 73 }
 {
-    push_row(text, head, stacks.control(), Named::Control);
+    push_row(text, head, stacks.control(), BitNames::Control);
 }
 
 #[tactic(auto, unfolding(crate::specs::Registers::stacks_text))]

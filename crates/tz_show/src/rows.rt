@@ -7,7 +7,7 @@ ghost use Rattle.std.specs.Fmt.{signed_decimal};
 ghost use Rattle.arrayvec.specs.ArrayString.{array_string_len};
 ghost use Rattle.tz_show.specs.Rows.{cell, pair_row, row, where_so, widened};
 
-use crate::bits::{Named, bits_of, push_bits};
+use crate::bits::{BitNames, bits_of, push_bits};
 use arrayvec::ArrayString;
 use itoa::Buffer;
 use tz_syntax::push_hex_word;
@@ -84,7 +84,7 @@ pub fn push_pair(text: &mut Text, head: &str, value: u32, other: &str, second: u
 
 /// A value that ends its line, with the bits that are set.
 #[tactic(auto, unfolding(crate::specs::Rows::row))]
-pub fn push_row(text: &mut Text, head: &str, value: u32, named: Named)
+pub fn push_row(text: &mut Text, head: &str, value: u32, named: BitNames)
     requires { array_string_len text.old + length head.now + 73 ≤ 48000 }
     ensures bytes { text.new.bytes ≡ text.old.bytes ++ row head.now value named }
     ensures len { array_string_len text.new ≤ array_string_len text.old + length head.now + 73 }

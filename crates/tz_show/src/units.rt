@@ -6,7 +6,7 @@ ghost use Rattle.tz_state.specs.Protection.{has_pxn};
 ghost use Rattle.tz_show.specs.Units.{timer_rows, timers_text, span_text, sau_words, sau_line, sau_region_text, mpu_words, mpu_line, mpu_region_text, sau_text, mpu_text, side_mpu_text, mpus_text};
 ghost use Rattle.tz_show.specs.Rows.{texts_below};
 
-use crate::bits::Named;
+use crate::bits::BitNames;
 use crate::rows::{Text, push_pair, push_row, push_where};
 use tz_access::Bus;
 use tz_model::{Profile, Side};
@@ -24,9 +24,9 @@ fn push_timer_rows(text: &mut Text, s: Timer, ns: Timer)
     ensures bytes { text.new.bytes ≡ text.old.bytes ++ timer_rows s ns }
     ensures len { array_string_len text.new ≤ array_string_len text.old + 264 }
 {
-    push_row(text, "  SYST_CSR_S  ", s.csr, Named::SystCsr);
+    push_row(text, "  SYST_CSR_S  ", s.csr, BitNames::SystCsr);
     push_pair(text, "  SYST_RVR_S  ", s.rvr, "  SYST_CVR_S  ", s.cvr);
-    push_row(text, "  SYST_CSR_NS ", ns.csr, Named::SystCsr);
+    push_row(text, "  SYST_CSR_NS ", ns.csr, BitNames::SystCsr);
     push_pair(text, "  SYST_RVR_NS ", ns.rvr, "  SYST_CVR_NS ", ns.cvr);
 }
 
@@ -121,7 +121,7 @@ fn push_sau_unit(text: &mut Text, sau: &Sau)
         text,
         "  SAU_CTRL    ",
         sau.value(SauRegister::Ctrl),
-        Named::SauCtrl,
+        BitNames::SauCtrl,
     );
     push_sau_regions(text, sau);
 }
@@ -211,7 +211,7 @@ fn push_mpu(text: &mut Text, profile: Profile, mpu: &Mpu, head: &str)
     ensures bytes { text.new.bytes ≡ text.old.bytes ++ mpu_text profile mpu.now.mpu head.now }
     ensures len { array_string_len text.new ≤ array_string_len text.old + length head.now + 937 }
 {
-    push_row(text, head, mpu.value(MpuRegister::Ctrl), Named::MpuCtrl);
+    push_row(text, head, mpu.value(MpuRegister::Ctrl), BitNames::MpuCtrl);
     push_mpu_regions(text, profile, mpu);
 }
 

@@ -72,6 +72,7 @@ fn name_at(names: &[&'static str], number: u32) -> &'static str
     }
 }
 
+/// The name of a register by its number, at most three bytes; empty where there is none.
 pub fn register_name(number: u32) -> &'static str
     ensures text { result.now ≡ register_text number }
     ensures short { length result.now ≤ 3 }
@@ -79,6 +80,7 @@ pub fn register_name(number: u32) -> &'static str
     name_at(&REGISTERS, number)
 }
 
+/// The name of a condition by its number, two bytes; empty where there is none.
 pub fn condition_name(number: u32) -> &'static str
     ensures text { result.now ≡ condition_text number }
     ensures short { length result.now ≤ 2 }

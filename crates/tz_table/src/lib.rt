@@ -1,7 +1,8 @@
 //! The words in which every other crate speaks of the instruction set: security states, sizes of
 //! accesses, shifts, codes, and the instructions of Armv8-M Mainline without floating point and DSP.
 //!
-//! Nothing here runs an instruction; it only names them.
+//! Beside them stands the table: each instruction's row, its pattern, and the limits of its fields. Nothing here decodes or
+//! runs a code.
 #![tactic(auto)]
 
 mod data_limits;

@@ -128,14 +128,15 @@ pub fn can_load_pair_literal(rt: u8, rt2: u8) -> bool
     plain2(rt, rt2) && rt != rt2
 }
 
-/// A store-exclusive.
+/// Whether a store-exclusive has these registers: the one of its outcome is neither the base nor a stored one, and none is
+/// SP or PC but the base, which may be SP.
 pub fn can_store_exclusive(rd: u8, rt: u8, rn: u8) -> bool
     ensures { result ≡ can_store_exclusive_of rd rt rn }
 {
     plain2(rd, rt) && rn != 15 && rd != rn && rd != rt
 }
 
-/// A table branch.
+/// Whether a table branch has these registers: the base isn't SP, and the index neither SP nor PC.
 pub fn can_branch_table(rn: u8, rm: u8) -> bool
     ensures { result ≡ can_branch_table_of rn rm }
 {
@@ -267,7 +268,7 @@ pub fn can_load(size: u8, rt: u8) -> bool
     size == 2 || plain(rt)
 }
 
-/// A store.
+/// Whether a store of this size has this register: never PC, and SP for a word alone.
 pub fn can_store(size: u8, rt: u8) -> bool
     ensures { result ≡ can_store_of size rt }
 {

@@ -41,12 +41,14 @@ impl<'a> LentState<'a> {
         }
     }
 
+    /// The board.
     pub fn board(&self) -> &'a Board
         ensures { result.now ≡ self.now.bus.board }
     {
         self.bus.board()
     }
 
+    /// The core.
     pub fn core(&self) -> &'a Core
         ensures { result.now ≡ self.now.core }
     {

@@ -3,7 +3,8 @@
 use std::alloc::{AllocError, Global};
 use std::fmt::Write;
 
-/// Adds the cases of a file to a text, each behind the place where it begins.
+/// Adds the cases of a file to a text, each behind the place where it begins. Fails for want
+/// of memory alone.
 pub fn add_file(text: &mut String, name: &str, file: &str) -> Result<(), AllocError> {
     let mut number = 0u32;
     for line in file.lines() {

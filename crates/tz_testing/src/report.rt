@@ -72,7 +72,8 @@ fn report_of<A: Answers>(alloc: Global, answers: &A, cases: &str) -> Result<Stri
 }
 
 /// The report of the cases of files: those whose answers aren't the wanted ones, by their places, and how many cases
-/// there are. One case stands for all in turn, and the report is told as an answer is.
+/// there are. One case stands for all in turn, and the report is told as an answer is. Fails for want of
+/// memory alone.
 pub fn told<A: Answers>(alloc: Global, answers: &A, cases: &str) -> Result<String, AllocError> {
     let whole = repeated(alloc, cases)?;
     report_of(alloc, answers, whole.as_str())

@@ -15,7 +15,7 @@ pub struct MemorySink {
 }
 
 impl MemorySink {
-    /// An empty sink with this space.
+    /// An empty sink with this space, in bytes. Fails for want of memory alone.
     pub fn new(alloc: Global, space: usize) -> Result<Self, AllocError>
         ensures bytes { IfOk result (λ s. s.bytes.items ≡ []) }
         ensures space { IfOk result (λ s. s.space ≡ space) }

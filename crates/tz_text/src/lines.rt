@@ -196,7 +196,8 @@ impl Lines {
     }
 }
 
-/// The line of a step with its line feed, as a view shows it. `step` counts from 0.
+/// The line of a step with its line feed, as a view shows it. `step` counts from 0. A run makes its lines by
+/// `Lines::make`; tests are the users of this call.
 pub fn line(report: &Report, step: u32, view: View) -> ArrayString<768>
     ensures { result.bytes ≡ line view step report.now }
 {

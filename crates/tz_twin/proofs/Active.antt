@@ -31,8 +31,8 @@ use Rattle.tz_frames.specs.declared.leaving.Refusal.{Refusal}
 use Rattle.tz_frames.specs.declared.leaving.Refusal.TheVariants as refusals
 use Rattle.tz_frames.specs.Status.{Raised, faulted, frame_faulted}
 use Rattle.tz_frames.specs.Stack.{Pushed, pushed_basic, pushed_additional}
-use Rattle.tz_frames.specs.Enter.{Work, Chosen, Done, can_harden, vector_choice, vectored_by, vectored, vector_failed, vector_touched, falls, fallen, callee_process, callee_privileged, raised_choice, after_raise, stacked_by, stacked, taking, choosing_from, choosing, locked_up, goes_on, tries, interrupted, begins_raised, begins, enters, without_frame}
-use Rattle.tz_frames.specs.Leave.{returning_by, side_of_bit, exc_return_fault, slot_returning, freed, unhandled, chaining, Leaving, left_of, chained, chained_raised, unstacked, modes_agree, resumes, goes_back, leaves_noting, leaves}
+use Rattle.tz_frames.specs.Enter.{Work, Chosen, Done, can_be_hard_fault, vector_choice, vectored_by, vectored, vector_failed, vector_touched, needs_additional, with_additional, callee_process, callee_privileged, raised_choice, after_raise, stacked_by, stacked, taking, choosing_from, choosing, locked_up, goes_on, tries, interrupted, begins_raised, begins, enters, without_frame}
+use Rattle.tz_frames.specs.Leave.{returning_by, side_of_bit, exc_return_fault, slot_returning, freed, core_returning, chaining, Leaving, left_of, chained, chained_raised, unstacked, modes_agree, resumes, goes_back, leaves_noting, leaves}
 use Rattle.tz_nvic.proofs.Least.{least_found}
 use Rattle.tz_nvic.proofs.Places.{index_back}
 use Rattle.tz_twin.specs.Integrity.{Handles}
@@ -99,7 +99,7 @@ vectored_by_picks : (profile : Profile) (w : Work Framed) (given : Slot) (r : Re
 unfolding HandlesBy vector_failed
 vectored_by_picks profile w given (Ok vector) h =
     let acts = acts_activated w.exceptions given h in record { number = refl; runs = refl; side = acts.side; active = acts.active }
-vectored_by_picks profile w given (Err fault) h = go (can_harden w.core w.exceptions given) where
+vectored_by_picks profile w given (Err fault) h = go (can_be_hard_fault w.core w.exceptions given) where
   go : (t : Bool) → HandlesBy (vector_failed w given).work.core (vector_failed w given).work.exceptions (vector_choice t)
   go true = tt
   go false = tt
@@ -124,7 +124,7 @@ stacked_by_picks profile w given first None h = vectored_picks profile w given h
 
 stacked_picks : (profile : Profile) (w : Work Framed) (given : Slot) (p : Pushed Framed) → Waits w.exceptions given → Picks (stacked framed profile w given p)
 stacked_picks profile w given p h =
-    stacked_by_picks profile (record w { core = p.core; held = p.held; entry = fallen w.entry }) given w.entry.frame p.fault h
+    stacked_by_picks profile (record w { core = p.core; held = p.held; entry = with_additional w.entry }) given w.entry.frame p.fault h
 
 picks_cond : (t : Bool) (x y : Chosen Framed) → Picks x → Picks y → Picks (cond t x y)
 picks_cond true x y p q = p
@@ -134,8 +134,8 @@ taking_picks : (profile : Profile) (w : Work Framed) (given : Slot) → Waits w.
 unfolding taking
 taking_picks profile w given h =
     let p = pushed_additional framed w.core w.held (callee_process w.core w.entry) (callee_privileged w.core w.entry) in
-    let v : Work Framed = record w { entry = record w.entry { fell = w.entry.fell || falls w.entry given } } in
-    picks_cond (falls w.entry given && not w.entry.skip) (stacked framed profile w given p) (vectored framed profile v given)
+    let v : Work Framed = record w { entry = record w.entry { needed_additional = w.entry.needed_additional || needs_additional w.entry given } } in
+    picks_cond (needs_additional w.entry given && not w.entry.skip) (stacked framed profile w given p) (vectored framed profile v given)
     (stacked_picks profile w given p h) (vectored_picks profile v given h)
 
 choosing_from_picks : (profile : Profile) (w : Work Framed) (first : Option Slot) → chosen w.exceptions ≡ first → Picks (choosing_from framed profile w first)
@@ -245,4 +245,4 @@ pub leaves_handles : (profile : Profile) (c : Core) (e : ExceptionsValue) (f : F
 unfolding leaves
 leaves_handles profile c e f value =
     let r = returning_by c.run.side value in
-    noting_leaves profile c.run.side (exc_return_fault c e value) r (unhandled e r c) (freed e (slot_returning c r)) f
+    noting_leaves profile c.run.side (exc_return_fault c e value) r (core_returning e r c) (freed e (slot_returning c r)) f

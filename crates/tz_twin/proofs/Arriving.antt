@@ -35,7 +35,7 @@ use Rattle.tz_frames.specs.Status.{Raised, faulted, frame_faulted}
 use Rattle.tz_frames.specs.Registers.{number_in, resumed_registers}
 use Rattle.tz_frames.specs.Stack.{with_sp, signature, word_answer, word_read, with_lowest_word, reads, callee_of, callee_read, signed, popped_additional, basic_of, basic_read, popped_basic}
 use Rattle.tz_frames.specs.Enter.{enters, tries}
-use Rattle.tz_frames.specs.Leave.{returning_by, side_of_bit, exc_return_fault, slot_returning, freed, unhandled, chaining, Leaving, left_of, chained, chained_raised, returns_privileged, return_sp, with_callee, unstacked, sp_above, resumed, modes_agree, resumes, goes_back, leaves_noting, leaves}
+use Rattle.tz_frames.specs.Leave.{returning_by, side_of_bit, exc_return_fault, slot_returning, freed, core_returning, chaining, Leaving, left_of, chained, chained_raised, returns_privileged, return_sp, with_callee, unstacked, sp_above, resumed, modes_agree, resumes, goes_back, leaves_noting, leaves}
 use Rattle.tz_frames.specs.Gate.{return_base, numbers_agree, came_back, after_second, after_first, function_returned}
 use Rattle.tz_sem.specs.declared.ending.Handling.{Handling}
 use Rattle.tz_sem.specs.declared.ending.Cause.TheVariants as causes
@@ -285,9 +285,9 @@ noting_signed profile side (Some fault) r c e f own = signed_raised c.stacks_s f
 noting_signed profile side None r c e f own = goes_back_signed profile r c e f own
 
 -- a return of Non-secure code leaves the Secure stacks alone until then
-unhandled_stacks : (e : ExceptionsValue) (c : Core) (es process thread dcrs secure : Bool) → es ≡ false → (unhandled e (bits es process thread dcrs secure) c).stacks_s ≡ c.stacks_s
-unhandled_stacks e c true process thread dcrs secure own = cc
-unhandled_stacks e c false process thread dcrs secure own = refl
+core_returning_stacks : (e : ExceptionsValue) (c : Core) (es process thread dcrs secure : Bool) → es ≡ false → (core_returning e (bits es process thread dcrs secure) c).stacks_s ≡ c.stacks_s
+core_returning_stacks e c true process thread dcrs secure own = cc
+core_returning_stacks e c false process thread dcrs secure own = refl
 
 no_es : (side : Side) (value : ℕ) → side ≡ NonSecure → (returning_by side value).es ≡ false
 no_es Secure value is = cc
@@ -298,9 +298,9 @@ unfolding leaves
 leaves_signed profile c e f value is =
     let r = returning_by c.run.side value in
     let own = no_es c.run.side value is in
-    subst (λ (t : Stacks). SignedBy t f.bus.memory (leaves_noting framed profile c.run.side (exc_return_fault c e value) r (unhandled e r c) (freed e (slot_returning c r)) f))
-    (unhandled_stacks e c r.es r.process r.thread r.dcrs r.secure own)
-    (noting_signed profile c.run.side (exc_return_fault c e value) r (unhandled e r c) (freed e (slot_returning c r)) f own)
+    subst (λ (t : Stacks). SignedBy t f.bus.memory (leaves_noting framed profile c.run.side (exc_return_fault c e value) r (core_returning e r c) (freed e (slot_returning c r)) f))
+    (core_returning_stacks e c r.es r.process r.thread r.dcrs r.secure own)
+    (noting_signed profile c.run.side (exc_return_fault c e value) r (core_returning e r c) (freed e (slot_returning c r)) f own)
 
 came_signed : (ipsr : ℕ) (stacks : Stacks) (s : State) (m : Memory) → s.bus.memory ≡ m → TookFrames stacks s.core m → Came ipsr stacks s causes.Resumed
 came_signed ipsr stacks s m same h = ByUnstacking refl (subst (λ (n : Memory). TookFrames stacks s.core n) (sym same) h)

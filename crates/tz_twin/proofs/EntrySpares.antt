@@ -24,7 +24,7 @@ use Rattle.tz_frames.specs.declared.entering.Entered.{Entered}
 use Rattle.tz_frames.specs.declared.entering.Entered.TheVariants as entered
 use Rattle.tz_frames.specs.Status.{slot, Raised, frame_faulted}
 use Rattle.tz_frames.specs.Stack.{pushed_basic, pushed_additional}
-use Rattle.tz_frames.specs.Enter.{Work, Chosen, Done, is_secure, handling, vectored_by, vectored, vector_failed, vector_touched, falls, callee_process, callee_privileged, stacked, taking, choosing_from, choosing, with_lock, locked_up, goes_on, tries, interrupted, begins_raised, begins, enters, without_frame}
+use Rattle.tz_frames.specs.Enter.{Work, Chosen, Done, is_secure, handling, vectored_by, vectored, vector_failed, vector_touched, needs_additional, callee_process, callee_privileged, stacked, taking, choosing_from, choosing, with_lock, locked_up, goes_on, tries, interrupted, begins_raised, begins, enters, without_frame}
 use Rattle.tz_twin.proofs.Slots.{quiet}
 use Rattle.tz_twin.proofs.Spared.{KeptBy, kept_from, kept_all, kept_then, flags_quiet, frame_faulted_kept, frame_faulted_side}
 use Rattle.tz_twin.proofs.OwnFrames.{OwnFrameSome, basic_own}
@@ -118,11 +118,11 @@ unfolding vectored
 vectored_spares profile w given = vectored_by_spares profile w given.number given.side (framed w.held (Vector given.number given.side)).1
 
 -- with another word on whether the additional frame was called for
-abbrev with_fell : Work Framed → Bool → Work Framed
-with_fell w fell = record w { entry = record w.entry { fell = fell } }
+abbrev with_needed : Work Framed → Bool → Work Framed
+with_needed w needed_additional = record w { entry = record w.entry { needed_additional = needed_additional } }
 
-spares_fell : (w v : Work Framed) (fell : Bool) → Spares (with_fell w fell) v → Spares w v
-spares_fell w v fell h = record { held = h.held; callee = h.callee; touched = h.touched; spared = h.spared }
+spares_needed : (w v : Work Framed) (needed_additional : Bool) → Spares (with_needed w needed_additional) v → Spares w v
+spares_needed w v needed_additional h = record { held = h.held; callee = h.callee; touched = h.touched; spared = h.spared }
 
 spares_second : (w : Work Framed) (t : Bool) (x y : Chosen Framed) → t ≡ false → Spares w y.work → Spares w (cond t x y).work
 spares_second w true x y is h = absurd (cc)
@@ -136,11 +136,11 @@ no_callee false b c h = refl
 taking_spares : (profile : Profile) (w : Work Framed) (given : Slot) → writes_callee w.entry ≡ false → Spares w (taking framed profile w given).work
 unfolding taking
 taking_spares profile w given none =
-    let fell = w.entry.fell || falls w.entry given in
-    spares_second w (falls w.entry given && not w.entry.skip)
+    let needed_additional = w.entry.needed_additional || needs_additional w.entry given in
+    spares_second w (needs_additional w.entry given && not w.entry.skip)
     (stacked framed profile w given (pushed_additional framed w.core w.held (callee_process w.core w.entry) (callee_privileged w.core w.entry)))
-    (vectored framed profile (with_fell w fell) given) (no_callee w.entry.secure (is_nonsecure_side given.side) w.entry.skip none)
-    (spares_fell w (vectored framed profile (with_fell w fell) given).work fell (vectored_spares profile (with_fell w fell) given))
+    (vectored framed profile (with_needed w needed_additional) given) (no_callee w.entry.secure (is_nonsecure_side given.side) w.entry.skip none)
+    (spares_needed w (vectored framed profile (with_needed w needed_additional) given).work needed_additional (vectored_spares profile (with_needed w needed_additional) given))
 
 choosing_from_spares : (profile : Profile) (w : Work Framed) (first : Option Slot) → writes_callee w.entry ≡ false → Spares w (choosing_from framed profile w first).work
 choosing_from_spares profile w None none = spares_all w

@@ -31,7 +31,7 @@ use Rattle.tz_frames.specs.declared.entering.Choice.TheVariants as choices
 use Rattle.tz_frames.specs.declared.entering.Entered.TheVariants as entered
 use Rattle.tz_frames.specs.Status.{Raised, frame_faulted}
 use Rattle.tz_frames.specs.Stack.{splim_of, with_sp, after_store, written, Pushed, access_fault, pushed_with, pushed, basic_base, basic_words, pushed_basic}
-use Rattle.tz_frames.specs.Enter.{Work, Chosen, Done, vectored_by, vectored, vector_failed, vector_touched, falls, taking, choosing_from, choosing, goes_on, tries, interrupted, begins_raised, begins, after_basic, enters, without_frame}
+use Rattle.tz_frames.specs.Enter.{Work, Chosen, Done, vectored_by, vectored, vector_failed, vector_touched, needs_additional, taking, choosing_from, choosing, goes_on, tries, interrupted, begins_raised, begins, after_basic, enters, without_frame}
 use Rattle.tz_twin.proofs.Bytes.{SameOpen, value_same, write_same}
 use Rattle.tz_twin.proofs.Split.{Open, Rest, open_of, rest_of, open_map, join_bus, join, Same}
 use Rattle.tz_twin.proofs.OwnFrames.{OwnFrameSome, basic_own}
@@ -240,8 +240,8 @@ taking_twins : (profile : Profile) (o : Open) (x x' : Rest) (k : Ground) (g g' :
     → ChosenBoth (taking framed profile (work_of o x k g entry) given) (taking framed profile (work_of o x' k g' entry) given)
 unfolding taking
 taking_twins profile o x x' k g g' entry given none same =
-    chosen_second (falls entry given && not entry.skip) _ _ _ _ (no_callee entry.secure (is_nonsecure_side given.side) entry.skip none)
-    (vectored_twins profile o x x' k g g' (record entry { fell = entry.fell || falls entry given }) given.number given.side same)
+    chosen_second (needs_additional entry given && not entry.skip) _ _ _ _ (no_callee entry.secure (is_nonsecure_side given.side) entry.skip none)
+    (vectored_twins profile o x x' k g g' (record entry { needed_additional = entry.needed_additional || needs_additional entry given }) given.number given.side same)
 
 choosing_from_twins : (profile : Profile) (o : Open) (x x' : Rest) (k : Ground) (g g' : Guise) (entry : Entering) (first : Option Slot) → writes_callee entry ≡ false → Same o x x'
     → ChosenBoth (choosing_from framed profile (work_of o x k g entry) first) (choosing_from framed profile (work_of o x' k g' entry) first)

@@ -37,8 +37,8 @@ use Rattle.tz_frames.specs.declared.leaving.Refusal.{Refusal}
 use Rattle.tz_frames.specs.declared.leaving.Refusal.TheVariants as refusals
 use Rattle.tz_frames.specs.Status.{Raised, frame_status, frame_exception, with_status, raised_as, faulted, frame_faulted}
 use Rattle.tz_frames.specs.Stack.{splim_of, with_sp, after_store, written, Pushed, pushed, basic_base, basic_words, pushed_basic, callee_words, pushed_additional}
-use Rattle.tz_frames.specs.Enter.{Work, Chosen, Done, is_secure, handling, vectored_by, vectored, vector_failed, vector_touched, falls, fallen, callee_process, callee_privileged, stacked_by, stacked, taking, choosing_from, choosing, locked_up, goes_on, tries, interrupted, begins_raised, begins, enters, without_frame}
-use Rattle.tz_frames.specs.Leave.{returning_by, exc_return_fault, slot_returning, freed, unhandled, chaining, side_of_bit, Leaving, chained, chained_raised, unstacked, modes_agree, resumes, goes_back, leaves_noting, leaves}
+use Rattle.tz_frames.specs.Enter.{Work, Chosen, Done, is_secure, handling, vectored_by, vectored, vector_failed, vector_touched, needs_additional, with_additional, callee_process, callee_privileged, stacked_by, stacked, taking, choosing_from, choosing, locked_up, goes_on, tries, interrupted, begins_raised, begins, enters, without_frame}
+use Rattle.tz_frames.specs.Leave.{returning_by, exc_return_fault, slot_returning, freed, core_returning, chaining, side_of_bit, Leaving, chained, chained_raised, unstacked, modes_agree, resumes, goes_back, leaves_noting, leaves}
 use Rattle.tz_twin.specs.Writing.{distance, is_within, is_framed}
 use Rattle.tz_twin.proofs.Noted.{word_beside}
 
@@ -361,7 +361,7 @@ and_false false = refl
 
 stacked_kept : (side : Side) (old : Memory) (profile : Profile) (w : Work Framed) (given : Slot) (p : Pushed Framed) → Ends side old p → ChosenKept side old (stacked framed profile w given p)
 stacked_kept side old profile w given p h =
-    stacked_by_kept side old profile (record w { core = p.core; held = p.held; entry = fallen w.entry }) given w.entry.frame p.fault (Full (and_false w.entry.secure) h)
+    stacked_by_kept side old profile (record w { core = p.core; held = p.held; entry = with_additional w.entry }) given w.entry.frame p.fault (Full (and_false w.entry.secure) h)
 
 chosen_cond : (side : Side) (old : Memory) (t : Bool) (x y : Chosen Framed) → (t ≡ true → ChosenKept side old x) → ChosenKept side old y → ChosenKept side old (cond t x y)
 chosen_cond side old true x y h k = h refl
@@ -378,13 +378,13 @@ unfolding taking
 taking_kept side old profile w given h =
     let process = callee_process w.core w.entry in
     let privileged = callee_privileged w.core w.entry in
-    chosen_cond side old (falls w.entry given && not w.entry.skip)
+    chosen_cond side old (needs_additional w.entry given && not w.entry.skip)
     (stacked framed profile w given (pushed_additional framed w.core w.held process privileged))
-    (vectored framed profile (record w { entry = record w.entry { fell = w.entry.fell || falls w.entry given } }) given)
+    (vectored framed profile (record w { entry = record w.entry { needed_additional = w.entry.needed_additional || needs_additional w.entry given } }) given)
     (λ due.
     stacked_kept side old profile w given (pushed_additional framed w.core w.held process privileged)
     (additional_ends side old w.core w.held w.entry.secure w.entry.skip w.entry.thread process privileged (is_due w.entry.secure (is_nonsecure_side given.side) w.entry.skip due) refl h))
-    (vectored_kept side old profile (record w { entry = record w.entry { fell = w.entry.fell || falls w.entry given } }) given h)
+    (vectored_kept side old profile (record w { entry = record w.entry { needed_additional = w.entry.needed_additional || needs_additional w.entry given } }) given h)
 
 choosing_from_kept : (side : Side) (old : Memory) (profile : Profile) (w : Work Framed) (first : Option Slot) → StageOf side old w → ChosenKept side old (choosing_from framed profile w first)
 choosing_from_kept side old profile w None h = record { kept = kept_at side old w h; again = λ e. h }
@@ -503,4 +503,4 @@ pub leaves_kept : (profile : Profile) (c : Core) (e : ExceptionsValue) (f : Fram
 unfolding leaves
 leaves_kept profile c e f value =
     let r = returning_by c.run.side value in
-    noting_kept c.run.side profile c.run.side (exc_return_fault c e value) r (unhandled e r c) (freed e (slot_returning c r)) f (own_side c.run.side _)
+    noting_kept c.run.side profile c.run.side (exc_return_fault c e value) r (core_returning e r c) (freed e (slot_returning c r)) f (own_side c.run.side _)

@@ -46,8 +46,8 @@ use Rattle.tz_frames.specs.declared.leaving.Refusal.TheVariants as refusals
 use Rattle.tz_frames.specs.Registers.{no_flags, scratch_cleared, all_cleared}
 use Rattle.tz_frames.specs.Status.{with_ufsr, with_mmfsr, with_mmfar, status_after, word_status, frame_status, exception_of, frame_exception, Raised, with_status, raised_as, faulted, frame_faulted}
 use Rattle.tz_frames.specs.Stack.{Pushed, splim_of, with_side_sp, after_store, written, pushed_with, pushed, basic_base, basic_words, pushed_basic, callee_words, pushed_additional}
-use Rattle.tz_frames.specs.Enter.{Work, Chosen, Done, is_secure, exc_return, dcrs_of, handling, can_harden, vector_choice, vectored_by, vectored, vector_failed, vector_touched, falls, fallen, callee_process, callee_privileged, raised_choice, after_raise, stacked_by, stacked, taking, choosing_from, choosing, locked_up, goes_on, tries, interrupted, begins_raised, begins, enters, without_frame}
-use Rattle.tz_frames.specs.Leave.{returning_by, side_of_bit, exc_return_fault, slot_returning, freed, unhandled, chaining, Leaving, left_of, chained, chained_raised, unstacked, modes_agree, resumes, goes_back, leaves_noting, leaves}
+use Rattle.tz_frames.specs.Enter.{Work, Chosen, Done, is_secure, exc_return, dcrs_of, handling, can_be_hard_fault, vector_choice, vectored_by, vectored, vector_failed, vector_touched, needs_additional, with_additional, callee_process, callee_privileged, raised_choice, after_raise, stacked_by, stacked, taking, choosing_from, choosing, locked_up, goes_on, tries, interrupted, begins_raised, begins, enters, without_frame}
+use Rattle.tz_frames.specs.Leave.{returning_by, side_of_bit, exc_return_fault, slot_returning, freed, core_returning, chaining, Leaving, left_of, chained, chained_raised, unstacked, modes_agree, resumes, goes_back, leaves_noting, leaves}
 
 -- what a Non-secure handler finds, from the registers `r` of the code before it, which was Secure or not, and from the
 -- table that VTOR of the Non-secure side names
@@ -288,7 +288,7 @@ handled_from k w number c h x =
 -- a vector that fails takes no exception
 failed_came : (k : Known) (w : Work Framed) (given : Slot) → Carries k w → CameOf k (vector_failed w given)
 unfolding vector_failed
-failed_came k w given h = go (can_harden w.core w.exceptions given) where
+failed_came k w given h = go (can_be_hard_fault w.core w.exceptions given) where
   go : (taken : Bool) → Came k (vector_failed w given).work (vector_choice taken)
   go true = record { carried = record { registers = h.carried.registers; status = h.carried.status; held = h.carried.held }; secure = h.secure }
   go false = tt
@@ -323,7 +323,7 @@ stacked_by_came k profile w given first None h = vectored_came k profile w given
 
 stacked_came : (k : Known) (profile : Profile) (w : Work Framed) (given : Slot) (p : Pushed Framed) → CarriedBy k p → w.entry.secure ≡ k.secure → CameOf k (stacked framed profile w given p)
 stacked_came k profile w given p h is =
-    stacked_by_came k profile (record w { core = p.core; held = p.held; entry = fallen w.entry }) given w.entry.frame p.fault (record { carried = h; secure = is })
+    stacked_by_came k profile (record w { core = p.core; held = p.held; entry = with_additional w.entry }) given w.entry.frame p.fault (record { carried = h; secure = is })
 
 chosen_cond : (k : Known) (t : Bool) (x y : Chosen Framed) → CameOf k x → CameOf k y → CameOf k (cond t x y)
 chosen_cond k true x y p q = p
@@ -333,8 +333,8 @@ taking_came : (k : Known) (profile : Profile) (w : Work Framed) (given : Slot) �
 unfolding taking
 taking_came k profile w given h =
     let p = pushed_additional framed w.core w.held (callee_process w.core w.entry) (callee_privileged w.core w.entry) in
-    let v : Work Framed = record w { entry = record w.entry { fell = w.entry.fell || falls w.entry given } } in
-    chosen_cond k (falls w.entry given && not w.entry.skip) (stacked framed profile w given p) (vectored framed profile v given)
+    let v : Work Framed = record w { entry = record w.entry { needed_additional = w.entry.needed_additional || needs_additional w.entry given } } in
+    chosen_cond k (needs_additional w.entry given && not w.entry.skip) (stacked framed profile w given p) (vectored framed profile v given)
     (stacked_came k profile w given p (additional_carried k w.core w.held (callee_process w.core w.entry) (callee_privileged w.core w.entry) h.carried) h.secure)
     (vectored_came k profile v given (record { carried = h.carried; secure = h.secure }))
 
@@ -443,4 +443,4 @@ unfolding leaves
 leaves_handled profile c e f value held =
     let r = returning_by c.run.side value in
     let k : Known = record { secure = r.secure; vtor = c.status.ns.vtor; registers = c.registers } in
-    leaves_noting_leaves k profile c.run.side (exc_return_fault c e value) r (unhandled e r c) (freed e (slot_returning c r)) f (record { registers = refl; status = refl; held = held }) refl
+    leaves_noting_leaves k profile c.run.side (exc_return_fault c e value) r (core_returning e r c) (freed e (slot_returning c r)) f (record { registers = refl; status = refl; held = held }) refl

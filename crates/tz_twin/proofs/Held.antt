@@ -29,8 +29,8 @@ use Rattle.tz_frames.specs.declared.leaving.Refusal.{Refusal}
 use Rattle.tz_frames.specs.declared.leaving.Refusal.TheVariants as refusals
 use Rattle.tz_frames.specs.Status.{Raised, faulted, frame_faulted}
 use Rattle.tz_frames.specs.Stack.{Pushed, splim_of, with_side_sp, after_store, written, pushed_with, pushed, basic_base, basic_words, pushed_basic, callee_words, pushed_additional}
-use Rattle.tz_frames.specs.Enter.{Work, Chosen, Done, vectored_by, vectored, vector_failed, vector_touched, falls, fallen, callee_process, callee_privileged, stacked_by, stacked, taking, choosing_from, choosing, locked_up, goes_on, tries, interrupted, begins_raised, begins, enters, without_frame}
-use Rattle.tz_frames.specs.Leave.{returning_by, exc_return_fault, slot_returning, freed, unhandled, chaining, side_of_bit, Leaving, chained, chained_raised, unstacked, modes_agree, resumes, goes_back, leaves_noting, leaves}
+use Rattle.tz_frames.specs.Enter.{Work, Chosen, Done, vectored_by, vectored, vector_failed, vector_touched, needs_additional, with_additional, callee_process, callee_privileged, stacked_by, stacked, taking, choosing_from, choosing, locked_up, goes_on, tries, interrupted, begins_raised, begins, enters, without_frame}
+use Rattle.tz_frames.specs.Leave.{returning_by, exc_return_fault, slot_returning, freed, core_returning, chaining, side_of_bit, Leaving, chained, chained_raised, unstacked, modes_agree, resumes, goes_back, leaves_noting, leaves}
 
 -- of a bus the memory alone is another
 abbrev pub BusKept : Framed → Framed → Type 0
@@ -109,7 +109,7 @@ stacked_by_held profile w given first None = vectored_held profile w given
 stacked_held : (profile : Profile) (w : Work Framed) (given : Slot) (p : Pushed Framed) → BusKept w.held p.held → BusKept w.held (stacked framed profile w given p).work.held
 stacked_held profile w given p h =
     bus_then w.held p.held (stacked framed profile w given p).work.held h
-    (stacked_by_held profile (record w { core = p.core; held = p.held; entry = fallen w.entry }) given w.entry.frame p.fault)
+    (stacked_by_held profile (record w { core = p.core; held = p.held; entry = with_additional w.entry }) given w.entry.frame p.fault)
 
 chosen_cond : (f : Framed) (t : Bool) (x y : Chosen Framed) → BusKept f x.work.held → BusKept f y.work.held → BusKept f (cond t x y).work.held
 chosen_cond f true x y h k = h
@@ -118,12 +118,12 @@ chosen_cond f false x y h k = k
 taking_held : (profile : Profile) (w : Work Framed) (given : Slot) → BusKept w.held (taking framed profile w given).work.held
 unfolding taking
 taking_held profile w given =
-    chosen_cond w.held (falls w.entry given && not w.entry.skip)
+    chosen_cond w.held (needs_additional w.entry given && not w.entry.skip)
     (stacked framed profile w given (pushed_additional framed w.core w.held (callee_process w.core w.entry) (callee_privileged w.core w.entry)))
-    (vectored framed profile (record w { entry = record w.entry { fell = w.entry.fell || falls w.entry given } }) given)
+    (vectored framed profile (record w { entry = record w.entry { needed_additional = w.entry.needed_additional || needs_additional w.entry given } }) given)
     (stacked_held profile w given (pushed_additional framed w.core w.held (callee_process w.core w.entry) (callee_privileged w.core w.entry))
     (additional_held w.core w.held (callee_process w.core w.entry) (callee_privileged w.core w.entry)))
-    (vectored_held profile (record w { entry = record w.entry { fell = w.entry.fell || falls w.entry given } }) given)
+    (vectored_held profile (record w { entry = record w.entry { needed_additional = w.entry.needed_additional || needs_additional w.entry given } }) given)
 
 choosing_from_held : (profile : Profile) (w : Work Framed) (first : Option Slot) → BusKept w.held (choosing_from framed profile w first).work.held
 choosing_from_held profile w None = refl
@@ -203,4 +203,4 @@ pub leaves_held : (profile : Profile) (c : Core) (e : ExceptionsValue) (f : Fram
 unfolding leaves
 leaves_held profile c e f value =
     let r = returning_by c.run.side value in
-    leaves_noting_held profile c.run.side (exc_return_fault c e value) r (unhandled e r c) (freed e (slot_returning c r)) f
+    leaves_noting_held profile c.run.side (exc_return_fault c e value) r (core_returning e r c) (freed e (slot_returning c r)) f

@@ -25,7 +25,7 @@ use Rattle.tz_frames.specs.declared.leaving.Refusal.TheVariants as refusals
 use Rattle.tz_frames.specs.Status.{Raised, faulted, frame_faulted}
 use Rattle.tz_frames.specs.Stack.{popped_basic}
 use Rattle.tz_frames.specs.Enter.{Work, with_lock, tries}
-use Rattle.tz_frames.specs.Leave.{returning_by, side_of_bit, slot_returning, is_well_formed, is_forged, is_returnable, exc_return_fault, is_urgent, urgent_slot, freed, unhandled, chaining, Leaving, left_of, chained, chained_raised, returns_privileged, return_sp, with_basic, unstacked, resumed, modes_agree, resumes, goes_back, leaves_noting, leaves}
+use Rattle.tz_frames.specs.Leave.{returning_by, side_of_bit, slot_returning, is_well_formed, is_forged, is_returnable, exc_return_fault, is_urgent, urgent_slot, freed, core_returning, chaining, Leaving, left_of, chained, chained_raised, returns_privileged, return_sp, with_basic, unstacked, resumed, modes_agree, resumes, goes_back, leaves_noting, leaves}
 use Rattle.tz_twin.proofs.Slots.{Quiet, quiet}
 use Rattle.tz_twin.proofs.Faults.{is_own, OwnSome, own_some}
 use Rattle.tz_twin.proofs.Spared.{KeptBy, kept_from, flags_quiet, faulted_kept, faulted_side, is_own_frame, frame_faulted_kept, frame_faulted_side}
@@ -199,10 +199,10 @@ freed_quiet e given =
     quiet_cond e (is_urgent e) (deactivated e urgent) (cond (exists e given) (deactivated e given) e) (deactivated_quiet e urgent)
     (quiet_cond e (exists e given) (deactivated e given) e (deactivated_quiet e given) (quiet e))
 
-unhandled_spared : (c : Core) (e e' : ExceptionsValue) (es process thread dcrs secure : Bool) → es ≡ false → Quiet e e' → Spared c (unhandled e (bits es process thread dcrs secure) c) e e'
-unhandled_spared c e e' true process thread dcrs secure own q = absurd (cc)
-unhandled_spared c e e' false process thread dcrs secure own q = record {
-  kept = λ m n. kept_from c (unhandled e (bits false process thread dcrs secure) c) e e' m n refl refl refl q;
+core_returning_spared : (c : Core) (e e' : ExceptionsValue) (es process thread dcrs secure : Bool) → es ≡ false → Quiet e e' → Spared c (core_returning e (bits es process thread dcrs secure) c) e e'
+core_returning_spared c e e' true process thread dcrs secure own q = absurd (cc)
+core_returning_spared c e e' false process thread dcrs secure own q = record {
+  kept = λ m n. kept_from c (core_returning e (bits false process thread dcrs secure) c) e e' m n refl refl refl q;
   side = λ runs. runs;
 }
 
@@ -212,9 +212,9 @@ leaves_returns profile c e f value is =
     let r = returning_by c.run.side value in
     let free = freed e (slot_returning c r) in
     let own = no_es c.run.side value is in
-    returns_after false c (unhandled e r c) e free f (leaves framed profile c e f value)
-    (λ t. unhandled_spared c e free r.es r.process r.thread r.dcrs r.secure own (freed_quiet e (slot_returning c r)))
-    (leaves_noting_returns profile c.run.side (exc_return_fault c e value) r (unhandled e r c) free f is own (own_noted c e value is))
+    returns_after false c (core_returning e r c) e free f (leaves framed profile c e f value)
+    (λ t. core_returning_spared c e free r.es r.process r.thread r.dcrs r.secure own (freed_quiet e (slot_returning c r)))
+    (leaves_noting_returns profile c.run.side (exc_return_fault c e value) r (core_returning e r c) free f is own (own_noted c e value is))
 
 -- a return of Non-secure code writes nothing
 pub leaves_still : (profile : Profile) (c : Core) (e : ExceptionsValue) (f : Framed) (value : ℕ) → c.run.side ≡ NonSecure → (leaves framed profile c e f value).held ≡ f

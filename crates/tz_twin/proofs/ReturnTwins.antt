@@ -26,7 +26,7 @@ use Rattle.tz_frames.specs.declared.leaving.Refusal.TheVariants as refusals
 use Rattle.tz_frames.specs.Status.{Raised, faulted, frame_faulted}
 use Rattle.tz_frames.specs.Stack.{word_answer, word_read, with_lowest_word, reads, basic_read, popped_basic}
 use Rattle.tz_frames.specs.Enter.{Done, tries}
-use Rattle.tz_frames.specs.Leave.{returning_by, slot_returning, exc_return_fault, freed, unhandled, chaining, Leaving, left_of, leaving_by, chained, chained_raised, returns_privileged, return_sp, with_basic, unstacked, resumed, modes_agree, resumes, goes_back, leaves_noting, leaves}
+use Rattle.tz_frames.specs.Leave.{returning_by, slot_returning, exc_return_fault, freed, core_returning, chaining, Leaving, left_of, leaving_by, chained, chained_raised, returns_privileged, return_sp, with_basic, unstacked, resumed, modes_agree, resumes, goes_back, leaves_noting, leaves}
 use Rattle.tz_twin.proofs.Bytes.{value_same}
 use Rattle.tz_twin.proofs.Split.{Open, Rest, open_of, open_map, join, Same}
 use Rattle.tz_twin.proofs.Faults.{OwnSome}
@@ -222,7 +222,7 @@ noting_both profile None o x x' k g g' process thread dcrs secure own same = goe
 
 -- the state in which the exception that returns is no longer active
 abbrev freed_in : State → Returning → State
-freed_in s r = record s { core = unhandled s.exceptions r s.core; exceptions = freed s.exceptions (slot_returning s.core r) }
+freed_in s r = record s { core = core_returning s.exceptions r s.core; exceptions = freed s.exceptions (slot_returning s.core r) }
 
 -- a return of Non-secure code in twins
 pub leaves_twins : (profile : Profile) (o : Open) (x x' : Rest) (k : Ground) (g g' : Guise) (value : ℕ) → Same o x x'

@@ -127,7 +127,7 @@ impl History {
     }
 
     /// Makes one step at which these events are due, and tells what it did. Where all places have notes, the oldest
-    /// goes. It takes no memory.
+    /// goes. It takes no memory. Tests are its users; the program makes steps by `step_into`.
     pub fn step(&mut self, due: &[ScriptEvent]) -> Report
         ensures after { self.new ≡ stepped self.old due.now }
         ensures report { result ≡ (step self.old.now due.now).report }
@@ -152,13 +152,14 @@ impl History {
         true
     }
 
-    /// How many steps can be taken back.
+    /// How many steps can be taken back. Tests are its users.
     pub fn depth(&self) -> u32
         ensures { result ≡ length self.now.before }
     {
         self.count as u32
     }
 
+    /// The machine, as its last step or the last one taken back has left it.
     pub fn machine(&self) -> &Machine
         ensures { result.now ≡ self.now.now }
     {

@@ -6,5 +6,5 @@ use Rattle.tz_excret.proofs.leaving.leave.Goals as goal
 pub returns-clause-does : goal.returns-clause-does
 returns-clause-does g c =
     leaves_told g.P.Frames.answer c.args.profile c.args.core.now c.args.exceptions.now (g.P.Frames.held c.args.port.now) c.args.value _ _ _ _ _
-    c.returning_by-returning.ensures c.exc_return_fault-noted.ensures c.slot_returning-slot.ensures c.unhandle.ensures c.free.ensures
+    c.returning_by-returning.ensures c.exc_return_fault-noted.ensures c.slot_returning-slot.ensures c.return_core.ensures c.free.ensures
     ∙ grind (arith, common_steps)
