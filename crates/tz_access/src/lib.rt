@@ -31,4 +31,6 @@ pub use frames::BusFrames;
 pub use looking::Kept;
 pub use noted_units::Units;
 pub use place::Place;
+pub use span::last_of;
+pub use units::is_private;
 pub use written::{Was, Written};

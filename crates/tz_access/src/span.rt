@@ -5,7 +5,7 @@ ghost use Rattle.tz_access.specs.Checks.{last_of};
 
 use tz_model::Size;
 
-/// The last byte of an access.
+/// The address of the last byte of an access, modulo 2^32.
 pub fn last_of(size: Size, addr: u32) -> u32
     ensures { result ≡ last_of size addr }
 {

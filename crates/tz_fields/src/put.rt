@@ -3,7 +3,6 @@
 
 ghost use Rattle.std.specs.Prelude.{◌≡◌, ◌<◌};
 ghost use Rattle.tz_regs.specs.Special.{apsr_from};
-ghost use Rattle.tz_state.specs.Slots.{is_always_enabled};
 ghost use Rattle.tz_fields.specs.declared.fields.RunningField.TheVariants as running;
 ghost use Rattle.tz_fields.specs.declared.fields.BankedField.TheVariants as banked;
 ghost use Rattle.tz_fields.specs.declared.fields.SharedField.TheVariants as shared;
@@ -14,10 +13,10 @@ use crate::from_words::ReadState;
 use crate::words::{channel_word, slot_word, word_of};
 use tz_frames::return_bits::{RETPSR_IT_HIGH, RETPSR_IT_LOW, RETPSR_T};
 use tz_model::{Channel, Side, Size, Sleep};
-use tz_nvic::FIRST_INTERRUPT_PLACE;
+use tz_nvic::{FIRST_INTERRUPT_PLACE, is_always_enabled};
 use tz_regs::register_bits::{APSR_C, APSR_N, APSR_Q, APSR_V, APSR_Z};
 use tz_regs::{Apsr, Registers};
-use tz_state::exception::{HARD_FAULT, NMI, PEND_SV, SV_CALL, SYS_TICK};
+use tz_state::exception::{HARD_FAULT, NMI};
 use tz_state::mover_bits::MOVER_CTRL_BITS;
 use tz_state::systick_bits::SYST_CSR_BITS;
 use tz_state::{MoverRegister, MpuRegister, SauRegister, SlotState};
@@ -65,17 +64,6 @@ fn put_psr(registers: &mut Registers, word: u32)
     registers.it = (word / RETPSR_IT_LOW % 4 + 4 * (word / RETPSR_IT_HIGH % 64)) as u8;
     registers.t = word / RETPSR_T % 2 == 1;
     registers.ipsr = (word % 0x200) as u16;
-}
-
-/// Whether an exception of this number can't be disabled.
-fn is_always_enabled(number: u16) -> bool
-    ensures { result ≡ is_always_enabled number }
-{
-    number == NMI
-        || number == HARD_FAULT
-        || number == SV_CALL
-        || number == PEND_SV
-        || number == SYS_TICK
 }
 
 /// The channel with a register written: with all bits that it has.

@@ -9,13 +9,12 @@ ghost use Rattle.tz_regs.specs.Banks.{stacks_of};
 ghost use Rattle.tz_state.specs.Access.{is_private};
 ghost use Rattle.tz_state.specs.Memory.{every};
 ghost use Rattle.tz_frames.specs.Stack.{both_frames_size};
-ghost use Rattle.tz_access.specs.Checks.{last_of};
 ghost use Rattle.tz_twin.specs.Writing.{is_within, is_framed, are_beside, are_in_memory, channel_stores};
 ghost use Rattle.tz_iso.specs.Marks.{is_among, marks_block, marks_byte, Grows, Notes, NotesMoves};
 
 use arrayvec::ArrayVec;
+use tz_access::{is_private, last_of};
 use tz_core::{Machine, Stores};
-use tz_model::address_map::{PRIVATE_FIRST, PRIVATE_LAST};
 use tz_model::{Channel, Side, Size, Store};
 use tz_regs::{Core, Stacks};
 
@@ -34,24 +33,6 @@ pub struct Marks {
     pub exceptions: bool,
     /// The bytes of these blocks.
     pub ranges: ArrayVec<Blocks, 16>,
-}
-
-/// Whether an address is in the private peripheral space.
-fn is_private(addr: u32) -> bool
-    ensures { result ≡ is_private addr }
-{
-    addr >= PRIVATE_FIRST && addr <= PRIVATE_LAST
-}
-
-/// The last byte of an access.
-fn last_of(size: Size, addr: u32) -> u32
-    ensures { result ≡ last_of size addr }
-{
-    match size {
-        Size::Byte => addr,
-        Size::Half => addr.wrapping_add(1),
-        Size::Word => addr.wrapping_add(3),
-    }
 }
 
 /// Whether a block is among others, or beside them.

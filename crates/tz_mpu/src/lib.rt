@@ -10,4 +10,4 @@ mod permission;
 mod register;
 
 pub use mpu::{Mpu, MpuFault};
-pub use permission::Permitted;
+pub use permission::{Permitted, has_pxn};

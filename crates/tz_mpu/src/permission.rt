@@ -48,8 +48,8 @@ fn may_write(bounds: &Bounds, privileged: bool) -> bool
     may_read(bounds, privileged) && bounds.rbar / MPU_RBAR_AP_1 % 2 == 0
 }
 
-/// RLAR.PXN, which the profile `V80` doesn't have.
-fn has_pxn(profile: Profile, bounds: &Bounds) -> bool
+/// Whether a region keeps privileged code from running: RLAR.PXN, which the profile `V80` doesn't have.
+pub fn has_pxn(profile: Profile, bounds: &Bounds) -> bool
     ensures { result ≡ has_pxn profile bounds.now }
 {
     match profile {

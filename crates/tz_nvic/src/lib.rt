@@ -21,6 +21,6 @@ mod tick;
 
 pub use exceptions::Exceptions;
 pub use laws::{chosen_comes_first, places_tell_slots};
-pub use place::{FIRST_INTERRUPT_PLACE, PLACES};
+pub use place::{FIRST_INTERRUPT_PLACE, PLACES, is_always_enabled};
 pub use tz_ready::Steps;
 pub use tz_state::{SlotState, Timer};

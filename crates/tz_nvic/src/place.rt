@@ -46,7 +46,7 @@ pub(crate) fn is_system(number: u16) -> bool
 }
 
 /// Whether an exception of this number can't be disabled.
-pub(crate) fn is_always_enabled(number: u16) -> bool
+pub fn is_always_enabled(number: u16) -> bool
     ensures { result ≡ is_always_enabled number }
 {
     number == NMI

@@ -2,7 +2,6 @@
 
 ghost use Rattle.std.specs.Prelude.{◌≡◌, ◌≤◌, ◌<◌, ◌+◌, ◌++◌, length};
 ghost use Rattle.arrayvec.specs.ArrayString.{array_string_len};
-ghost use Rattle.tz_state.specs.Protection.{has_pxn};
 ghost use Rattle.tz_show.specs.Units.{timer_rows, timers_text, span_text, sau_words, sau_line, sau_region_text, mpu_words, mpu_line, mpu_region_text, sau_text, mpu_text, side_mpu_text, mpus_text};
 ghost use Rattle.tz_show.specs.Rows.{texts_below};
 
@@ -10,10 +9,10 @@ use crate::bits::BitNames;
 use crate::rows::{Text, push_pair, push_row, push_where};
 use tz_access::Bus;
 use tz_model::{Profile, Side};
-use tz_mpu::Mpu;
+use tz_mpu::{Mpu, has_pxn};
 use tz_nvic::{Exceptions, Timer};
 use tz_sau::Sau;
-use tz_state::unit_bits::{MPU_RBAR_AP_0, MPU_RBAR_AP_1, MPU_RLAR_PXN, SAU_RLAR_NSC};
+use tz_state::unit_bits::{MPU_RBAR_AP_0, MPU_RBAR_AP_1, SAU_RLAR_NSC};
 use tz_state::{Bounds, MpuRegister, SauRegister};
 use tz_syntax::{push_decimal, push_hex_word};
 
@@ -133,16 +132,6 @@ pub fn push_sau(text: &mut Text, bus: &Bus)
     ensures len { array_string_len text.new ≤ array_string_len text.old + 492 }
 {
     push_sau_unit(text, bus.sau());
-}
-
-/// Whether a region of an MPU keeps privileged code from running.
-fn has_pxn(profile: Profile, bounds: &Bounds) -> bool
-    ensures { result ≡ has_pxn profile bounds.now }
-{
-    match profile {
-        Profile::V80 => false,
-        Profile::V81 => bounds.rlar / MPU_RLAR_PXN % 2 == 1,
-    }
 }
 
 /// What an MPU permits in a region.
