@@ -32,5 +32,6 @@ pub use looking::Kept;
 pub use noted_units::Units;
 pub use place::Place;
 pub use span::last_of;
+pub use tz_state::{Kind, Request};
 pub use units::is_private;
 pub use written::{Was, Written};

@@ -13,4 +13,5 @@ mod registers;
 mod scan;
 mod unit;
 
+pub use tz_state::Attribute;
 pub use unit::Sau;

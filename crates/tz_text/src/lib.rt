@@ -21,3 +21,4 @@ pub use disassembly::{disassemble, runs_are_maximal};
 pub use lines::{Lines, line};
 pub use spelled::decoded_is_spelled;
 pub use tz_model::View;
+pub use tz_syntax::instruction_text;
