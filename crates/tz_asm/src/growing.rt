@@ -64,6 +64,7 @@ impl Growing {
         Ok(())
     }
 
+    /// The segments that the lines have filled, the last one finished.
     pub fn segments(mut self, alloc: Global) -> Result<Vec<Segment>, AllocError>
         ensures { IfOk result (λ v. v.items ≡ finished (growing_view self)) }
     {

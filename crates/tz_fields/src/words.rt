@@ -272,6 +272,7 @@ pub fn word_count(board: &Board) -> u32
 
 // ---- values as numbers
 
+/// The number of a side in a word: 0 for Secure.
 pub(crate) fn side_number(side: Side) -> u32
     ensures { result ≡ side_number side }
 {

@@ -35,6 +35,7 @@ pub(crate) fn load<P: Port>(
     }
 }
 
+/// Stores one register of a size at an address; `user` asks as unprivileged code.
 #[tactic(auto, unfolding(tz_model::specs::Ports::answers))]
 pub(crate) fn store<P: Port>(
     core: &mut Core,

@@ -217,6 +217,8 @@ fn push_control(text: &mut Text, status: &Status)
     push_row(text, "  CCR_NS ", status.ns.ccr | CCR_RES1, BitNames::Ccr);
 }
 
+/// The part of the page on exceptions: VTOR and CCR, how priorities are grouped, and each exception of which there is
+/// something to say.
 #[tactic(auto, unfolding(crate::specs::Exceptions::exceptions_text))]
 pub fn push_exceptions(text: &mut Text, status: &Status, exceptions: &Exceptions)
     requires { array_string_len text.old + 33463 ≤ 48000 }

@@ -37,6 +37,7 @@ fn push_others(text: &mut Text, status: &Status)
     push_row(text, "  SFAR     ", status.security.sfar, BitNames::Plain);
 }
 
+/// The part of the page on fault registers, bit by bit.
 #[tactic(auto, unfolding(crate::specs::Faults::faults_text))]
 pub fn push_faults(text: &mut Text, status: &Status)
     requires { array_string_len text.old + 932 ≤ 48000 }

@@ -110,6 +110,7 @@ fn push_stack_words(text: &mut Text, bus: &Bus, sp: u32)
     }
 }
 
+/// The part of the page on the stack in use: the words at its pointer.
 #[tactic(auto, unfolding(crate::specs::Frames::stack_text))]
 pub fn push_stack(text: &mut Text, core: &Core, bus: &Bus)
     requires { array_string_len text.old + 182 ≤ 48000 }
@@ -166,6 +167,7 @@ fn push_frame_by(text: &mut Text, core: &Core, bus: &Bus, returning: &Returning)
     }
 }
 
+/// The part of the page on the frame that EXC_RETURN in LR leads to, where LR has one.
 #[tactic(auto, unfolding(crate::specs::Frames::frame_text))]
 pub fn push_frame(text: &mut Text, core: &Core, bus: &Bus)
     requires { array_string_len text.old + 850 ≤ 48000 }

@@ -89,6 +89,7 @@ fn push_side_masks(
     push_faultmask(text, exceptions, side, masks.faultmask, faultmask);
 }
 
+/// The part of the page on masks and priorities.
 #[tactic(auto, unfolding(crate::specs::Masks::masks_text))]
 pub fn push_masks(text: &mut Text, exceptions: &Exceptions, masks: &Masks)
     requires { array_string_len text.old + 284 ≤ 48000 }

@@ -175,6 +175,7 @@ fn push_status(text: &mut Text, registers: &Registers)
     text.push_str("\n");
 }
 
+/// The part of the page on the core's registers.
 #[tactic(auto, unfolding(crate::specs::Registers::registers_text))]
 pub fn push_registers(text: &mut Text, core: &Core)
     requires { array_string_len text.old + 520 ≤ 48000 }
@@ -210,6 +211,7 @@ fn push_control(text: &mut Text, head: &str, stacks: &Stacks)
     push_row(text, head, stacks.control(), BitNames::Control);
 }
 
+/// The part of the page on stack pointers, limits and CONTROL.
 #[tactic(auto, unfolding(crate::specs::Registers::stacks_text))]
 pub fn push_stacks(text: &mut Text, core: &Core)
     requires { array_string_len text.old + 360 ≤ 48000 }

@@ -29,6 +29,7 @@ fn push_timer_rows(text: &mut Text, s: Timer, ns: Timer)
     push_pair(text, "  SYST_RVR_NS ", ns.rvr, "  SYST_CVR_NS ", ns.cvr);
 }
 
+/// The part of the page on both SysTicks.
 #[tactic(auto, unfolding(crate::specs::Units::timers_text))]
 pub fn push_timers(text: &mut Text, exceptions: &Exceptions)
     requires { array_string_len text.old + 273 ≤ 48000 }
@@ -125,6 +126,7 @@ fn push_sau_unit(text: &mut Text, sau: &Sau)
     push_sau_regions(text, sau);
 }
 
+/// The part of the page on the SAU.
 #[tactic(auto, unfolding(crate::specs::Units::sau_text))]
 pub fn push_sau(text: &mut Text, bus: &Bus)
     requires { array_string_len text.old + 492 ≤ 48000 }
@@ -214,6 +216,7 @@ fn push_side_mpu(text: &mut Text, bus: &Bus, side: Side, head: &str)
     push_mpu(text, bus.board().profile, bus.mpu(side), head);
 }
 
+/// The part of the page on both MPUs.
 #[tactic(auto, unfolding(crate::specs::Units::mpus_text))]
 pub fn push_mpus(text: &mut Text, bus: &Bus)
     requires { array_string_len text.old + 1907 ≤ 48000 }
