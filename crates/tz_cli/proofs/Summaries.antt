@@ -8,7 +8,7 @@ use Rattle.tz_iso.specs.declared.answer.What.{What}
 use Rattle.tz_iso.specs.Runs.{PairValue, started_pair, difference}
 use Rattle.tz_board.specs.Demo.{demo}
 use Rattle.tz_board.specs.Scripts.{Timed}
-use Rattle.tz_run.specs.declared.tallies.Tally.{Tally}
+use Rattle.tz_run.specs.declared.tally.Tally.{Tally}
 use Rattle.tz_run.specs.Events.{events_of}
 use Rattle.tz_run.specs.Generated.{first_image, second_image, nonsecure_image, generated_events}
 use Rattle.tz_run.specs.Tallies.{tally_of}

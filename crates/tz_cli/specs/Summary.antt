@@ -5,7 +5,7 @@ use Rattle.tz_sem.specs.Boot.{boot}
 use Rattle.tz_iso.specs.Runs.{difference}
 use Rattle.tz_board.specs.Demo.{demo}
 use Rattle.tz_board.specs.Scripts.{Timed, due_at}
-use Rattle.tz_run.specs.declared.tallies.Tally.{Tally}
+use Rattle.tz_run.specs.declared.tally.Tally.{Tally}
 use Rattle.tz_run.specs.Events.{events_of}
 use Rattle.tz_run.specs.Generated.{first_image, second_image, nonsecure_image, generated_events}
 use Rattle.tz_run.specs.Tallies.{tally_of}

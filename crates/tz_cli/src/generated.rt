@@ -24,7 +24,7 @@ use tz_files::{put_lines, put_status, refuse};
 use tz_iso::{Pair, What};
 use tz_model::{Shelf, Sink};
 use tz_ready::Steps;
-use tz_run::{Tally, job, tally};
+use tz_run::{Tally, make_job, make_tally};
 use tz_syntax::push_decimal;
 use tz_words::GenWords;
 
@@ -89,11 +89,11 @@ fn gen_made<O: Sink>(alloc: Global, words: &GenWords, out: &mut O) -> Result<u8,
     ensures quiet { IfErr result (λ _. Gains (O.written out.old) (O.written out.new) []) }
 {
     let board = demo_board(alloc)?;
-    let job = job(alloc, words.seed, words.steps)?;
+    let job = make_job(alloc, words.seed, words.steps)?;
     let mut machine = Machine::new(alloc, &board, &job.first, &job.nonsecure)?;
     let mut pair = Pair::new(alloc, &board, &job.first, &job.second, &job.nonsecure)?;
     let events = count_due(&job.script, words.steps);
-    let tally = tally(&mut machine, &job.script, words.steps);
+    let tally = make_tally(&mut machine, &job.script, words.steps);
     let found = find_difference(&mut pair, &job.script, words.steps);
     let text = summary_text(words, events, &tally, found);
     Ok(put_status(put_lines(text.as_str().as_bytes(), out)))

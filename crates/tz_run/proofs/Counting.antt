@@ -7,7 +7,7 @@ use Rattle.tz_state.specs.State.{State}
 use Rattle.tz_sem.specs.Run.{Events, state_after}
 use Rattle.tz_sem.specs.Step.{Stepped, step}
 use Rattle.tz_text.specs.Line.{is_hidden}
-use Rattle.tz_run.specs.declared.tallies.Tally.{Tally}
+use Rattle.tz_run.specs.declared.tally.Tally.{Tally}
 use Rattle.tz_run.specs.Tallies.{shows_taken, shows_ran, reports_of, tally_in, tally_of}
 
 -- after k of n steps from s0 the machine is at s: `done` are the reports so far, and with those of the steps that are

@@ -7,7 +7,7 @@ use Rattle.tz_state.specs.State.{State}
 use Rattle.tz_sem.specs.Run.{Events}
 use Rattle.tz_sem.specs.Step.{step}
 use Rattle.tz_text.specs.Line.{is_hidden}
-use Rattle.tz_run.specs.declared.tallies.Tally.{Tally}
+use Rattle.tz_run.specs.declared.tally.Tally.{Tally}
 
 -- ---- one step
 

@@ -6,7 +6,7 @@ use std::alloc::Global;
 use std::test::Fail;
 use tz_asm::assemble;
 use tz_model::Image;
-use tz_run::job;
+use tz_run::make_job;
 
 /// A Secure image up to its operation.
 static FRONT: &str = ".org 0x10000000
@@ -110,7 +110,7 @@ fn images_of_jobs(rt: HostRuntime) -> Result<(), Fail> {
     let nonsecure = assemble(alloc, NONSECURE.as_bytes())?;
     for &(seed, first, second) in JOBS.iter() {
         assert!(rt; first.len() < 100 && second.len() < 100);
-        let job = job(alloc, seed, 1000)?;
+        let job = make_job(alloc, seed, 1000)?;
         assert!(rt; are_same(&job.first, &secure(alloc, "eors", first)?));
         assert!(rt; are_same(&job.second, &secure(alloc, "orrs", second)?));
         assert!(rt; are_same(&job.nonsecure, &nonsecure));

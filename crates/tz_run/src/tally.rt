@@ -59,7 +59,7 @@ fn with_step(tally: Tally, report: &Report) -> Tally
 
 /// Makes `steps` steps, at each of which, counted from 0, its events of the script are due, and tells how many of
 /// their lines in view `ns` show Secure state, an exception and an instruction.
-pub fn tally(machine: &mut Machine, script: &Script, steps: u32) -> Tally
+pub fn make_tally(machine: &mut Machine, script: &Script, steps: u32) -> Tally
     ensures state { machine.new ≡ state_after (events_of script.now) 0 machine.old steps }
     ensures tally { result ≡ tally_of (events_of script.now) 0 machine.old steps }
 {

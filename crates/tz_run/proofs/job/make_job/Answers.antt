@@ -1,7 +1,7 @@
 use Rattle.std.proofs.Common.{◌∙◌, sym, subst, List}
 use Rattle.tz_board.specs.Scripts.{IsScript, Timed}
 use Rattle.tz_run.proofs.Drawing.{generated_script}
-use Rattle.tz_run.proofs.jobs.job.Goals as goal
+use Rattle.tz_run.proofs.job.make_job.Goals as goal
 
 pub of-requires : goal.of-requires
 of-requires c =

@@ -2,7 +2,7 @@ use Rattle.std.proofs.Common.{◌≡◌, ℕ, ◌<◌, ◌≤◌, []}
 use Rattle.tz_board.specs.Scripts.{due_at}
 use Rattle.tz_run.specs.Events.{events_of}
 use Rattle.tz_run.proofs.Counting.{Tallied}
-use Rattle.tz_run.proofs.tallies.tally_counted.Given as goal
+use Rattle.tz_run.proofs.tally.tally_counted.Given as goal
 
 abbrev pub invariant-loop-step : goal.invariant-loop-step
 invariant-loop-step g l = record {

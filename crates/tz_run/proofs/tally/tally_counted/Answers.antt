@@ -2,7 +2,7 @@ use Rattle.std.proofs.Common.{◌≡◌, subst, List, arith}
 use Rattle.tz_model.specs.declared.report.ScriptEvent.{ScriptEvent}
 use Rattle.tz_sem.specs.Step.{step}
 use Rattle.tz_run.proofs.Counting.{tallied_start, tallied_step, tally_at_end, tallied_state}
-use Rattle.tz_run.proofs.tallies.tally_counted.Goals as goal
+use Rattle.tz_run.proofs.tally.tally_counted.Goals as goal
 
 pub loop-step-init : goal.loop-step-init
 loop-step-init g c = record { so_far = tallied_start _ _ _; none = λ k after before. absurd (omega (arith, before)) }

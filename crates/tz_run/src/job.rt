@@ -57,7 +57,7 @@ fn generated_events(
 
 /// The job of a number: two Secure images with a key each, of which Non-secure code is shown nothing, the Non-secure
 /// image that calls them, and a script with an event now and then before step `steps`. Fails for want of memory alone.
-pub fn job(alloc: Global, seed: u32, steps: u32) -> Result<Job, AllocError>
+pub fn make_job(alloc: Global, seed: u32, steps: u32) -> Result<Job, AllocError>
     ensures first { IfOk result (λ j. j.first ≡ first_image seed) }
     ensures second { IfOk result (λ j. j.second ≡ second_image seed) }
     ensures nonsecure { IfOk result (λ j. j.nonsecure ≡ nonsecure_image) }

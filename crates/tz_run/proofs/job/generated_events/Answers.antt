@@ -1,7 +1,7 @@
 use Rattle.std.proofs.Common.{◌∙◌, ◌-◌, ap, arith}
 use Rattle.tz_run.proofs.Drawing.{drawn_start, drawn_more, drawn_end, drawn_all}
 use Rattle.tz_run.specs.Generated.{stirred}
-use Rattle.tz_run.proofs.jobs.generated_events.Goals as goal
+use Rattle.tz_run.proofs.job.generated_events.Goals as goal
 
 pub loop-event-init : goal.loop-event-init
 loop-event-init c = drawn_start c.args.seed c.args.steps _ _ c.new-events.ensures.items (c.stirred-number.ensures ∙ ap stirred c.stirred.ensures)
