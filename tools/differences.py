@@ -35,8 +35,8 @@ ALONE = {
     "preempt": Told(
         "a Non-secure exception interrupts one run and not the other: Non-secure code sees when its interrupt comes",
         "a mask, or the priority of a Secure handler, that is set for some secrets alone or after another number of "
-        "steps",
-        "set and restore masks at the same steps, whatever the secret is",
+        "steps; or an interrupt of the Non-secure side that Secure code pends for some secrets alone",
+        "set and restore masks, and pend interrupts, at the same steps, whatever the secret is",
     ),
     "refused": Told(
         "the core refuses a step of Non-secure code in one run and not in the other",
@@ -52,7 +52,7 @@ SCRATCH = Told(
     "C: give the function the attribute cmse_nonsecure_entry and compile it by -mcmse. Assembly: clear R0 to R3 and "
     "R12, as far as they aren't the answer, before bxns. Where it is the answer, compare two secrets that have the "
     "same one; where each secret has its own, as of a cipher, build both images with 0 in its place. Read an address "
-    "of the caller's once, and look at it before it is used",
+    "or an index of the caller's once, and look at it before it is used",
 )
 # Of such a register at a call of Non-secure code.
 PASSED = Told(

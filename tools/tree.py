@@ -3,6 +3,7 @@
 import hashlib
 import os
 import subprocess
+import sys
 
 PROGRAM = "tz_main"
 PARTS = ("src", "specs", "proofs")
@@ -51,8 +52,8 @@ def told_of_sources(top):
 
 
 def program_of_tree():
-    """The path of the program that ./tzrun runs, which is built first where it isn't there."""
+    """The path of the program that ./tzrun runs, which is built first where it isn't there. Where it can't be built the script ends."""
     run = subprocess.run([os.path.join(TOP, "tools", "program")], stdout=subprocess.PIPE, check=False)
     if run.returncode != 0:
-        raise OSError("the program can't be built")
+        sys.exit("there is no program to try")
     return os.fsdecode(run.stdout[:-1])

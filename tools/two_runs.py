@@ -27,10 +27,25 @@ SECURE = b"s"
 EXC_RETURN = 0xFF
 FAULTS = (b"3", b"4", b"5", b"6", b"7")
 # Which lines of the view full say why an exception is taken.
-CAUSES = (b"    fault ", b"    HardFault ", b"    refused: ", b"    interrupted ")
+CAUSES = (
+    b"    fault ",
+    b"    HardFault ",
+    b"    refused: ",
+    b"    interrupted ",
+    b"    frame not written: ",
+    b"    additional frame not written: ",
+    b"    vector of ",
+)
+# An IT instruction, with its conditions; and of an instruction its place, its code and its mnemonic.
+CONDITIONS = re.compile(rb"i(t[te]{0,3})")
+INSTRUCTION = re.compile(rb"\d+ [sn] N ([0-9a-f]{8}) ([0-9a-f]+) (\S+)")
 REGISTER = re.compile(rb" (r\d+|lr|apsr)=([0-9a-f]{8})")
 STORE = re.compile(rb" (\[([0-9a-f]{8})\]\.([124])=([0-9a-f]{8}))")
 BRANCH = re.compile(rb" (blxns|bxns) (r\d+|lr)\b")
+
+# A line that may have written what is looked for, the registers as they were known behind it, and whether the IT block
+# in which it stands may have skipped it.
+Written = collections.namedtuple("Written", "line known may_be_skipped")
 
 
 class Ended(Exception):
@@ -74,6 +89,11 @@ def side_of(line):
 def kind_of_line(line):
     """`N`, `X`, `Z` or `L`."""
     return line.split(b" ", 3)[2].strip()
+
+
+def is_gate(line):
+    """Whether SG ran."""
+    return line.split()[5:6] == [b"sg"]
 
 
 def is_fault(line):
@@ -125,6 +145,8 @@ class Run:
         self.keeps_bytes = what == "bytes"
         # LR as Non-secure code left it, and its last line; by register, the last line of Secure code that changed it.
         self.lr, self.outside, self.secure = None, None, {}
+        # By the place of an instruction that an IT block has next, how many of its instructions are left from there on.
+        self.blocks = {}
         self.forget()
 
     def forget(self):
@@ -144,11 +166,30 @@ class Run:
             self.outside = None
         for name in self.note_registers(line):
             self.secure[name] = line
-        if self.writer and self.writer.search(line):
-            self.writes += 1
-            self.wrote = [*self.wrote, (line, self.known())][-MOST_TOLD:]
+        if self.writer:
+            self.note_written(line)
         if self.keeps_bytes:
             self.note_stores(line)
+
+    def note_written(self, line):
+        """Keeps a line that may have written what is looked for. One that shows a change wasn't skipped."""
+        is_in_block = self.is_in_block(line)
+        if self.writer.search(line):
+            may_be_skipped = is_in_block and not REGISTER.search(line) and not STORE.search(line)
+            self.writes += 1
+            self.wrote = [*self.wrote, Written(line, self.known(), may_be_skipped)][-MOST_TOLD:]
+
+    def is_in_block(self, line):
+        """Whether an instruction stands in an IT block, as the lines before it say. An interrupt may come between."""
+        found = INSTRUCTION.match(line)
+        if not found:
+            return False
+        place, conditions = int(found[1], 16), CONDITIONS.fullmatch(found[3])
+        left = self.blocks.pop(place, 0)
+        more = len(conditions[1]) if conditions else left - 1
+        if more > 0:
+            self.blocks[place + len(found[2]) // 2] = more
+        return left > 0
 
     def note_registers(self, line):
         """The names of the registers that a line says are changed. An entry may clear some, and no line says which."""
@@ -279,8 +320,8 @@ class Agreement:
         # Of the steps that differ, those behind the first of Non-secure code.
         self.differing_later, self.is_begun = 0, False
         self.first = None
-        # The first fault of each run.
-        self.faults = [None, None]
+        # The first fault of each run, the last one, and how many there are.
+        self.faults, self.last_faults, self.fault_counts = [None, None], [None, None], [0, 0]
 
     def read(self, steps, count):
         """Reads the steps, each with the line of both runs in view all and of the first in view ns."""
@@ -297,8 +338,8 @@ class Agreement:
                 return
             was_secure, last, was_hidden = is_secure, line, seen.endswith(b" S\n")
             for run, its in enumerate((line, other)):
-                if self.faults[run] is None and is_fault(its):
-                    self.faults[run] = its
+                if is_fault(its):
+                    self.note_fault(run, its)
             if is_secure:
                 self.secure += 1
                 self.run.note(line)
@@ -310,3 +351,9 @@ class Agreement:
                 self.differing += 1
                 self.differing_later += self.is_begun
                 self.first = self.first or (line, other)
+
+    def note_fault(self, run, line):
+        """Keeps the first fault of a run, counts all, and keeps the last."""
+        self.faults[run] = self.faults[run] or line
+        self.last_faults[run] = line
+        self.fault_counts[run] += 1
