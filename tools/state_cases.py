@@ -94,51 +94,65 @@ def page_in(run):
     return first.decode(), run.out[at:] if at >= 0 else b""
 
 
-def states(cases, lists):
-    shelf = {}
-    given = States(whole(lists.pop("board")), words_of_rows(lists.pop("words")))
+class StateJobs:
+    """What is asked for the lines of cases/states.txt, of states by their names and over a shelf of files."""
 
-    def state(_, name, board, images, values):
-        given.add(name, board, b"".join(shelf[os.fsdecode(it)] for it in images), values)
+    def __init__(self, given, shelf):
+        self.given, self.shelf = given, shelf
+
+    def state(self, _, name, board, images, values):
+        self.given.add(name, board, b"".join(self.shelf[os.fsdecode(it)] for it in images), values)
         return []
 
-    def snap(place, name, line):
-        board, file = given.files(name)
-        return [Job({**shelf, "board": board}, line, [Check(place, WRITTEN, state_in(file))])]
+    def snap(self, place, name, line):
+        board, file = self.given.files(name)
+        return [Job({**self.shelf, "board": board}, line, [Check(place, WRITTEN, state_in(file))])]
 
-    def size(place, wanted, line):
-        return [Job(shelf, line, [Check(place, wanted, length)])]
+    def size(self, place, wanted, line):
+        return [Job(self.shelf, line, [Check(place, wanted, length)])]
 
-    def read(place, wanted, board, file):
+    def read(self, place, wanted, board, file):
         words = ["tzrun", "resume", "board", FILE, "@none", "0"]
         return Job({"board": board, FILE: file}, words, [Check(place, wanted, accepted)])
 
-    def valued(place, wanted, name, number, values):
-        return [read(f"{place} ({it})", wanted, *given.files(name, {number: int(it, 16)})) for it in values.split()]
+    def valued(self, place, wanted, name, number, values):
+        words = values.split()
+        return [self.read(f"{place} ({it})", wanted, *self.given.files(name, {number: int(it, 16)})) for it in words]
 
-    def cut(place, wanted, name, values, count):
-        board, file = given.files(name, values)
-        return [read(place, wanted, board, file[: len(file) - max(count, 0)] + bytes(max(-count, 0)))]
+    def cut(self, place, wanted, name, values, count):
+        board, file = self.given.files(name, values)
+        return [self.read(place, wanted, board, file[: len(file) - max(count, 0)] + bytes(max(-count, 0)))]
 
-    def long(place, status, count, told):
+    def cut_at(self, name):
+        board, _ = self.given.files(name)
+        return lambda place, wanted, data: [self.read(place, wanted, board, data)]
+
+    def long(self, place, status, count, told):
         return answered({FILE: b"\n" * count}, place, status, ["tzrun", "resume", "@demo", FILE, "@none", "0"], told)
 
-    def resumed(place, status, name, values, line, told):
-        board, file = given.files(name, values)
-        return answered({**shelf, "board": board, "state": file}, place, status, line, told)
+    def over_state(self, name, values):
+        """The shelf, with a state and its board."""
+        board, file = self.given.files(name, values)
+        return {**self.shelf, "board": board, "state": file}
 
-    def shown(place, first, name, values, line, memory):
-        board, file = given.files(name, values)
-        return [Job({**shelf, "board": board, "state": file}, line, [Check(place, (first, memory), page_in)])]
+    def resumed(self, place, status, name, values, line, told):
+        return answered(self.over_state(name, values), place, status, line, told)
 
+    def shown(self, place, first, name, values, line, memory):
+        return [Job(self.over_state(name, values), line, [Check(place, (first, memory), page_in)])]
+
+
+def states(cases, lists):
+    shelf = {}
+    given = States(whole(lists.pop("board")), words_of_rows(lists.pop("words")))
+    jobs = StateJobs(given, shelf)
     files(cases, lists, shelf)
-    cases.each(lists.pop("states"), [text, text, words_of, values_of], state)
-    cases.each(lists.pop("snaps"), [text, words_of], snap)
-    cases.each(lists.pop("sizes"), [text, words_of], size)
-    cases.each(lists.pop("values"), [text, text, decimal, text], valued)
-    cases.each(lists.pop("changes"), [text, text, values_of, int], cut)
-    board, file = given.files("T")
-    cases.cuts(lists.pop("cuts"), file, lambda place, wanted, data: [read(place, wanted, board, data)])
-    cases.each(lists.pop("long"), [decimal, decimal, unescaped], long)
-    cases.each(lists.pop("resumes"), [decimal, text, values_of, words_of, unescaped], resumed)
-    cases.each(lists.pop("pages"), [text, text, values_of, words_of, unescaped], shown)
+    cases.each(lists.pop("states"), [text, text, words_of, values_of], jobs.state)
+    cases.each(lists.pop("snaps"), [text, words_of], jobs.snap)
+    cases.each(lists.pop("sizes"), [text, words_of], jobs.size)
+    cases.each(lists.pop("values"), [text, text, decimal, text], jobs.valued)
+    cases.each(lists.pop("changes"), [text, text, values_of, int], jobs.cut)
+    cases.cuts(lists.pop("cuts"), given.files("T")[1], jobs.cut_at("T"))
+    cases.each(lists.pop("long"), [decimal, decimal, unescaped], jobs.long)
+    cases.each(lists.pop("resumes"), [decimal, text, values_of, words_of, unescaped], jobs.resumed)
+    cases.each(lists.pop("pages"), [text, text, values_of, words_of, unescaped], jobs.shown)
