@@ -1,4 +1,4 @@
-# What ./tzrun asks of the folder release/, read by it: which program is that of the sources.
+# What ./tzrun and tools/install ask of the folder release/, read by them: which program is that of the sources.
 #
 # release/sums says what the released program was made of: a line `kit` and a line `version`; the lines of crates.txt of
 # the crates that the program stands on, and the sha256 of each file of their src, specs and proofs; then the sha256 of

@@ -22,7 +22,7 @@ function isSameBar(chart, trace, row, other, place) {
 }
 
 function functionOf(chart, trace, row) {
-    return trace.kinds[row] === KIND.RAN ? chart.page.symbols.at(trace.pcs[row]) : -1;
+    return trace.kinds[row] === KIND.RAN ? trace.symbols.at(trace.pcs[row]) : -1;
 }
 
 function drawNear(chart, panel, from, to) {
@@ -98,7 +98,7 @@ function labelOf(chart, trace, row, cells) {
     const steps = trace.lastOf(row) - trace.steps[row] + 1;
     const fold = cells === 1 && chart.axis.isFolded && steps > 1 ? ` ×${steps.toLocaleString('en')}` : '';
     if (kind !== KIND.RAN) return KIND_LABELS[kind] + fold;
-    const name = chart.page.symbols.nameOf(trace.pcs[row]).replace(/\+.*/, '');
+    const name = trace.symbols.nameOf(trace.pcs[row]).replace(/\+.*/, '');
     const handler = trace.innermost[row] < 0 ? '' : exceptionName(trace.takenNumbers[trace.innermost[row]]);
     if (name && handler) return `${name} · ${handler}${fold}`;
     if (name || handler) return (name || handler) + fold;

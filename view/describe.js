@@ -101,12 +101,12 @@ function linkOf(link) {
     return meanings.map(([name, isOne, meaning]) => ({ name, value: isOne ? '1' : '0', meaning }));
 }
 
-function placeOf(trace, row, { code, text }, symbols) {
-    return { address: hex(trace.pcs[row]), code, text, name: symbols.nameOf(trace.pcs[row]) };
+function placeOf(trace, row, { code, text }) {
+    return { address: hex(trace.pcs[row]), code, text, name: trace.symbols.nameOf(trace.pcs[row]) };
 }
 
 // All that the page shows of a row.
-function describe(trace, row, symbols) {
+function describe(trace, row) {
     const kind = trace.kinds[row];
     const ran = kind === KIND.RAN ? trace.instruction(row) : null;
     const entry = kind === KIND.TAKEN ? trace.takenAt(trace.takenAtRow(row)) : null;
@@ -116,7 +116,7 @@ function describe(trace, row, symbols) {
         sentence: sentenceOf(trace, row),
         side: kind === KIND.CLOSED ? '' : SIDE_NAMES[trace.sideOf(row)],
         mode: kind === KIND.CLOSED ? '' : modeOf(trace, row),
-        where: ran ? placeOf(trace, row, ran, symbols) : null,
+        where: ran ? placeOf(trace, row, ran) : null,
         changes: ran ? changesOf(trace, row, ran.listed) : [],
         stores: ran ? ran.stores : [],
         entry: entry ? { ...entry, bits: linkOf(entry.link) } : null,

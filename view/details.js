@@ -12,7 +12,7 @@ class Details {
 
     draw() {
         const { page } = this;
-        const facts = page.axis.tracks.map((track) => factsOf(track, track.rows[page.cell], page.symbols));
+        const facts = page.axis.tracks.map((track) => factsOf(track, track.rows[page.cell]));
         if (page.comparison.isMade) markDifferent(facts);
         const parts = page.axis.tracks.map((track, at) => this.section(track, facts[at]));
         this.container.replaceChildren(...parts);
@@ -57,8 +57,8 @@ class Details {
     }
 }
 
-function factsOf(track, row, symbols) {
-    return row === undefined || row === NO_ROW ? null : describe(track.trace, row, symbols);
+function factsOf(track, row) {
+    return row === undefined || row === NO_ROW ? null : describe(track.trace, row);
 }
 
 // Marks the registers whose values are known in both traces and aren't the same.

@@ -6,7 +6,7 @@ const REGISTER_WORDS = new Map([
 ]);
 
 // What a search asks for: a step to go to, or a test of rows. Nothing where the words are empty.
-function readSearch(words, symbols) {
+function readSearch(words, traces) {
     const text = words.trim();
     if (!text) return null;
     if (/^\d{1,7}$/.test(text)) return { step: Number(text) };
@@ -18,8 +18,8 @@ function readSearch(words, symbols) {
     const register = /^([a-z]+\d*)(?:=(?:0x)?([0-9a-f]{1,8}))?$/i.exec(text);
     const number = register && REGISTER_WORDS.get(register[1].toLowerCase());
     if (number !== undefined && number !== null) return { what: text, test: testOfRegister(number, register[2]) };
-    const symbol = symbols.named(text);
-    if (symbol) return { what: `function ${text}`, test: testOfFunction(symbol, symbols) };
+    const isName = traces.some((trace) => trace.symbols.has(text));
+    if (isName) return { what: `function ${text}`, test: testOfFunction(text) };
     return { what: `text "${text}"`, test: testOfText(text) };
 }
 
@@ -43,9 +43,9 @@ function testOfRegister(register, digits) {
 }
 
 // A row that comes into a function from elsewhere.
-function testOfFunction(symbol, symbols) {
-    const isIn = (trace, row) => row >= 0 && trace.kinds[row] === KIND.RAN
-        && symbols.list[symbols.at(trace.pcs[row])] === symbol;
+function testOfFunction(name) {
+    const isIn = ({ kinds, pcs, symbols }, row) => row >= 0 && kinds[row] === KIND.RAN
+        && symbols.name(symbols.at(pcs[row])) === name;
     return (trace, row) => isIn(trace, row) && !isIn(trace, row - 1);
 }
 

@@ -42,11 +42,13 @@ async function inflated(bytes) {
     return new Uint8Array(await new Response(stream).arrayBuffer());
 }
 
-// The files that `tools/picture` put into the page.
+// The files that `tools/picture` put into the page. Names of functions may say of which trace they are.
 async function embeddedFiles() {
     const files = [];
     for (const script of document.querySelectorAll('script[data-name]')) {
-        files.push({ name: script.dataset.name, bytes: await inflated(bytesOfBase64(script.textContent)) });
+        const { name, trace } = script.dataset;
+        const place = trace === undefined ? undefined : Number(trace);
+        files.push({ name, place, bytes: await inflated(bytesOfBase64(script.textContent)) });
     }
     return files;
 }

@@ -102,8 +102,8 @@ class Lines {
     nameOf(track, cell) {
         const row = track.rows[cell];
         if (row === undefined || row === NO_ROW || track.trace.kinds[row] !== KIND.RAN) return '';
-        const { symbols } = this.page;
-        return symbols.name(symbols.at(track.trace.pcs[row]));
+        const { symbols, pcs } = track.trace;
+        return symbols.name(symbols.at(pcs[row]));
     }
 }
 

@@ -7,7 +7,8 @@ const nextTurn = () => new Promise((resolve) => { setTimeout(resolve); });
 class Page {
     constructor() {
         this.traces = [];
-        this.symbols = new Symbols();
+        // The names of functions of the first trace, and those of the second.
+        this.symbols = [new Symbols(), new Symbols()];
         this.axis = new Axis([], true);
         this.comparison = new Comparison(this.axis);
         this.cell = 0;
@@ -33,8 +34,14 @@ class Page {
         if (kinds.some((file) => file.kind === 'elf')) {
             this.say('An ELF file is read by tzrun picture --symbols; here give what nm -S writes of it.');
         }
-        for (const { kind, bytes } of kinds) if (kind === 'symbols') this.symbols.add(textOf(bytes, 0, bytes.length));
+        for (const file of kinds) if (file.kind === 'symbols') this.takeNames(file);
         return this.takeTraces(kinds.filter((file) => file.kind === 'trace'), isBeside);
+    }
+
+    // Names are of both traces, unless their file says of which one.
+    takeNames({ bytes, place }) {
+        const chosen = place === undefined ? this.symbols : [this.symbols[place]];
+        for (const symbols of chosen) symbols.add(textOf(bytes, 0, bytes.length));
     }
 
     async takeTraces(files, isBeside) {
@@ -47,6 +54,7 @@ class Page {
         if (files.length && !traces.length) return;
         if (files.length) this.traces = traces.slice(0, 2);
         if (!this.traces.length) return;
+        this.traces.forEach((trace, at) => { trace.symbols = this.symbols[at]; });
         this.open(true);
         this.tell();
     }
@@ -166,7 +174,7 @@ class Page {
     }
 
     search(words, isBackwards) {
-        const search = readSearch(words, this.symbols);
+        const search = readSearch(words, this.traces);
         if (!search) return;
         if (search.step !== undefined) {
             this.goToStep(search.step);

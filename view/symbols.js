@@ -45,7 +45,7 @@ class Symbols {
         return offset ? `${this.name(place)}+0x${offset.toString(16)}` : this.name(place);
     }
 
-    named(name) {
-        return this.list.find((symbol) => symbol.name === name);
+    has(name) {
+        return this.list.some((symbol) => symbol.name === name);
     }
 }

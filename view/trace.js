@@ -18,6 +18,8 @@ class Trace {
     constructor(name, bytes) {
         this.name = name;
         this.bytes = bytes;
+        // The names of its functions, which the page gives it before it is shown.
+        this.symbols = null;
         const lines = countLines(bytes);
         this.starts = new Uint32Array(lines);
         // Where a row ends, where its line does if further lines follow, and where its registers and stores begin.
