@@ -94,11 +94,12 @@ WHATS = {
     ),
     "bytes": Told(
         "a byte of Non-secure memory differs",
-        "Secure code stores to its caller's memory what depends on the secret, often a struct that is copied whole; "
-        "or the SAU has made memory Non-secure in which a secret still stands",
-        "store field by field what the caller is to have, and nothing else; clear memory before it becomes "
-        "Non-secure. Where the answer is stored there and each secret has its own, build both images with 0 in its "
-        "place",
+        "Secure code stores to its caller's memory what depends on the secret, often a struct that is copied whole, or "
+        "what it has read for its caller, who may not read it; or the SAU has made memory Non-secure in which a secret "
+        "still stands",
+        "store field by field what the caller is to have, and nothing else; read an address or an index of the "
+        "caller's once, and look at it before it is used; clear memory before it becomes Non-secure. Where the answer "
+        "is stored there and each secret has its own, build both images with 0 in its place",
     ),
     "sp": Told(
         "MSP_NS or PSP_NS differs",

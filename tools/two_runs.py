@@ -143,21 +143,26 @@ class Run:
     def __init__(self, what):
         self.writer = re.compile(WRITERS[what].encode()) if what in WRITERS else None
         self.keeps_bytes = what == "bytes"
-        # LR as Non-secure code left it, and its last line; by register, the last line of Secure code that changed it.
-        self.lr, self.outside, self.secure = None, None, {}
+        # LR and R0 as Non-secure code left them, and its last line; by register, the last line of Secure code that
+        # changed it.
+        self.lr, self.r0, self.outside, self.secure = None, None, None, {}
         # By the place of an instruction that an IT block has next, how many of its instructions are left from there on.
-        self.blocks = {}
+        self.blocks, self.values = {}, {}
         self.forget()
 
     def forget(self):
+        self.r0 = self.answer()
         self.values, self.changed, self.stored = {}, {}, {}
         self.wrote, self.writes, self.is_full = [], 0, False
 
     def note_outside(self, line):
-        """Of Non-secure code LR is kept, which a call brings along, and the line, which may go to Secure code."""
+        """Of Non-secure code LR and R0 are kept, which a call brings along, and the line, which may go to Secure code."""
         self.outside = line
-        if b" lr=" in line or kind_of_line(line) == b"X":
+        is_entry = kind_of_line(line) == b"X"
+        if is_entry or b" lr=" in line:
             self.lr = lr_of(line)
+        if is_entry or b" r0=" in line:
+            self.r0 = r0_of(line)
 
     def note(self, line):
         """Keeps what a step of Secure code changed."""
@@ -198,7 +203,7 @@ class Run:
             self.values[name] = int(value, 16)
             self.changed[name] = line
         if kind_of_line(line) == b"X":
-            self.values, self.changed[b"lr"] = {b"lr": lr_of(line)}, line
+            self.values, self.changed[b"lr"], self.r0 = {b"lr": lr_of(line)}, line, None
             return [b"lr"]
         return [name for name, _ in found]
 
@@ -214,10 +219,19 @@ class Run:
         """The registers that are known."""
         return {b"lr": self.lr, **self.values}
 
+    def answer(self):
+        """R0, where it is known. Secure code that gives the word which its caller had there has no line of it."""
+        return self.values.get(b"r0", self.r0)
+
 
 def lr_of(line):
     found = re.search(rb" lr=([0-9a-f]{8})", line)
     return int(found[1] if found else line.split()[4], 16)
+
+
+def r0_of(line):
+    found = re.search(rb" r0=([0-9a-f]{8})", line)
+    return int(found[1], 16) if found else None
 
 
 class Difference:
@@ -287,7 +301,7 @@ class Difference:
         """Keeps R0 of a run that returns, where it is known. Of one that was out before nothing is kept."""
         for number, (run, line) in enumerate(zip(self.runs, lines)):
             if number not in self.ends and side_of(line) == SECURE and kind_of(line, run.known()) in ("return", "bxns"):
-                self.answers[number] = run.values.get(b"r0")
+                self.answers[number] = run.answer()
 
     def note_locks(self, step, lines):
         for number, line in enumerate(lines):
