@@ -1,4 +1,4 @@
-"""Compares two Secure images with an interrupt at given steps: what a worker of tools/sweep does.
+"""Compares two Secure images with an interrupt at given steps: what a worker of tools/sweep does. And how rows are told.
 
   sweep_rows.py [STEP,..]
 
@@ -25,6 +25,9 @@ EVENT_STEP = re.compile(rb" *([0-9]+)")
 # What `pair` answers: the step at which the runs differ, and in what; both none where they agree.
 Answer = collections.namedtuple("Answer", "k what")
 AGREE = Answer(None, None)
+
+LONGEST_LINE = 78
+MOST_LINES_OF_RANGES = 8
 
 
 class Ended(Exception):
@@ -90,6 +93,57 @@ def answer_in(row):
     if not found:
         return None
     return int(found[1]), Answer(int(found[2]), found[3]) if found[2] else AGREE
+
+
+# How rows are told
+
+
+def counted(steps):
+    return f"{len(steps):,} arrival step{'s' if len(steps) != 1 else ''}"
+
+
+def ranges(steps, chosen):
+    """Those of the steps that are chosen, as ranges."""
+    found = []
+    for place, step in enumerate(steps):
+        if step not in chosen:
+            continue
+        if found and found[-1][1] == place - 1:
+            found[-1][1] = place
+        else:
+            found.append([place, place])
+    return [f"{steps[a]} to {steps[b]}" if a != b else str(steps[a]) for a, b in found]
+
+
+def listed(texts, name):
+    """Texts in lines; where there are too many of them, with how many more the file of this name has."""
+    lines, line = [], ""
+    for number, text in enumerate(texts):
+        longer = f"{line}, {text}" if line else text
+        if len(longer) < LONGEST_LINE - 2:
+            line = longer
+            continue
+        lines.append(f"{line},")
+        if len(lines) == MOST_LINES_OF_RANGES:
+            return [*lines, f"and {len(texts) - number:,} more places, which {name} has"]
+        line = text
+    return [*lines, line]
+
+
+def place_of(answers):
+    """Where the runs of a class differ, as seen from the arrival."""
+    behind = {answer.k - step for step, answer in answers.items()}
+    places = sorted({answer.k for answer in answers.values()})
+    if behind == {0}:
+        return "at the step of arrival"
+    if len(places) == 1:
+        return f"at step {places[0]}"
+    if len(behind) == 1 and min(behind) > 0:
+        return f"{min(behind)} steps behind the arrival"
+    return f"at {len(places):,} steps from {places[0]} to {places[-1]}"
+
+
+# The worker
 
 
 def print_rows(words):
