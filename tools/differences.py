@@ -18,6 +18,12 @@ KINDS = {
 # What a difference means, where it comes from as a rule, and its cure.
 Told = collections.namedtuple("Told", "meaning cause cure")
 
+# What to do where each secret has an answer of its own.
+OWN_ANSWER = (
+    "compare images that differ in another caller's key alone; then build both with 0 in its place, which by itself "
+    "hides an answer that this caller wasn't to have"
+)
+
 TIME = Told(
     "one run comes out of Secure code and the other doesn't: Non-secure code sees when it is back",
     "how many steps Secure code takes depends on the secret: a comparison or a loop that ends early, or a branch",
@@ -51,7 +57,7 @@ SCRATCH = Told(
     "depends on the secret, or Secure code has read for its caller what the caller may not read",
     "C: give the function the attribute cmse_nonsecure_entry and compile it by -mcmse. Assembly: clear R0 to R3 and "
     "R12, as far as they aren't the answer, before bxns. Where it is the answer, compare two secrets that have the "
-    "same one; where each secret has its own, as of a cipher, build both images with 0 in its place. Read an address "
+    f"same one; where each secret has its own, as of a cipher, {OWN_ANSWER}. Read an address "
     "or an index of the caller's once, and look at it before it is used",
 )
 # Of such a register at a call of Non-secure code.
@@ -99,7 +105,7 @@ WHATS = {
         "still stands",
         "store field by field what the caller is to have, and nothing else; read an address or an index of the "
         "caller's once, and look at it before it is used; clear memory before it becomes Non-secure. Where the answer "
-        "is stored there and each secret has its own, build both images with 0 in its place",
+        f"is stored there and each secret has its own, {OWN_ANSWER}",
     ),
     "sp": Told(
         "MSP_NS or PSP_NS differs",

@@ -95,7 +95,7 @@ class Summary:
                 self.classes.setdefault(answer.what + SOONER * is_sooner, {})[step] = answer
 
     def lines(self):
-        every = f", each {self.options['--every']}th" if self.options["--every"] > 1 else ""
+        every = f", {self.options['--every']} apart" if self.options["--every"] > 1 else ""
         differ = sum(map(len, self.classes.values()))
         yield f"{counted(self.steps)} of interrupt {self.options['--irq']}: {self.steps[0]} to {self.steps[-1]}{every};" \
               f" {self.options['--steps']:,} steps each"
@@ -108,6 +108,7 @@ class Summary:
                   f" so do {same:,} of these"
         yield from self.told_of_faulted()
         yield from self.told_of_untaken()
+        yield from self.told_of_agreeing()
         for what, answers in sorted(self.classes.items(), key=lambda it: (-len(it[1]), it[0])):
             yield ""
             yield f"{what}: {counted(answers)}; the runs differ {place_of(answers)}"
@@ -176,10 +177,19 @@ class Summary:
             yield ""
             yield from textwrap.wrap(
                 f"the interrupt isn't taken {runs}, and an agreement there says little. For one that is Non-secure, "
-                "Secure code sets its bit in NVIC_ITNS, and Non-secure code that in NVIC_ISER; a mask may hold it "
-                "off, too",
+                "Secure code sets its bit in NVIC_ITNS, and Non-secure code that in NVIC_ISER; for one that is Secure, "
+                "Secure code sets its bit in NVIC_ISER. A mask may hold it off, too",
                 LONGEST_LINE,
             )
+
+    def told_of_agreeing(self):
+        """The arrivals at which the images agree, where without the interrupt they differ."""
+        agreeing = {step for step, answer in self.answers.items() if answer == AGREE}
+        if agreeing and self.plain != AGREE:
+            yield ""
+            yield f"agree: {counted(agreeing)}; what differs without the interrupt doesn't there"
+            yield from (f"  {line}" for line in listed(ranges(self.steps, agreeing), self.options["--out"]))
+            yield from (f"  {line}" for line in self.replayed(min(agreeing)))
 
     def script_of(self, step):
         """Writes the script of an arrival beside the rows, and gives its name."""
