@@ -576,8 +576,8 @@ impl Machine {
     /// Makes one step at which these events are due, and tells what it did. An event of an interrupt that the
     /// board hasn't is passed over.
     ///
-    /// It is the step relation. Where Non-secure code runs and doesn't touch Secure state, that stays
-    /// as it was, but for the count of the Secure timer and for what pends and is active; where Non-secure code gets to
+    /// It is the step relation. Where Non-secure code runs and doesn't touch Secure state, that stays as it was, but for
+    /// the count of the Secure timer, for what pends and is active, and for SFSR, SFAR, BFSR, BFAR and HFSR; where it gets to
     /// Secure code, SG ran where it may call, an exception of the Secure side was taken and is active, it returned by
     /// FNC_RETURN to what the Secure stack of the mode holds, with a number that agrees, or it returned by EXC_RETURN to
     /// frames with the integrity signature there, and has their registers. Runs make their steps by `step_over`; tests

@@ -29,6 +29,6 @@ entries_resume profile c e f back p profile' later e' g value t =
     subst (λ (held : Framed). SameBytes (frames_at c f back) 72 held.bus.memory g.bus.memory) ends.1
     (subst (λ (top : ℕ). SameBytes top 72 d.held.bus.memory g.bus.memory) at t.bytes) in
     let takes : Takes c f back (leaver later e' value) g (returning later value) went.frames =
-    record { secure = t.secure; callee = t.callee; stack = t.stack; pointer = t.pointer ∙ at; bytes = bytes; taken = went.taken } in
+    record { secure = t.secure; callee = t.callee; stack = t.stack; pointer = t.pointer ∙ at; bytes = bytes; taken = went.taken; modes = went.modes } in
     subst (λ (after : Core). GoesOn c back after) (sym went.core)
     (frames_give_back c f back s (leaver later e' value) g (returning later value) went.frames takes)

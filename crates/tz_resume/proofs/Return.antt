@@ -25,6 +25,7 @@ use Rattle.tz_resume.specs.Entries.{returning, leaver}
 pub record Went (c : Core) (r : Returning) (h : Framed) (l : Leaving Framed) : Type 0 where
   pub frames : Unstacked
   pub taken : unstacked framed c r h ≡ Ok frames
+  pub modes : modes_agree r frames.basic ≡ true
   pub core : l.core ≡ resumed r frames c
 
 abbrev pub Goes : Core → Returning → Framed → Leaving Framed → Type 0
@@ -47,10 +48,10 @@ raised_not profile d r h refusal t x = by x.locks where
 
 resumes_went : (profile : Profile) (c : Core) (r : Returning) (e : ExceptionsValue) (h : Framed) (x : Result Unstacked StackFault) → unstacked framed c r h ≡ x → Goes c r h (resumes framed profile r c e h x)
 resumes_went profile c r e h (Err fault) is = raised_not profile c r h (Frame fault) r.secure (frame_faulted false (side_of_bit r.secure) fault c e)
-resumes_went profile c r e h (Ok u) is = by (modes_agree r u.basic) where
-  by : (t : Bool) → Goes c r h (cond t (record { core = resumed r u c; exceptions = e; held = h; result = lefts.Resumed r.secure }) (chained_raised framed profile r (Mode (side_of_bit r.secure)) r.secure h (faulted (side_of_bit r.secure) (InvPc (side_of_bit r.secure)) c e)))
-  by true touched e' = record { frames = u; taken = is; core = refl }
-  by false touched e' = raised_not profile c r h (Mode (side_of_bit r.secure)) r.secure (faulted (side_of_bit r.secure) (InvPc (side_of_bit r.secure)) c e) touched e'
+resumes_went profile c r e h (Ok u) is = by (modes_agree r u.basic) refl where
+  by : (t : Bool) → modes_agree r u.basic ≡ t → Goes c r h (cond t (record { core = resumed r u c; exceptions = e; held = h; result = lefts.Resumed r.secure }) (chained_raised framed profile r (Mode (side_of_bit r.secure)) r.secure h (faulted (side_of_bit r.secure) (InvPc (side_of_bit r.secure)) c e)))
+  by true agree touched e' = record { frames = u; taken = is; modes = agree; core = refl }
+  by false agree touched e' = raised_not profile c r h (Mode (side_of_bit r.secure)) r.secure (faulted (side_of_bit r.secure) (InvPc (side_of_bit r.secure)) c e) touched e'
 
 goes_back_went : (profile : Profile) (c : Core) (r : Returning) (e : ExceptionsValue) (h : Framed) → Goes c r h (goes_back framed profile r c e h)
 unfolding goes_back

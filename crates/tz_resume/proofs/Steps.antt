@@ -102,6 +102,7 @@ goes_on_from c from after back registers stacks k =
     record {
       side = k.side;
       registers = k.registers ∙ ap (λ (r : Registers). record r { pc = even_of back }) registers;
+      process = k.process ∙ process;
       pointer = ap (λ (p : Bool). sp_of p after.stacks_s) (sym process) ∙ k.pointer ∙ ap (λ (p : Bool). sp_of p from.stacks_s) process
           ∙ ap (λ (own : Stacks). sp_of (process_of c) own) stacks;
     }

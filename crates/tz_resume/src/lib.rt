@@ -1,7 +1,8 @@
 //! Exact resumption: Secure code that a Non-secure exception preempts goes on as it was, once a return takes its frames
 //! as they were written.
 //!
-//! The definitions stand in `specs/`; the calls are laws. Nothing here runs.
+//! The definitions stand in `specs/`; the calls are laws, but for `know_state`, which tells what the types of a state say of
+//! its numbers and changes nothing.
 #![tactic(auto)]
 
 mod known;
@@ -14,7 +15,7 @@ ghost use Rattle.tz_resume.specs.Steps.{CallsStay, ReturnedSo, StepsResume, Take
 
 pub use known::know_state;
 
-/// What both frames hold gives back the registers and the stack pointer of the code that they were written for.
+/// What both frames hold gives back the registers, the stack and its pointer to the code that they were written for.
 pub fn frames_give_back()
     ensures { FramesGiveBack }
 {}

@@ -27,10 +27,11 @@ pub fn isolation()
         text_from Ns events 0 (boot b secure nonsecure) n ≡ text_from Ns events 0 (boot b other nonsecure) n }
 {}
 
-/// Integrity: a step of Non-secure code that doesn't look at Secure state leaves it as it was, and after one that gets to
-/// Secure code without locking SG ran where Non-secure code may call, an exception of the Secure side was taken and is
-/// active, it returned by FNC_RETURN to what the Secure stack of the mode holds, with a number that agrees, or it returned
-/// by EXC_RETURN to frames with the integrity signature there, and has their registers.
+/// Integrity: a step of Non-secure code that doesn't look at Secure state leaves it as it was, but for the count of the
+/// Secure timer, for what pends and is active, and for SFSR, SFAR, BFSR, BFAR and HFSR. After one that gets to Secure code
+/// without locking SG ran where Non-secure code may call, an exception of the Secure side was taken and is active, it
+/// returned by FNC_RETURN to what the Secure stack of the mode holds, with a number that agrees, or it returned by
+/// EXC_RETURN to frames with the integrity signature there, and has their registers.
 pub fn integrity()
     ensures leaves { (s : State) (events : List ScriptEvent) → LeavesSecure s (step s events) }
     ensures enters { (s : State) (events : List ScriptEvent) → EntersSecure s events (step s events) }
