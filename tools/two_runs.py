@@ -304,7 +304,8 @@ class Difference:
         was_secure = True
         for step, lines in steps:
             is_secure = [side_of(line) == SECURE for line in lines]
-            self.calls.note(lines[0])
+            if step <= self.step + 1:
+                self.calls.note(lines[0])
             if step == self.step + 1:
                 self.stays = is_secure
             if step <= self.step:
