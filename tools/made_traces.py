@@ -13,6 +13,17 @@ FURTHER = """\
 5 s N 10000100 e7fe b 0x10000100
 """
 
+# A handler that returns to Secure code behind a call: what its side's stack pointer is then, no line lists.
+RETURNED = """\
+0 s N 10000000 4700 bxns r0 sp=20000c00
+1 n N 10008000 e97fe97f sg sp=30000800 lr=00200044
+2 s X 14 fffffffc
+3 n N 00200080 46c0 mov r8, r8 sp=20000ff8
+4 n N 00200082 4770 bx lr sp=30000800
+5 s N 10000004 4774 bxns lr sp=20000c00
+6 n N 00200044 46c0 mov r8, r8
+"""
+
 # A frame that can't be written, as the view `full` tells it: the stack pointer leads nowhere.
 FRAMELESS = """\
 0 s N 10000040 4800 ldr r0, [pc, #0] r0=00200040 sp=00000000

@@ -23,7 +23,7 @@ BEFORE, AFTER = 3, 2
 # Lines that are told at most of a run, and bytes of stores that are kept of it.
 MOST_TOLD, MOST_KEPT = 6, 200_000
 
-SECURE = b"s"
+SECURE, NONSECURE = b"s", b"n"
 EXC_RETURN = 0xFF
 FAULTS = (b"3", b"4", b"5", b"6", b"7")
 # Which lines of the view full say why an exception is taken.
@@ -42,10 +42,16 @@ INSTRUCTION = re.compile(rb"\d+ [sn] N ([0-9a-f]{8}) ([0-9a-f]+) (\S+)")
 REGISTER = re.compile(rb" (r\d+|lr|apsr)=([0-9a-f]{8})")
 STORE = re.compile(rb" (\[([0-9a-f]{8})\]\.([124])=([0-9a-f]{8}))")
 BRANCH = re.compile(rb" (blxns|bxns) (r\d+|lr)\b")
+STACK_POINTER = re.compile(rb" sp=([0-9a-f]{8})")
 
 # A line that may have written what is looked for, the registers as they were known behind it, and whether the IT block
 # in which it stands may have skipped it.
 Written = collections.namedtuple("Written", "line known may_be_skipped")
+
+
+# A call that came in by one line, with a Non-secure stack pointer, and where it went back with another one, the line and
+# that one.
+Swapped = collections.namedtuple("Swapped", "entry came back went")
 
 
 class Ended(Exception):
@@ -234,6 +240,39 @@ def r0_of(line):
     return int(found[1], 16) if found else None
 
 
+class Calls:
+    """Which calls of Secure code are open in a run, and the first that went back to another stack than it came from."""
+
+    def __init__(self):
+        # The stack pointer of each side, as far as it is known; by the Secure one behind SG, the line of a call, the
+        # Non-secure one then, and how often Secure code had been preempted.
+        self.pointers, self.open, self.preempts = {}, {}, 0
+        self.last = self.swapped = None
+
+    def note(self, line):
+        """Takes the next line. A stack pointer in the one before it is of the side that goes on here."""
+        last, self.last = self.last, line
+        if last is None:
+            return
+        found, side = STACK_POINTER.search(last), side_of(line)
+        if kind_of_line(last) == b"X":
+            self.preempts += side_of(last) == SECURE != side
+            self.pointers.pop(side, None)
+        elif found and side != side_of(last):
+            self.note_change(last, found[1])
+        if found:
+            self.pointers[side] = found[1]
+
+    def note_change(self, last, pointer):
+        """Takes a line by which the other side goes on, with this stack pointer."""
+        if is_gate(last):
+            self.open[pointer] = last, self.pointers.get(NONSECURE), self.preempts
+        elif b" bxns " in last and not self.swapped:
+            entry, came, preempts = self.open.pop(self.pointers.get(SECURE), (None, None, 0))
+            if came not in (None, pointer) and preempts < self.preempts:
+                self.swapped = Swapped(entry, came, last, pointer)
+
+
 class Difference:
     """The two runs up to the step at which they differ, and a few steps on."""
 
@@ -246,6 +285,7 @@ class Difference:
         self.ends, self.locks = {}, {}
         # The first step, of all, at which both are at one place of Secure code, and it has two codes; and the answers.
         self.other_code, self.answers = None, {}
+        self.calls = Calls()
         self.begin_episode(None)
 
     def begin_episode(self, after):
@@ -264,6 +304,8 @@ class Difference:
         was_secure = True
         for step, lines in steps:
             is_secure = [side_of(line) == SECURE for line in lines]
+            if step <= self.step + 1:
+                self.calls.note(lines[0])
             if step == self.step + 1:
                 self.stays = is_secure
             if step <= self.step:
@@ -328,7 +370,7 @@ class Agreement:
     """What is counted of two runs that agree."""
 
     def __init__(self):
-        self.run = Run("")
+        self.run, self.calls = Run(""), Calls()
         self.kinds = collections.Counter()
         self.secure = self.differing = self.locked = 0
         # Of the steps that differ, those behind the first of Non-secure code.
@@ -342,6 +384,7 @@ class Agreement:
         was_secure, last = False, b""
         for step, (line, other, seen) in steps:
             is_secure = side_of(line) == SECURE
+            self.calls.note(line)
             if not is_secure and step:
                 if was_secure:
                     self.kinds[kind_of(last, self.run.known())] += 1

@@ -161,7 +161,19 @@ class Trace {
             if (register === SP) listsStack = true;
             registers.set(register === SP ? SP + side : register, value, row, SURE.LISTED);
         });
-        if (!listsStack && side !== this.sideOf(row)) registers.crossStack(this.sideOf(row), side, row);
+        const from = this.sideOf(row);
+        if (side === from) return;
+        if (!listsStack) registers.crossStack(from, side, row);
+        else if (this.movesStack(row)) registers.forget(SP + from, row);
+    }
+
+    // Whether a row that goes to the other side leaves another stack pointer behind on its own, which no line lists: a
+    // load of PC that moves it, a call, which stores its frame, or a return to where PSP is in use.
+    movesStack(row) {
+        if (this.ways[row] === WAY.CALL || /^(pop|ldm|ldr)/.test(this.instruction(row).text)) return true;
+        if (this.ways[row] !== WAY.EXCEPTION_RETURN) return false;
+        const parts = this.innermost[row] < 0 ? null : exceptionReturn(this.takenLinks[this.innermost[row]]);
+        return !parts || parts.thread && parts.processStack;
     }
 
     takenAtRow(row) {
